@@ -14,11 +14,13 @@ use Rattle.sequence_parts.specs.declared.checked.CheckedPart.{CheckedPart}
 use Rattle.part_lines.specs.declared.line.PartLine.{PartLine}
 use Rattle.part_lines.specs.Lines.{checked_in, IsLineOf, IsListedLineOf, AreAmong, ArePlacedFrom}
 
-pub true_parts : (framing : Framing) (limits : Allowed) (text : List ℕ) (lines : List PartLine) (parts : List CheckedPart) → AreAmong (map checked_in lines) parts
+pub true_parts : (framing : Framing) (limits : Allowed) (text : List ℕ) (lines : List PartLine) (parts : List CheckedPart)
+    → AreAmong (map checked_in lines) parts
     → All (IsLineOf framing limits text) lines
     → All (IsPartOf framing limits text) parts
 true_parts framing limits text lines parts among are = λ k d within.
-    let checked : All (IsPartOf framing limits text) (map checked_in lines) = All-map (IsPartOf framing limits text) checked_in lines (λ j e less. (are j e less).part) in
+    let checked : All (IsPartOf framing limits text) (map checked_in lines) = All-map (IsPartOf framing limits text) checked_in lines
+    (λ j e less. (are j e less).part) in
     All-contains (IsPartOf framing limits text) (map checked_in lines) (get_or parts k d) checked (among k d within)
 
 pub placed_here : (known : List CheckedPart) (places : List (Option CheckedPart)) (i : ℕ) (none : Option CheckedPart) (part : CheckedPart)

@@ -1,5 +1,6 @@
 -- What is read of the items of an array, with one item more.
-use Rattle.std.proofs.Common.{◌≡◌, ℕ, ◌+◌, zero, suc, ◌<◌, ◌≤◌, arith, Option, Some, None, List, [], ◌∷◌, ◌++◌, length, get_or, take, refl, ap, sym, subst, ◌∙◌, append_assoc, append-nil}
+use Rattle.std.proofs.Common.{◌≡◌, ℕ, ◌+◌, zero, suc, ◌<◌, ◌≤◌, arith, Option, Some, None, List, [], ◌∷◌, ◌++◌, length, get_or, take, refl, ap, sym}
+use Rattle.std.proofs.Common.{subst, ◌∙◌, append_assoc, append-nil}
 use Rattle.std.specs.Prelude.{map, replicate, IfSome}
 use Rattle.std.specs.List.{All}
 use Rattle.std.proofs.lemmas.List.{take_more, take_all, get_or-map, length-map}
@@ -48,7 +49,8 @@ Joins one other both = (warnings others : List Warning) → StandsFor one warnin
 abbrev pub AreOf : ℕ → Data → Warnings → Type 0
 AreOf begin it more = (kind : Kind) × (many : ℕ) × (place : ℕ) × IsWarningIn it begin kind many place × StandsFor more (replicate many (warning_at place kind))
 
-pub joined-more : (begin : ℕ) (items : List Data) (it : Data) (old more new : Warnings) → AreWarningsOf begin items old → AreOf begin it more → Joins old more new
+pub joined-more : (begin : ℕ) (items : List Data) (it : Data) (old more new : Warnings) → AreWarningsOf begin items old → AreOf begin it more
+    → Joins old more new
     → AreWarningsOf begin (items ++ it ∷ []) new
 joined-more begin items it old more new before here joins =
     let (warnings, are, stands) = before in
@@ -56,7 +58,8 @@ joined-more begin items it old more new before here joins =
     let others = replicate many (warning_at place kind) in
     (warnings ++ others, warnings-more begin items warnings it kind many place are is, joins warnings others stands stand)
 
-pub notes-more : (begin : ℕ) (items : List Data) (notes : List Note) (it : Data) (note : Note) (number : ℕ) → AreNotes begin items notes → IsNoteIn it begin note number
+pub notes-more : (begin : ℕ) (items : List Data) (notes : List Note) (it : Data) (note : Note) (number : ℕ) → AreNotes begin items notes
+    → IsNoteIn it begin note number
     → AreNotes begin (items ++ it ∷ []) (notes ++ note ∷ [])
 notes-more begin [] notes it note number are is = (note, number, [], is, ap (λ (ns : List Note). ns ++ note ∷ []) are, refl)
 notes-more begin (one ∷ items) notes it note number are is =
@@ -76,7 +79,8 @@ warning-at : (begin : ℕ) (items : List Data) (warnings : List Warning) (i : �
     → (kind : Kind) × (many : ℕ) × (place : ℕ) × IsWarningIn (get_or items i d) begin kind many place
 warning-at begin [] warnings i d are within = absurd (omega arith)
 warning-at begin (one ∷ items) warnings zero d are within = let (k, m, p, rest, first, split, others) = are in (k, m, p, first)
-warning-at begin (one ∷ items) warnings (suc i) d are within = let (k, m, p, rest, first, split, others) = are in warning-at begin items rest i d others (omega arith)
+warning-at begin (one ∷ items) warnings (suc i) d are within = let
+    (k, m, p, rest, first, split, others) = are in warning-at begin items rest i d others (omega arith)
 
 pub no-warning : (begin : ℕ) (values : List Value) (i : ℕ) (value : Value) (all : Warnings) → i < length values → value ≡ get_or values i value
     → ((kind : Kind) (many place : ℕ) → IsWarningIn (view value) begin kind many place → ⊥) → AreWarningsOf begin (map view values) all → ⊥
@@ -85,7 +89,8 @@ no-warning begin values i value all within is none are =
     let (kind, many, place, one) = warning-at begin (map view values) are.0 i (view value) are.1 here.0 in
     none kind many place (subst (λ (it : Data). IsWarningIn it begin kind many place) here.1 one)
 
-pub not-all : (P : Data → Type 0) (values : List Value) (i : ℕ) (value : Value) → i < length values → value ≡ get_or values i value → (P (view value) → ⊥) → All P (map view values) → ⊥
+pub not-all : (P : Data → Type 0) (values : List Value) (i : ℕ) (value : Value) → i < length values → value ≡ get_or values i value
+    → (P (view value) → ⊥) → All P (map view values) → ⊥
 not-all P values i value within is none all =
     let here = seen-here values i value within is in
     none (subst P here.1 (all i (view value) here.0))
@@ -101,15 +106,13 @@ items_of-same (it ∷ more) (that ∷ others) is =
     let same : more ≡ others = items_of-same more others rest in
     cc
 
-pub weaker : {T : Type 0} (o : Option T) (P Q : T → Type 0) → ((x : T) → P x → Q x) → IfSome o P → IfSome o Q
-weaker (Some x) P Q step is = step x is
-weaker None P Q step is = is
-
 -- the array of these values
-pub array-is : (found : Option Items) (values slice : List Value) → Some (items_of (map view values)) ≡ found → slice ≡ values → found ≡ Some (items_of (map view slice))
+pub array-is : (found : Option Items) (values slice : List Value) → Some (items_of (map view values)) ≡ found → slice ≡ values
+    → found ≡ Some (items_of (map view slice))
 array-is found values slice is same = sym is ∙ ap (λ (vs : List Value). Some (items_of (map view vs))) (sym same)
 
-pub same-items : (found : Option Items) (items : List Data) (values : List Value) → found ≡ Some (items_of items) → found ≡ Some (items_of (map view values)) → items ≡ map view values
+pub same-items : (found : Option Items) (items : List Data) (values : List Value) → found ≡ Some (items_of items)
+    → found ≡ Some (items_of (map view values)) → items ≡ map view values
 same-items found items values one other =
     let is : items_of items ≡ items_of (map view values) = cc in
     items_of-same items (map view values) is

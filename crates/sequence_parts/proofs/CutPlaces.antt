@@ -79,7 +79,8 @@ same_begin : (framing : Framing) (text read rest : List ℕ) (last j : ℕ) (fol
     → may_begin framing (separates framing (get_or text (last + j) 0)) (separates framing (get_or text (suc (last + j)) 0))
     ≡ may_begin framing (follows_at framing follows read j) (separates framing (get_or read j 0))
 same_begin framing text read rest last j follows given was within =
-    ap (λ (b : Bool). may_begin framing b (separates framing (get_or text (suc (last + j)) 0))) (before_of framing text read rest last j follows given was within)
+    ap (λ (b : Bool). may_begin framing b (separates framing (get_or text (suc (last + j)) 0)))
+    (before_of framing text read rest last j follows given was within)
     ∙ ap (λ (b : Bool). may_begin framing (follows_at framing follows read j) b)
     (separates_at framing text read rest last j (suc (last + j)) given within (omega arith))
 

@@ -34,17 +34,20 @@ first_part framing limits text part first of_it =
       verdict_of_it = subst (λ (n : ℕ). IsVerdictOf framing limits (take n text) part.verdict) less all;
     }
 
-part_cut : (framing : Framing) (limits : Allowed) (text : List ℕ) (place : ℕ) → 0 < place → (place ≡ 0) ⊎ MayBeCut framing limits text place → MayBeCut framing limits text place
+part_cut : (framing : Framing) (limits : Allowed) (text : List ℕ) (place : ℕ) → 0 < place → (place ≡ 0) ⊎ MayBeCut framing limits text place
+    → MayBeCut framing limits text place
 part_cut framing limits text place some (inl first) = absurd (omega (arith, some, first))
 part_cut framing limits text place some (inr cut) = cut
 
 Joins : SeqVerdict → ℕ → SeqVerdict → SeqVerdict → Type 0
-Joins first end second whole = (framing : Framing) (limits : Allowed) (part rest : List ℕ) → ArePartsOf framing limits part rest → end ≡ length part → IsVerdictOf framing limits part first
+Joins first end second whole = (framing : Framing) (limits : Allowed) (part rest : List ℕ) → ArePartsOf framing limits part rest → end ≡ length part
+    → IsVerdictOf framing limits part first
     → IsVerdictOf framing (limits_after limits end) rest second
     → IsVerdictOf framing limits (part ++ rest) whole
 
 next_part : (before whole : SeqVerdict) (part : CheckedPart) → 0 < part.begin → Joins before part.begin part.verdict whole
-    → (framing : Framing) (limits : Allowed) (text : List ℕ) → part.begin < part.end → IsVerdictOfBytes framing limits text part → IsJoinedTo framing limits text part.begin before
+    → (framing : Framing) (limits : Allowed) (text : List ℕ) → part.begin < part.end → IsVerdictOfBytes framing limits text part
+    → IsJoinedTo framing limits text part.begin before
     → IsJoinedTo framing limits text part.end whole
 unfolding Joins
 next_part before whole part some joins framing limits text has of_it so_far =
@@ -52,7 +55,8 @@ next_part before whole part some joins framing limits text has of_it so_far =
     let begin = part.begin in
     let more = part.end - part.begin in
     let parts : ArePartsOf framing limits (take begin text) (take more (drop begin text)) = record {
-      cut = ap (may_begin framing (separator_last framing (take begin text))) (begins_taken framing more (drop begin text) (omega (arith, has))) ∙ cut.parts.cut;
+      cut = ap (may_begin framing (separator_last framing (take begin text))) (begins_taken framing more (drop begin text) (omega (arith, has)))
+          ∙ cut.parts.cut;
       within = cut.parts.within;
     } in
     let long : length (take begin text) ≡ begin = length-take-le begin text so_far.within in
@@ -75,7 +79,8 @@ unfolding Joins
 next_part_if before part None some joins = tt
 next_part_if before part (Some whole) some joins = next_part before whole part some joins
 
-pub whole_text : (framing : Framing) (limits : Allowed) (text : List ℕ) (end : ℕ) (verdict : SeqVerdict) → length text ≡ end → IsJoinedTo framing limits text end verdict
+pub whole_text : (framing : Framing) (limits : Allowed) (text : List ℕ) (end : ℕ) (verdict : SeqVerdict) → length text ≡ end
+    → IsJoinedTo framing limits text end verdict
     → IsVerdictOf framing limits text verdict
 whole_text framing limits text end verdict all so_far =
     subst (λ (l : List ℕ). IsVerdictOf framing limits l verdict) (take_all end text (omega (arith, all))) so_far.verdict_of_it
@@ -87,7 +92,8 @@ same_joined framing limits text end now_end whole now_whole same_end same_whole 
     subst (λ (n : ℕ). IsJoinedTo framing limits text n now_whole) (sym same_end)
     (subst (λ (v : SeqVerdict). IsJoinedTo framing limits text end v) (sym same_whole) so_far)
 
-pub more_joined : (framing : Framing) (limits : Allowed) (text : List ℕ) (part : CheckedPart) (end : ℕ) (before whole : SeqVerdict) → IsPartOf framing limits text part
+pub more_joined : (framing : Framing) (limits : Allowed) (text : List ℕ) (part : CheckedPart) (end : ℕ) (before whole : SeqVerdict)
+    → IsPartOf framing limits text part
     → part.begin < part.end → part.begin ≡ end → IsJoinedTo framing limits text end before
     → ((framing' : Framing) (limits' : Allowed) (text' : List ℕ) → part.begin < part.end → IsVerdictOfBytes framing' limits' text' part
     → IsJoinedTo framing' limits' text' part.begin before

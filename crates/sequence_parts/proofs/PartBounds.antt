@@ -17,7 +17,8 @@ use Rattle.sequence_parts.specs.Ranges.{range_begin, IsEndFrom, IsEnd, IsFromCut
 
 -- ---- the end
 
-end_of : (framing : Framing) (limits : Allowed) (text : List ℕ) (until size end : ℕ) (cut : Option ℕ) → IsFirstCut framing limits text until size cut → IsEndFrom cut size end
+end_of : (framing : Framing) (limits : Allowed) (text : List ℕ) (until size end : ℕ) (cut : Option ℕ) → IsFirstCut framing limits text until size cut
+    → IsEndFrom cut size end
     → length text ≡ size
     → IsEnd framing limits text until end
 end_of framing limits text until size end cut first is long = (
@@ -43,10 +44,12 @@ end_within framing limits text until end (Some cut, first, is) = omega (arith, i
 
 -- ---- both
 
-first_range : (framing : Framing) (limits : Allowed) (text : List ℕ) (from until end : ℕ) → from ≡ 0 → IsEnd framing limits text until end → IsByRange framing limits text from until 0 end
+first_range : (framing : Framing) (limits : Allowed) (text : List ℕ) (from until end : ℕ) → from ≡ 0 → IsEnd framing limits text until end
+    → IsByRange framing limits text from until 0 end
 first_range framing limits text from until end first is = subst (λ (n : ℕ). IsByRange framing limits text n until 0 end) (sym first) (refl, is)
 
-later_range : (framing : Framing) (limits : Allowed) (text : List ℕ) (from until begin end : ℕ) (cut : Option ℕ) → 0 < from → IsFirstCut framing limits text from until cut
+later_range : (framing : Framing) (limits : Allowed) (text : List ℕ) (from until begin end : ℕ) (cut : Option ℕ) → 0 < from
+    → IsFirstCut framing limits text from until cut
     → IsFromCut framing limits text until cut begin end
     → IsByRange framing limits text from until begin end
 later_range framing limits text zero until begin end cut some first is = absurd (omega (arith, some))
@@ -60,7 +63,8 @@ in_range framing limits text number parts size from until begin end is_from is_u
     let both = subst (λ (n : ℕ). IsByRange framing limits text (range_begin size parts (number - 1)) n begin end) is_until here in
     subst (λ (n : ℕ). IsByRange framing limits text (range_begin n parts (number - 1)) (range_begin n parts number) begin end) (sym long) both
 
-pub known_first : (known : Option (List ℕ)) (framing : Framing) (limits : Allowed) (number parts size from until end : ℕ) → from ≡ range_begin size parts (number - 1)
+pub known_first : (known : Option (List ℕ)) (framing : Framing) (limits : Allowed) (number parts size from until end : ℕ)
+    → from ≡ range_begin size parts (number - 1)
     → until ≡ range_begin size parts number
     → from ≡ 0 → IfSome known (λ text. length text ≡ size → IsEnd framing limits text until end)
     → IfSome known (λ text. length text ≡ size → ArePart framing limits text number parts 0 end)
@@ -68,7 +72,8 @@ known_first None framing limits number parts size from until end is_from is_unti
 known_first (Some text) framing limits number parts size from until end is_from is_until first is = λ long.
     in_range framing limits text number parts size from until 0 end is_from is_until (first_range framing limits text from until end first (is long)) long
 
-pub known_later : (known : Option (List ℕ)) (framing : Framing) (limits : Allowed) (number parts size from until begin end : ℕ) → from ≡ range_begin size parts (number - 1)
+pub known_later : (known : Option (List ℕ)) (framing : Framing) (limits : Allowed) (number parts size from until begin end : ℕ)
+    → from ≡ range_begin size parts (number - 1)
     → until ≡ range_begin size parts number
     → 0 < from → IfSome known (λ text. IsFirstCut framing limits text from until (Some begin))
     → IfSome known (λ text. length text ≡ size → IsEnd framing limits text until end)
@@ -78,7 +83,8 @@ known_later (Some text) framing limits number parts size from until begin end is
     in_range framing limits text number parts size from until begin end is_from is_until
     (later_range framing limits text from until begin end (Some begin) some first (refl, is long)) long
 
-pub known_none : (known : Option (List ℕ)) (framing : Framing) (limits : Allowed) (number parts size from until : ℕ) → from ≡ range_begin size parts (number - 1)
+pub known_none : (known : Option (List ℕ)) (framing : Framing) (limits : Allowed) (number parts size from until : ℕ)
+    → from ≡ range_begin size parts (number - 1)
     → until ≡ range_begin size parts number
     → 0 < from → IfSome known (λ text. IsFirstCut framing limits text from until None)
     → IfSome known (λ text. length text ≡ size → ArePart framing limits text number parts until until)
@@ -98,7 +104,8 @@ by_range framing limits text (suc n) until begin end (Some cut, first, is) has =
   inr (subst (λ (m : ℕ). MayBeCut framing limits text m) (sym is.0) first.2),
 )
 
-pub right_bytes : (framing : Framing) (limits : Allowed) (text : List ℕ) (number parts begin end : ℕ) → ArePart framing limits text number parts begin end → begin < end
+pub right_bytes : (framing : Framing) (limits : Allowed) (text : List ℕ) (number parts begin end : ℕ)
+    → ArePart framing limits text number parts begin end → begin < end
     → (end ≤ length text) × ((begin ≡ 0) ⊎ MayBeCut framing limits text begin)
 right_bytes framing limits text number parts begin end is has =
     by_range framing limits text (range_begin (length text) parts (number - 1)) (range_begin (length text) parts number) begin end is has
@@ -141,7 +148,8 @@ part_of framing limits text number parts part ordered are verdict = record {
       record { within = right.0; cut = right.1; verdict = verdict has };
 }
 
-pub known_part : (known now : Option (List ℕ)) (framing : Framing) (limits : Allowed) (number parts size : ℕ) (part : CheckedPart) → now ≡ known → part.begin ≤ part.end
+pub known_part : (known now : Option (List ℕ)) (framing : Framing) (limits : Allowed) (number parts size : ℕ) (part : CheckedPart) → now ≡ known
+    → part.begin ≤ part.end
     → IfSome known (λ text. length text ≡ size → ArePart framing limits text number parts part.begin part.end)
     → IfSome now (λ text. part.begin < part.end
     → IsVerdictOf framing (limits_after limits part.begin) (bytes_between part.begin part.end text) part.verdict)

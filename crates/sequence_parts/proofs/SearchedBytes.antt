@@ -16,22 +16,26 @@ use Rattle.sequence_parts.proofs.CutPlaces.{cut_at, cut_of, none_more}
 
 -- ---- one byte of a piece
 
-pub no_begin : (framing : Framing) (follows : Bool) (piece : List ℕ) (i : ℕ) → NoneBegins framing follows piece i → (IsBegin framing follows piece i → ⊥) → NoneBegins framing follows piece (i + 1)
+pub no_begin : (framing : Framing) (follows : Bool) (piece : List ℕ) (i : ℕ) → NoneBegins framing follows piece i
+    → (IsBegin framing follows piece i → ⊥) → NoneBegins framing follows piece (i + 1)
 no_begin framing follows piece i none here = λ place below begin. elim (cases_eq place i) [
   | inl e ↦ here (subst (λ (n : ℕ). IsBegin framing follows piece n) e begin)
   | inr e ↦ none place (omega (arith, below, e)) begin
 ]
 
-pub follows_next : (framing : Framing) (follows : Bool) (piece : List ℕ) (i : ℕ) → separates framing (get_or piece i 0) ≡ follows_at framing follows piece (i + 1)
+pub follows_next : (framing : Framing) (follows : Bool) (piece : List ℕ) (i : ℕ)
+    → separates framing (get_or piece i 0) ≡ follows_at framing follows piece (i + 1)
 follows_next framing follows piece i =
     let next : suc i ≡ i + 1 = omega arith in
     ap (λ (n : ℕ). follows_at framing follows piece n) next
 
-pub no_begin_by : (framing : Framing) (follows was is : Bool) (piece : List ℕ) (i : ℕ) → NoneBegins framing follows piece i → was ≡ follows_at framing follows piece i
+pub no_begin_by : (framing : Framing) (follows was is : Bool) (piece : List ℕ) (i : ℕ) → NoneBegins framing follows piece i
+    → was ≡ follows_at framing follows piece i
     → is ≡ separates framing (get_or piece i 0)
     → may_begin framing was is ≡ false → NoneBegins framing follows piece (i + 1)
 no_begin_by framing follows was is piece i none before here stays = no_begin framing follows piece i none
-    (λ begin. false≢true (sym stays ∙ (ap (λ (b : Bool). may_begin framing b is) before ∙ (ap (may_begin framing (follows_at framing follows piece i)) here ∙ begin.begins))))
+    (λ begin. false≢true (sym stays
+    ∙ (ap (λ (b : Bool). may_begin framing b is) before ∙ (ap (may_begin framing (follows_at framing follows piece i)) here ∙ begin.begins))))
 
 -- ---- the text
 
@@ -54,7 +58,8 @@ none_until framing limits text from place until some reached none = λ other aft
     let bytes = cut_at framing limits text other (omega (arith, some, after)) cut in
     none other after (omega (arith, bytes.allowed, below, reached, some, after)) cut
 
-none_past : (framing : Framing) (limits : Allowed) (text : List ℕ) (from place until : ℕ) → 0 < from → length text ≤ place → NoneMayBeCut framing limits text from place
+none_past : (framing : Framing) (limits : Allowed) (text : List ℕ) (from place until : ℕ) → 0 < from → length text ≤ place
+    → NoneMayBeCut framing limits text from place
     → NoneMayBeCut framing limits text from until
 none_past framing limits text from place until some reached none = λ other after below cut.
     let bytes = cut_at framing limits text other (omega (arith, some, after)) cut in
@@ -83,7 +88,8 @@ search_begun (Some text) framing limits from count byte follows some gave came r
       no_place framing limits text from from (omega arith),
     )
 
-pub search_past : (known : Option (List ℕ)) (framing : Framing) (limits : Allowed) (from count until : ℕ) (byte : List ℕ) → 0 < from → GaveBy known (from - 1) count byte
+pub search_past : (known : Option (List ℕ)) (framing : Framing) (limits : Allowed) (from count until : ℕ) (byte : List ℕ) → 0 < from
+    → GaveBy known (from - 1) count byte
     → count ≡ 0 → 0 < length byte → IfSome known (λ text. IsFirstCut framing limits text from until None)
 search_past None framing limits from count until byte some gave none room = tt
 search_past (Some text) framing limits from count until byte some gave none room =
@@ -91,12 +97,14 @@ search_past (Some text) framing limits from count until byte some gave none room
 
 pub search_ended : (known : Option (List ℕ)) (framing : Framing) (limits : Allowed) (from place count until : ℕ) (piece : List ℕ) (follows : Bool) → 0 < from
     → GaveBy known place count piece
-    → count ≡ 0 → 0 < length piece → AreSearchedTo known framing limits from place follows → IfSome known (λ text. IsFirstCut framing limits text from until None)
+    → count ≡ 0 → 0 < length piece → AreSearchedTo known framing limits from place follows
+    → IfSome known (λ text. IsFirstCut framing limits text from until None)
 search_ended None framing limits from place count until piece follows some gave none room so_far = tt
 search_ended (Some text) framing limits from place count until piece follows some gave none room so_far =
     none_past framing limits text from place until some (gave.none none room) so_far.1
 
-pub search_whole : (known : Option (List ℕ)) (framing : Framing) (limits : Allowed) (from place until : ℕ) (follows : Bool) → 0 < from → min until limits.bytes ≤ place
+pub search_whole : (known : Option (List ℕ)) (framing : Framing) (limits : Allowed) (from place until : ℕ) (follows : Bool) → 0 < from
+    → min until limits.bytes ≤ place
     → AreSearchedTo known framing limits from place follows → IfSome known (λ text. IsFirstCut framing limits text from until None)
 search_whole None framing limits from place until follows some reached so_far = tt
 search_whole (Some text) framing limits from place until follows some reached so_far = none_until framing limits text from place until some reached so_far.1
@@ -120,7 +128,8 @@ search_more (Some text) framing limits from place count piece follows now some g
           (omega arith) none (none_to framing limits text from place some so_far.1) (omega (arith, long, some)),
     )
 
-first_found : (framing : Framing) (limits : Allowed) (text read rest : List ℕ) (from place until index : ℕ) (follows : Bool) (found : Option ℕ) → 0 < from → from ≤ place
+first_found : (framing : Framing) (limits : Allowed) (text read rest : List ℕ) (from place until index : ℕ) (follows : Bool) (found : Option ℕ)
+    → 0 < from → from ≤ place
     → drop place text ≡ read ++ rest → follows ≡ separates framing (get_or text (place - 1) 0) → NoneMayBeCut framing limits text from place
     → IsFirstBegin framing follows read (Some index)
     → SomeIff found (place + index < min until limits.bytes) (place + index) → IsFirstCut framing limits text from until found
@@ -145,7 +154,8 @@ first_found framing limits text read rest from place until index follows (Some c
           (none_to framing limits text from place some_place none) (omega (arith, at, some_place)),
     )
 
-pub search_found : (known : Option (List ℕ)) (framing : Framing) (limits : Allowed) (from place count until index : ℕ) (piece : List ℕ) (follows : Bool) (found : Option ℕ)
+pub search_found : (known : Option (List ℕ)) (framing : Framing) (limits : Allowed) (from place count until index : ℕ) (piece : List ℕ)
+    (follows : Bool) (found : Option ℕ)
     → 0 < from → from ≤ place
     → GaveBy known place count piece → IsFirstBegin framing follows (take count piece) (Some index)
     → SomeIff found (place + index < min until limits.bytes) (place + index)

@@ -66,7 +66,11 @@ module _ (framing : Framing) (limits : Allowed) (text : List ℕ) (parts : ℕ) 
   ]
   later_part count (suc from) covered begin end few is reached (None, none, at) =
       let grows = range_grows (length text) parts (suc count) in
-      inr (at.0 ∙ sym at.1, later_cut framing limits text (suc from) (range_begin (length text) parts (suc (suc count))) covered (omega (arith, is, grows)) none reached)
+      inr (
+        at.0 ∙ sym at.1,
+        later_cut framing limits text (suc from) (range_begin (length text) parts (suc (suc count))) covered
+            (omega (arith, is, grows)) none reached,
+      )
   later_part count (suc from) covered begin end few is reached (Some cut, first, at) =
       let until = range_begin (length text) parts (suc (suc count)) in
       let within = range_within (length text) parts (suc (suc count)) some few in
@@ -81,7 +85,8 @@ module _ (framing : Framing) (limits : Allowed) (text : List ℕ) (parts : ℕ) 
       (subst (λ (n : ℕ). IsByRange framing limits text n (range_begin (length text) parts 1) begin end) (range_first (length text) parts) part)
   next_part (suc n) covered begin end few reached part =
       let less : suc (suc n) - 1 ≡ suc n = omega arith in
-      let here = subst (λ (m : ℕ). IsByRange framing limits text (range_begin (length text) parts m) (range_begin (length text) parts (suc (suc n))) begin end) less part in
+      let here = subst (λ (m : ℕ). IsByRange framing limits text (range_begin (length text) parts m)
+      (range_begin (length text) parts (suc (suc n))) begin end) less part in
       later_part n (range_begin (length text) parts (suc n)) covered begin end few refl reached here
 
   -- ---- all of them
@@ -144,7 +149,8 @@ is_passed framing limits text parts count covered begin end none (inl h) =
     subst (λ (n : ℕ). GoTo framing limits text parts (suc count) n) (omega (arith, none, h.0, h.1)) h.2
 is_passed framing limits text parts count covered begin end none (inr h) = h.1
 
-pub counted_on : (framing : Framing) (limits : Allowed) (text : List ℕ) (parts count place now : ℕ) → now ≡ place → GoTo framing limits text parts (suc count) place
+pub counted_on : (framing : Framing) (limits : Allowed) (text : List ℕ) (parts count place now : ℕ) → now ≡ place
+    → GoTo framing limits text parts (suc count) place
     → GoTo framing limits text parts (count + 1) now
 counted_on framing limits text parts count place now same h =
     let next : suc count ≡ count + 1 = omega arith in

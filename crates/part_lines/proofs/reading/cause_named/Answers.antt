@@ -6,7 +6,8 @@ use Rattle.geolint_report.specs.Texts.{code_name}
 use Rattle.geolint_report.specs.declared.texts.Code.{Code}
 use Rattle.part_lines.proofs.reading.cause_named.Goals as goal
 
-not-named : (name : List ℕ) → (name ≡ codes "J1" → ⊥) → (name ≡ codes "J2" → ⊥) → (name ≡ codes "J3" → ⊥) → (name ≡ codes "J4" → ⊥) → (cause : Cause) → name ≡ code_name (Code.Cause cause) → ⊥
+not-named : (name : List ℕ) → (name ≡ codes "J1" → ⊥) → (name ≡ codes "J2" → ⊥) → (name ≡ codes "J3" → ⊥) → (name ≡ codes "J4" → ⊥) → (cause : Cause)
+    → name ≡ code_name (Code.Cause cause) → ⊥
 unfolding code_name digits
 not-named name n1 n2 n3 n4 Syntax is = n1 is
 not-named name n1 n2 n3 n4 Truncated is = n2 is

@@ -6,7 +6,9 @@ use Rattle.geolint_report.specs.Texts.{code_name}
 use Rattle.geolint_report.specs.declared.texts.Code.{Code}
 use Rattle.part_lines.proofs.reading.kind_named.Goals as goal
 
-not-named : (name : List ℕ) → (name ≡ codes "W1" → ⊥) → (name ≡ codes "W2" → ⊥) → (name ≡ codes "W3" → ⊥) → (name ≡ codes "W4" → ⊥) → (name ≡ codes "W5" → ⊥) → (name ≡ codes "W6" → ⊥) → (name ≡ codes "W7" → ⊥) → (name ≡ codes "W8" → ⊥) → (name ≡ codes "W9" → ⊥) → (kind : Kind) → name ≡ code_name (Code.Kind kind) → ⊥
+not-named : (name : List ℕ) → (name ≡ codes "W1" → ⊥) → (name ≡ codes "W2" → ⊥) → (name ≡ codes "W3" → ⊥) → (name ≡ codes "W4" → ⊥)
+    → (name ≡ codes "W5" → ⊥) → (name ≡ codes "W6" → ⊥) → (name ≡ codes "W7" → ⊥) → (name ≡ codes "W8" → ⊥) → (name ≡ codes "W9" → ⊥) → (kind : Kind)
+    → name ≡ code_name (Code.Kind kind) → ⊥
 unfolding code_name digits
 not-named name n1 n2 n3 n4 n5 n6 n7 n8 n9 W1 is = n1 is
 not-named name n1 n2 n3 n4 n5 n6 n7 n8 n9 W2 is = n2 is
@@ -57,5 +59,6 @@ returns-in-W9 c = record { word = sym c.in-W9.is; all = λ kind is. refl }
 pub returns-in_default : goal.returns-in_default
 returns-in_default c = record {
   word = tt;
-  all = λ kind is. absurd (not-named c.args.name.now c.in_default.not-W1 c.in_default.not-W2 c.in_default.not-W3 c.in_default.not-W4 c.in_default.not-W5 c.in_default.not-W6 c.in_default.not-W7 c.in_default.not-W8 c.in_default.not-W9 kind is);
+  all = λ kind is. absurd (not-named c.args.name.now c.in_default.not-W1 c.in_default.not-W2 c.in_default.not-W3 c.in_default.not-W4
+      c.in_default.not-W5 c.in_default.not-W6 c.in_default.not-W7 c.in_default.not-W8 c.in_default.not-W9 kind is);
 }

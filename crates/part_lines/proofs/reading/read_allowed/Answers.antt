@@ -1,18 +1,19 @@
 use Rattle.std.proofs.Common.{List, subst}
 use Rattle.std.specs.List.{All}
 use Rattle.std.specs.Prelude.{map, codes}
+use Rattle.std.proofs.lemmas.Option.{IfSome_then}
 use Rattle.report_forms.specs.declared.options.Kinds.{Kinds}
 use Rattle.serde_json.specs.Data.{Data}
 use Rattle.serde_json.specs.View.{view}
 use Rattle.part_lines.specs.LineObject.{array_in, IsKindName, IsAllowedIn}
-use Rattle.part_lines.proofs.ReadItems.{weaker, array-is, same-items}
+use Rattle.part_lines.proofs.ReadItems.{array-is, same-items}
 use Rattle.part_lines.proofs.reading.read_allowed.Goals as goal
 
 pub returns-clause-some : goal.returns-clause-some
 returns-clause-some c =
-    let is = array-is (array_in (codes "allow") (view c.args.value.now)) c.in_ok-found.found.now.items c.as_slice.result.now c.in_ok-found.ensures c.as_slice.ensures.value in
-    weaker c.read_each_kind.result (λ (allowed : Kinds). All IsKindName (map view c.as_slice.result.now)) (λ (allowed : Kinds). IsAllowedIn (view c.args.value.now))
-    (λ allowed all. (map view c.as_slice.result.now, is, all)) c.read_each_kind.ensures.some
+    let is = array-is (array_in (codes "allow")
+    (view c.args.value.now)) c.in_ok-found.found.now.items c.as_slice.result.now c.in_ok-found.ensures c.as_slice.ensures.value in
+    IfSome_then c.read_each_kind.result c.read_each_kind.ensures.some (λ allowed all. (map view c.as_slice.result.now, is, all))
 
 pub returns-clause-none : goal.returns-clause-none
 returns-clause-none c = λ none allowed.

@@ -11,8 +11,10 @@ use Rattle.part_lines.proofs.reading.read_each_kind.Goals as goal
 
 pub loop-one-preserved : goal.loop-one-preserved
 loop-one-preserved c =
-    subst (λ (items : List Data). All IsKindName items) (sym (seen-more c.args.found.now c.loop-one.one-index c.one-item.result c.loop-one-test.true c.one-item.is))
-    (All-push IsKindName (take c.loop-one.one-index (map view c.args.found.now)) (view c.one-item.result) c.loop-one.invariant (c.in_ok-kind.kind, c.in_ok-kind.ensures.some))
+    subst (λ (items : List Data). All IsKindName items)
+    (sym (seen-more c.args.found.now c.loop-one.one-index c.one-item.result c.loop-one-test.true c.one-item.is))
+    (All-push IsKindName (take c.loop-one.one-index (map view c.args.found.now)) (view c.one-item.result) c.loop-one.invariant
+    (c.in_ok-kind.kind, c.in_ok-kind.ensures.some))
 
 pub returns-in_err-kind-clause-none : goal.returns-in_err-kind-clause-none
 returns-in_err-kind-clause-none c = λ none all.

@@ -9,7 +9,8 @@ loop-one-init c = ([], refl, c.none-all.ensures.stands)
 
 pub loop-one-preserved : goal.loop-one-preserved
 loop-one-preserved c =
-    subst (λ (items : List Data). AreWarningsOf c.args.begin items c.join-all.result) (sym (seen-more c.args.found.now c.loop-one.one-index c.one-item.result c.loop-one-test.true c.one-item.is))
+    subst (λ (items : List Data). AreWarningsOf c.args.begin items c.join-all.result)
+    (sym (seen-more c.args.found.now c.loop-one.one-index c.one-item.result c.loop-one-test.true c.one-item.is))
     (joined-more c.args.begin _ _ c.loop-one.all c.in_ok-more.more c.join-all.result c.loop-one.invariant c.in_ok-more.ensures.some c.join-all.ensures.stands)
 
 pub returns-in_err-more-clause-none : goal.returns-in_err-more-clause-none
@@ -18,4 +19,5 @@ returns-in_err-more-clause-none c = λ none all are.
 
 pub returns-clause-some : goal.returns-clause-some
 returns-clause-some c =
-    subst (λ (items : List Data). AreWarningsOf c.args.begin items c.loop-one.all) (seen-all c.args.found.now c.loop-one.one-index c.loop-one-test.false) c.loop-one.invariant
+    subst (λ (items : List Data). AreWarningsOf c.args.begin items c.loop-one.all)
+    (seen-all c.args.found.now c.loop-one.one-index c.loop-one-test.false) c.loop-one.invariant

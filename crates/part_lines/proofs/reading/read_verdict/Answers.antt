@@ -7,7 +7,8 @@ use Rattle.serde_json.specs.View.{view}
 use Rattle.part_lines.specs.LineObject.{number_in, AreWarningsIn, IsVerdictIn}
 use Rattle.part_lines.proofs.reading.read_verdict.Goals as goal
 
-no-valid : (it : Data) (begin records : ℕ) → number_in (codes "records") it ≡ Some records → ((all : Warnings) → AreWarningsIn it begin all → ⊥) → (verdict : SeqVerdict)
+no-valid : (it : Data) (begin records : ℕ) → number_in (codes "records") it ≡ Some records → ((all : Warnings) → AreWarningsIn it begin all → ⊥)
+    → (verdict : SeqVerdict)
     → IsVerdictIn it begin verdict → ⊥
 no-valid it begin records is none (SeqVerdict.Valid count warnings) says = none warnings says.1
 no-valid it begin records is none (SeqVerdict.Record number verdict) says = let (first, second, third) = says in cc (is, first)

@@ -11,4 +11,5 @@ returns-clause-none c = λ none all are.
     let it = array_in (codes "warnings") (view c.args.value.now) in
     let is = array-is it c.in_ok-found.found.now.items c.as_slice.result.now c.in_ok-found.ensures c.as_slice.ensures.value in
     let (items, array, those) = are in
-    c.read_each_warning.ensures.none none all (subst (λ (ds : List Data). AreWarningsOf c.args.begin ds all) (same-items it items c.as_slice.result.now array is) those)
+    c.read_each_warning.ensures.none none all
+    (subst (λ (ds : List Data). AreWarningsOf c.args.begin ds all) (same-items it items c.as_slice.result.now array is) those)

@@ -6,7 +6,11 @@ use Rattle.geolint_report.specs.Texts.{code_name}
 use Rattle.geolint_report.specs.declared.texts.Code.{Code}
 use Rattle.part_lines.proofs.reading.rule_named.Goals as goal
 
-not-named : (name : List ℕ) → (name ≡ codes "G1" → ⊥) → (name ≡ codes "G2" → ⊥) → (name ≡ codes "G3" → ⊥) → (name ≡ codes "G4" → ⊥) → (name ≡ codes "G5" → ⊥) → (name ≡ codes "G6" → ⊥) → (name ≡ codes "G7" → ⊥) → (name ≡ codes "G8" → ⊥) → (name ≡ codes "G9" → ⊥) → (name ≡ codes "G10" → ⊥) → (name ≡ codes "G11" → ⊥) → (name ≡ codes "G12" → ⊥) → (name ≡ codes "G13" → ⊥) → (name ≡ codes "G14" → ⊥) → (name ≡ codes "G15" → ⊥) → (name ≡ codes "G16" → ⊥) → (name ≡ codes "G17" → ⊥) → (name ≡ codes "G18" → ⊥) → (name ≡ codes "G19" → ⊥) → (name ≡ codes "G20" → ⊥) → (name ≡ codes "G21" → ⊥) → (rule : Rule) → name ≡ code_name (Code.Rule rule) → ⊥
+not-named : (name : List ℕ) → (name ≡ codes "G1" → ⊥) → (name ≡ codes "G2" → ⊥) → (name ≡ codes "G3" → ⊥) → (name ≡ codes "G4" → ⊥)
+    → (name ≡ codes "G5" → ⊥) → (name ≡ codes "G6" → ⊥) → (name ≡ codes "G7" → ⊥) → (name ≡ codes "G8" → ⊥) → (name ≡ codes "G9" → ⊥)
+    → (name ≡ codes "G10" → ⊥) → (name ≡ codes "G11" → ⊥) → (name ≡ codes "G12" → ⊥) → (name ≡ codes "G13" → ⊥) → (name ≡ codes "G14" → ⊥)
+    → (name ≡ codes "G15" → ⊥) → (name ≡ codes "G16" → ⊥) → (name ≡ codes "G17" → ⊥) → (name ≡ codes "G18" → ⊥) → (name ≡ codes "G19" → ⊥)
+    → (name ≡ codes "G20" → ⊥) → (name ≡ codes "G21" → ⊥) → (rule : Rule) → name ≡ code_name (Code.Rule rule) → ⊥
 unfolding code_name digits
 not-named name n1 n2 n3 n4 n5 n6 n7 n8 n9 n10 n11 n12 n13 n14 n15 n16 n17 n18 n19 n20 n21 G1 is = n1 is
 not-named name n1 n2 n3 n4 n5 n6 n7 n8 n9 n10 n11 n12 n13 n14 n15 n16 n17 n18 n19 n20 n21 G2 is = n2 is
@@ -117,5 +121,8 @@ returns-in-G21 c = record { word = sym c.in-G21.is; all = λ rule is. refl }
 pub returns-in_default : goal.returns-in_default
 returns-in_default c = record {
   word = tt;
-  all = λ rule is. absurd (not-named c.args.name.now c.in_default.not-G1 c.in_default.not-G2 c.in_default.not-G3 c.in_default.not-G4 c.in_default.not-G5 c.in_default.not-G6 c.in_default.not-G7 c.in_default.not-G8 c.in_default.not-G9 c.in_default.not-G10 c.in_default.not-G11 c.in_default.not-G12 c.in_default.not-G13 c.in_default.not-G14 c.in_default.not-G15 c.in_default.not-G16 c.in_default.not-G17 c.in_default.not-G18 c.in_default.not-G19 c.in_default.not-G20 c.in_default.not-G21 rule is);
+  all = λ rule is. absurd (not-named c.args.name.now c.in_default.not-G1 c.in_default.not-G2 c.in_default.not-G3 c.in_default.not-G4
+      c.in_default.not-G5 c.in_default.not-G6 c.in_default.not-G7 c.in_default.not-G8 c.in_default.not-G9 c.in_default.not-G10 c.in_default.not-G11
+      c.in_default.not-G12 c.in_default.not-G13 c.in_default.not-G14 c.in_default.not-G15 c.in_default.not-G16 c.in_default.not-G17
+      c.in_default.not-G18 c.in_default.not-G19 c.in_default.not-G20 c.in_default.not-G21 rule is);
 }

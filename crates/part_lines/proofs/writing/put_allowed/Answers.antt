@@ -15,11 +15,13 @@ loop-kind-preserved c =
     let more : flat_map (allowed_kind c.args.allowed.now) (take (c.loop-kind.kind-index + 1) kinds) ≡ before ++ here =
     parts-more (allowed_kind c.args.allowed.now) kinds c.loop-kind.kind-index W1 c.loop-kind-test.true in
     subst (λ (items : List (List ℕ)). Wrote c.args.out.now.items true c.put_allowed_kind.new.out.items c.in_ok-still.still items) (sym more)
-    (wrote-more c.args.out.now.items true c.loop-kind.out.items c.loop-kind.is_first c.put_allowed_kind.new.out.items c.in_ok-still.still before here c.loop-kind.invariant
+    (wrote-more c.args.out.now.items true c.loop-kind.out.items c.loop-kind.is_first c.put_allowed_kind.new.out.items c.in_ok-still.still before here
+    c.loop-kind.invariant
     c.in_ok-still.ensures.bytes c.in_ok-still.ensures.still)
 
 pub returns : goal.returns
 unfolding allowed_text
 returns c =
     let end : c.loop-kind.kind-index ≡ length kinds = omega (arith, c.loop-kind-test.false, c.loop-kind.auto.kind-index-end) in
-    subst (λ (i : ℕ). c.loop-kind.out.items ≡ c.args.out.now.items ++ next_items true (flat_map (allowed_kind c.args.allowed.now) (take i kinds))) end c.loop-kind.invariant.done
+    subst (λ (i : ℕ). c.loop-kind.out.items ≡ c.args.out.now.items
+    ++ next_items true (flat_map (allowed_kind c.args.allowed.now) (take i kinds))) end c.loop-kind.invariant.done

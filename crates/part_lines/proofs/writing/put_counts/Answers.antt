@@ -16,9 +16,11 @@ returns c =
     let first : Wrote start true c.put_rule_counts.new.out.items c.in_ok-is_first.is_first rules =
     record { done = c.in_ok-is_first.ensures.bytes; first = c.in_ok-is_first.ensures.still } in
     let second : Wrote start true c.put_kind_counts.new.out.items c.in_ok-is_first-2.is_first (rules ++ warnings) =
-    wrote-more start true c.put_rule_counts.new.out.items c.in_ok-is_first.is_first c.put_kind_counts.new.out.items c.in_ok-is_first-2.is_first rules warnings first
+    wrote-more start true c.put_rule_counts.new.out.items c.in_ok-is_first.is_first c.put_kind_counts.new.out.items c.in_ok-is_first-2.is_first rules
+    warnings first
     c.in_ok-is_first-2.ensures.bytes c.in_ok-is_first-2.ensures.still in
     let third : Wrote start true c.put_cause_counts.new.out.items c.in_ok-put_cause_counts.field-0 ((rules ++ warnings) ++ causes) =
-    wrote-more start true c.put_kind_counts.new.out.items c.in_ok-is_first-2.is_first c.put_cause_counts.new.out.items c.in_ok-put_cause_counts.field-0 (rules ++ warnings) causes second
+    wrote-more start true c.put_kind_counts.new.out.items c.in_ok-is_first-2.is_first c.put_cause_counts.new.out.items
+    c.in_ok-put_cause_counts.field-0 (rules ++ warnings) causes second
     c.in_ok-put_cause_counts.ensures.bytes c.in_ok-put_cause_counts.ensures.still in
     third.done

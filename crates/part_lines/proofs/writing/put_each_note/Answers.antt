@@ -18,11 +18,14 @@ one-note begin notes i d start old new was within before is =
 
 pub loop-note-preserved : goal.loop-note-preserved
 loop-note-preserved c =
-    one-note c.args.begin c.args.notes.now c.loop-note.note-index _ c.args.out.now.items c.loop-note.out.items c.put_next_note.new.out.items c.loop-note.is_first
+    one-note c.args.begin c.args.notes.now c.loop-note.note-index _ c.args.out.now.items c.loop-note.out.items c.put_next_note.new.out.items
+    c.loop-note.is_first
     c.loop-note-test.true c.loop-note.invariant c.in_ok-put_next_note.ensures
 
 pub returns : goal.returns
 unfolding notes_text
 returns c =
-    let all : take c.loop-note.note-index c.args.notes.now ≡ c.args.notes.now = take_all c.loop-note.note-index c.args.notes.now (omega (arith, c.loop-note-test.false)) in
-    subst (λ (notes : List Note). c.loop-note.out.items ≡ c.args.out.now.items ++ next_items true (flat_map (note_texts c.args.begin) notes)) all c.loop-note.invariant.done
+    let all : take c.loop-note.note-index c.args.notes.now
+    ≡ c.args.notes.now = take_all c.loop-note.note-index c.args.notes.now (omega (arith, c.loop-note-test.false)) in
+    subst (λ (notes : List Note). c.loop-note.out.items ≡ c.args.out.now.items
+    ++ next_items true (flat_map (note_texts c.args.begin) notes)) all c.loop-note.invariant.done

@@ -14,11 +14,13 @@ loop-rule-preserved c =
     let more : flat_map (rule_counts c.args.tally.now) (take (c.loop-rule.rule-index + 1) RULES) ≡ before ++ here =
     parts-more (rule_counts c.args.tally.now) RULES c.loop-rule.rule-index G1 c.loop-rule-test.true in
     subst (λ (items : List (List ℕ)). Wrote c.args.out.now.items c.args.is_first c.put_count.new.out.items c.in_ok-still.still items) (sym more)
-    (wrote-more c.args.out.now.items c.args.is_first c.loop-rule.out.items c.loop-rule.is_first c.put_count.new.out.items c.in_ok-still.still before here c.loop-rule.invariant
+    (wrote-more c.args.out.now.items c.args.is_first c.loop-rule.out.items c.loop-rule.is_first c.put_count.new.out.items c.in_ok-still.still before
+    here c.loop-rule.invariant
     c.in_ok-still.ensures.bytes c.in_ok-still.ensures.still)
 
 pub returns : goal.returns
 returns c =
     let end : c.loop-rule.rule-index ≡ length RULES = omega (arith, c.loop-rule-test.false, c.loop-rule.auto.rule-index-end) in
-    let all = subst (λ (i : ℕ). Wrote c.args.out.now.items c.args.is_first c.loop-rule.out.items c.loop-rule.is_first (flat_map (rule_counts c.args.tally.now) (take i RULES))) end c.loop-rule.invariant in
+    let all = subst (λ (i : ℕ). Wrote c.args.out.now.items c.args.is_first c.loop-rule.out.items c.loop-rule.is_first
+    (flat_map (rule_counts c.args.tally.now) (take i RULES))) end c.loop-rule.invariant in
     record { bytes = all.done; still = all.first }

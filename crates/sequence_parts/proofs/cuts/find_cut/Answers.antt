@@ -16,7 +16,8 @@ returns-in-Some-clause-cut g c =
     let capped : c.lesser-until.result ≡ min c.args.until c.args.limits.bytes =
     c.lesser-until.ensures ∙ ap (λ (n : ℕ). min c.args.until n) c.bytes.ensures.value in
     let is = subst (λ (n : ℕ). SomeIff c.before-in-Some.result (at < n) at) capped c.before-in-Some.ensures in
-    search_found known c.args.framing c.args.limits c.args.from place count c.args.until c.in-Some.index piece c.loop-place.follows_separator c.before-in-Some.result
+    search_found known c.args.framing c.args.limits c.args.from place count c.args.until c.in-Some.index piece c.loop-place.follows_separator
+    c.before-in-Some.result
     c.requires c.loop-place.invariant.from gave c.in-Some.ensures is c.loop-place.invariant.searched
 
 pub loop-place-preserved : goal.loop-place-preserved

@@ -16,7 +16,8 @@ pub loop-part-preserved : goal.loop-part-preserved
 loop-part-preserved c = record {
   joined = λ framing limits text all. elim c.if-part.branch [
     | then-part+else-part-end+in-Some w ↦ same_joined framing limits text _ c.if-part.end w.in-Some.joined c.if-part.whole w.end-is w.whole-is
-        (more_joined framing limits text _ c.loop-part.end c.loop-part.whole w.in-Some.joined (all c.loop-part.part-index _ c.loop-part-test.true) w.if-part.true
+        (more_joined framing limits text _ c.loop-part.end c.loop-part.whole w.in-Some.joined
+        (all c.loop-part.part-index _ c.loop-part-test.true) w.if-part.true
         w.if-part-end.false (c.loop-part.invariant.joined framing limits text all) w.in-Some.ensures)
     | else-part w ↦ same_joined framing limits text c.loop-part.end c.if-part.end c.loop-part.whole c.if-part.whole w.end-is w.whole-is
         (c.loop-part.invariant.joined framing limits text all)
