@@ -12,8 +12,8 @@ use std::str;
 /// The system's number for bytes that are no text (`EILSEQ`).
 const NO_TEXT: i32 = 84;
 
-/// What a name leads to, links followed. An error is answered where it is no Unicode text, where there is nothing, or where it may not be
-/// looked at.
+/// What a name leads to, links followed. An error is answered where it is no Unicode text, where there is nothing, or where the
+/// system does not allow to look at it.
 pub fn look_up(rt: &HostRuntime, name: &[u8]) -> io::Result<(Spelled, Metadata)> {
     let spelled = spell(rt.alloc(), name)?;
     let metadata = spelled.metadata(rt)?;
@@ -61,8 +61,8 @@ impl Spelled {
         self.text.as_str()
     }
 
-    /// What the system says of what the name leads to, links followed. An error is answered where there is nothing, or it may not be
-    /// looked at.
+    /// What the system says of what the name leads to, links followed. An error is answered where there is nothing, or where
+    /// it does not allow to look.
     pub fn metadata(&self, rt: &HostRuntime) -> io::Result<Metadata> {
         fs::metadata(rt, self.text.as_str())
     }

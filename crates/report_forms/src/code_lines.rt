@@ -94,7 +94,7 @@ fn put_in_eight_places(number: u64, line: &mut Vec<u8>) -> Result<(), AllocError
     put_all(line, &[spaces_before(digits.len()), digits])
 }
 
-/// The spaces before so many digits, for eight places.
+/// The spaces before a number of `digits` digits, for eight places.
 fn spaces_before(digits: usize) -> &'static [u8]
     ensures { result.now ≡ spaces_before digits }
 {

@@ -15,7 +15,7 @@ fn one_warning(kind: Kind, place: u64) -> Verdict {
     Verdict::Valid(Warnings::none().add(kind, place))
 }
 
-/// Joins warnings to themselves so many times.
+/// Joins warnings to themselves, `times` times.
 fn doubled(warnings: Warnings, times: usize) -> Warnings {
     let mut all = warnings;
     for _ in 0..times {

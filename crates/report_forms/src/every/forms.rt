@@ -21,7 +21,7 @@ pub fn put_item(item: Item, line: &mut Vec<u8>) -> Result<(), AllocError>
     put_number(line, item.number())
 }
 
-/// Puts that so many more are not reported.
+/// Puts that `count` more are not reported.
 pub fn put_and_more(count: u64, line: &mut Vec<u8>) -> Result<(), AllocError>
     ensures { OnOk result (Adds line.old line.new (and_more count)) }
 {

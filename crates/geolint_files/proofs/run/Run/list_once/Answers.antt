@@ -82,7 +82,8 @@ returns-in-Ok g c =
     } in
     on_ok_weaker c.tell.result (λ told. (
       judged report,
-      subst (λ (r : Reading). IsListedOnce r c.args.asked limits c.args.name.now had failed (g.S.Source.failed_reads c.judge_followed.new.reader) (judged report))
+      subst (λ (r : Reading). IsListedOnce r c.args.asked limits c.args.name.now had failed (g.S.Source.failed_reads c.judge_followed.new.reader)
+          (judged report))
           c.reading-reading.ensures
           (refl, refl, refl, c.in-Ok.ensures.failed, (left, c.in-Ok.ensures.found slow)),
       TellsFile-after g.W.Write.contents _ old _ c.tell.new.self

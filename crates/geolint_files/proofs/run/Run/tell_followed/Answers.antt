@@ -22,7 +22,8 @@ returns g c =
     let long : c.len.result ≡ length notes.notes.items = search rules in
     let left : c.others.result ≡ notes.count - length notes.notes.items = c.others.ensures.left ∙ ap (λ (n : ℕ). notes.count - n) long in
     on_ok_weaker c.tell_others.result (λ others.
-    all-told contents (IsMarkedBy (g.F.Follower.says c.args.follower.now)) name notes.notes.items notes.count c.args.self.now c.loop-index.self c.tell_others.new.self
+    all-told contents (IsMarkedBy (g.F.Follower.says c.args.follower.now)) name notes.notes.items notes.count c.args.self.now c.loop-index.self
+    c.tell_others.new.self
     (whole-told contents (IsMarkedBy (g.F.Follower.says c.args.follower.now)) name notes.notes.items c.loop-index.index c.args.self.now c.loop-index.self
     (search (arith, rules)) c.loop-index.invariant)
     (subst (λ (n : ℕ). TellsLines contents (others_of name n) c.loop-index.self c.tell_others.new.self) left others))
