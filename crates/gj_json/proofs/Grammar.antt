@@ -6,7 +6,6 @@ pub mod SpelledTexts
 pub mod WideCharacterEnds
 pub mod Utf8Characters
 pub mod SpelledCharacters
-pub mod SpelledEscapes
 pub mod OneCharacter
 pub mod NumberPrefixes
 pub mod CharacterPrefixes

@@ -4,7 +4,6 @@ pub mod LaneTests
 pub mod LaneTables
 pub mod WideLanes
 pub mod WideRuns
-pub mod EscapeLanes
 pub mod QuietModes
 pub mod StringRuns
 pub mod QuietRuns

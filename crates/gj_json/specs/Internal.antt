@@ -14,7 +14,6 @@ pub mod UnderWay
 pub mod ReaderState
 pub mod QuietBytes
 pub mod WideCharacters
-pub mod EscapeRuns
 pub mod ReaderStep
 pub mod PathTrail
 pub mod FedReader

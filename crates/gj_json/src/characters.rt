@@ -3,10 +3,10 @@
 ghost use Rattle.std.specs.Prelude.{◌≡◌, ◌≤◌, ◌<◌, ◌-◌, is_some, true, length, take, get_or};
 ghost use Rattle.gj_json.specs.Bytes.{backslash};
 ghost use Rattle.gj_json.specs.Characters.{escape_of, hex_of};
+ghost use Rattle.gj_json.specs.Runs.{IsLongestUtf8, plain_run_of};
 ghost use Rattle.gj_json.specs.Internal.WholeTokens.{IsCharacter, AreCharacters};
 
-use crate::escapes::end_of_escapes;
-use crate::lanes::ascii_run;
+use crate::lanes::{ascii_run, plain_run};
 use crate::wide::{end_of_wide, is_tail};
 
 /// How many bytes the character has that the piece starts with, in UTF-8 of several bytes, or 0.
@@ -129,36 +129,6 @@ fn escapes_run(piece: &[u8]) -> usize
     at
 }
 
-/// How many bytes of escapes are read one by one, before many are looked at together.
-const FEW: usize = 32;
-
-/// How many bytes the escapes have that a piece starts with. The last ones may be left out.
-#[inline(never)]
-fn many_escapes(piece: &[u8]) -> usize
-    requires some { 32 < length piece.now }
-    ensures within { result ≤ length piece.now }
-    ensures characters { AreCharacters (take result piece.now) }
-{
-    let few = escapes_run(&piece[..FEW]);
-    if few + 6 <= FEW {
-        return few;
-    }
-    end_of_escapes(piece, few)
-}
-
-/// As `many_escapes`, where a look at the first shows that there may be many; else 0.
-#[inline(always)]
-fn first_escapes(piece: &[u8]) -> usize
-    ensures within { result ≤ length piece.now }
-    ensures characters { AreCharacters (take result piece.now) }
-{
-    if piece.len() > 2 * FEW && piece[0] == b'\\' && piece[1] != b'\\' {
-        many_escapes(piece)
-    } else {
-        0
-    }
-}
-
 /// How many bytes the characters have that stand whole at the start of the piece, unescaped, the first of several bytes. A
 /// last one that the piece ends soon after may be left out.
 #[inline(always)]
@@ -180,6 +150,51 @@ fn wide_run(piece: &[u8]) -> usize
     }
 }
 
+/// How many bytes the whole characters have that stand at the start of the piece, each unescaped.
+pub fn whole_characters(piece: &[u8]) -> usize
+    ensures { IsLongestUtf8 (take (plain_run_of piece.now) piece.now) result }
+{
+    let run = plain_run(piece);
+    match simdutf8::compat::from_utf8(&piece[..run]) {
+        Ok(_) => run,
+        Err(fault) => fault.valid_up_to(),
+    }
+}
+
+/// How many bytes are looked at together with the end of the run, before the rest of it is left to `simdutf8`.
+const NEAR: usize = 256;
+
+/// How many of them may be left out at the end, where the run goes on.
+const LEFT_OUT: usize = 18;
+
+/// As `wide_run`, of the bytes near the start of a piece.
+#[inline(always)]
+fn near_run(piece: &[u8]) -> usize
+    requires { 256 < length piece.now }
+    ensures within { result ≤ length piece.now }
+    ensures characters { AreCharacters (take result piece.now) }
+{
+    wide_run(&piece[..NEAR])
+}
+
+/// As `wide_run`, of a run of any length. `simdutf8` checks a long one from its 240th byte on or so, and from the second of two
+/// characters in a row of which that has four bytes. It asks for a pass that says where the run ends, which costs more than a
+/// short run by itself.
+#[inline(always)]
+fn unescaped_run(piece: &[u8]) -> usize
+    ensures within { result ≤ length piece.now }
+    ensures characters { AreCharacters (take result piece.now) }
+{
+    if piece.len() <= NEAR {
+        return wide_run(piece);
+    }
+    let near = near_run(piece);
+    if near + LEFT_OUT < NEAR && piece[near] < 0xF0 {
+        return near;
+    }
+    near + whole_characters(&piece[near..])
+}
+
 /// How many bytes some characters have that stand whole at the start of the piece, or 0.
 #[inline(always)]
 fn some_characters(piece: &[u8]) -> usize
@@ -195,7 +210,7 @@ fn some_characters(piece: &[u8]) -> usize
     } else if piece[0] < 0x80 {
         ascii_run(piece)
     } else {
-        wide_run(piece)
+        unescaped_run(piece)
     }
 }
 
@@ -206,7 +221,7 @@ pub fn characters_run(piece: &[u8]) -> usize
     ensures within { result ≤ length piece.now }
     ensures characters { AreCharacters (take result piece.now) }
 {
-    let mut at = first_escapes(piece);
+    let mut at = 0;
     while at < piece.len() {
         let count = some_characters(&piece[at..]);
         if count == 0 {

@@ -10,7 +10,6 @@ mod characters;
 mod class;
 mod constant;
 mod content;
-mod escapes;
 mod event;
 mod fault;
 mod flat;

@@ -4,13 +4,12 @@ ghost use Rattle.std.specs.Prelude.{◌≡◌, ◌≤◌, ◌<◌, ◌++◌, ℕ
 ghost use Rattle.std.specs.List.{AllByRecursion, prefix_len};
 ghost use Rattle.gj_json.specs.Internal.Transitions.{IsStringState};
 ghost use Rattle.gj_json.specs.Internal.QuietBytes.{IsQuiet, Reads, StopsString, awaits_token, is_between, is_unescaped_ascii, is_white};
-ghost use Rattle.gj_json.specs.Runs.{IsLongestUtf8, plain_run_of};
 ghost use Rattle.gj_json.specs.Internal.KeptContent.{IsAscii, Holds};
 ghost use Rattle.gj_json.specs.declared.mode.StringState.TheVariants.{Plain};
 
 use crate::characters::characters_run;
 use crate::content::Content;
-use crate::lanes::{ascii_run, plain_run};
+use crate::lanes::ascii_run;
 pub use crate::lanes::{is_white, white_run};
 use crate::mode::{Mode, StringMove, StringState};
 use crate::strings::next_string;
@@ -60,17 +59,6 @@ pub fn is_between(mode: Mode) -> bool
     match mode {
         Mode::StringOn(StringState::Plain) | Mode::NameOn(StringState::Plain) => true,
         _ => false,
-    }
-}
-
-/// How many bytes the whole characters have that stand at the start of the piece, each unescaped.
-pub fn whole_characters(piece: &[u8]) -> usize
-    ensures { IsLongestUtf8 (take (plain_run_of piece.now) piece.now) result }
-{
-    let run = plain_run(piece);
-    match simdutf8::compat::from_utf8(&piece[..run]) {
-        Ok(_) => run,
-        Err(fault) => fault.valid_up_to(),
     }
 }
 

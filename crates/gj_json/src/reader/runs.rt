@@ -3,7 +3,8 @@
 ghost use Rattle.std.specs.Prelude.{◌≡◌, ℕ, ◌+◌, ◌-◌, ◌^◌, ◌≤◌, min, ◌++◌, ◌∷◌, [], List, length, take, Some, None};
 
 use super::Reader;
-use crate::runs::{is_between, whole_characters};
+use crate::characters::whole_characters;
+use crate::runs::is_between;
 
 impl Reader {
     ghost use Rattle.gj_json.specs.declared.fault.JsonFault.{JsonFault};

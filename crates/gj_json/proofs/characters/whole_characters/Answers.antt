@@ -4,7 +4,7 @@ use Rattle.std.proofs.lemmas.List.Folds.{length-prefix_len}
 use Rattle.std.specs.Str.{IsValidUpTo}
 use Rattle.gj_json.specs.Runs.{IsLongestUtf8, is_unescaped}
 use Rattle.gj_json.proofs.Grammar.Utf8Characters.{up_to_fault, all_utf8}
-use Rattle.gj_json.proofs.runs.whole_characters.Goals as goal
+use Rattle.gj_json.proofs.characters.whole_characters.Goals as goal
 
 pub returns-in-Ok : goal.returns-in-Ok
 returns-in-Ok c =
