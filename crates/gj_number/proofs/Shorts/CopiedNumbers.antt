@@ -1,8 +1,9 @@
 -- Numbers that are read from a copy with more bytes after it.
-use Rattle.std.proofs.Common.{◌≡◌, ◌<◌, ◌≤◌, ◌+◌, ◌-◌, ℕ, List, ◌++◌, length, take, drop, get_or, inl, inr, sym, ◌∙◌, subst, arith, length-drop}
-use Rattle.std.proofs.lemmas.List.{take-append-le, drop-append-le, get_or_append_left}
+use Rattle.std.proofs.Common.{◌≡◌, ◌<◌, ◌≤◌, ◌+◌, ◌-◌, ℕ, List, ◌++◌, length, take, drop, get_or, inl, inr, refl, sym, ◌∙◌, subst, arith, length-drop}
+use Rattle.std.proofs.lemmas.List.{take-append-le, drop-append-le, get_or_append_left, length-append}
+use Rattle.gj_number.specs.Bytes.{comma, close_bracket, IsNumberByte}
 use Rattle.gj_number.specs.Exact.{Exact}
-use Rattle.gj_number.specs.Short.{StartsWithNumber, StartsWithPair}
+use Rattle.gj_number.specs.Short.{IsOrdinary, StartsUsual, StartsUsualPair, StartsWithNumber, StartsWithPair}
 
 -- the number that bytes start with, where it ends before their end, is that of the bytes with more after them
 pub number_there : (piece more : List ℕ) (e : Exact) (n : ℕ) → n < length piece → StartsWithNumber (piece ++ more) e n → StartsWithNumber piece e n
@@ -34,3 +35,49 @@ pair_there piece more first second comma_at second_at end within h =
       other = number_there (drop second_at piece) more second (end - second_at) (omega (arith, length-drop second_at piece)) (subst P rest h.other);
       closing = sym (byte end within) ∙ h.closing;
     }
+
+-- ---- what bytes start with, they start with where more follow
+
+usual_more : (piece more : List ℕ) (n behind : ℕ) → StartsUsual piece n behind → StartsUsual (piece ++ more) n behind
+usual_more piece more n behind u =
+    let within = u.number.within in
+    let byte : get_or (piece ++ more) n 0 ≡ get_or piece n 0 = get_or_append_left piece more 0 n within in
+    let taken : take n (piece ++ more) ≡ take n piece = take-append-le n piece more (omega arith) in
+    let P : List ℕ → Type 0 = λ xs. (o : IsOrdinary xs) × (length o.natural ≤ 3) × (0 < length o.fraction) × (length o.fraction ≤ 11) in
+    let o = subst P (sym taken) (u.number.ordinary, u.few, u.some_after, u.few_after) in
+    record {
+      number = record {
+        within = omega (arith, length-append piece more, within);
+        ordinary = o.0;
+        after = (let Q : ℕ → Type 0 = λ b. IsNumberByte b → ⊥ in subst Q (sym byte) u.number.after);
+      };
+      few = o.1;
+      some_after = o.2;
+      few_after = o.3;
+      ends = byte ∙ u.ends;
+    }
+
+-- two usual numbers, which end where they did
+pub usual_pair_more : (piece more : List ℕ) (u : StartsUsualPair piece)
+    → (v : StartsUsualPair (piece ++ more)) × (v.second_at + v.length_other ≡ u.second_at + u.length_other)
+usual_pair_more piece more u =
+    let there = u.other.number.within in
+    let rest : drop u.second_at (piece ++ more) ≡ drop u.second_at piece ++ more =
+    drop-append-le u.second_at piece more (omega (arith, length-drop u.second_at piece)) in
+    let P : List ℕ → Type 0 = λ xs. StartsUsual xs u.length_other close_bracket in (
+      record {
+        comma_at = u.comma_at;
+        second_at = u.second_at;
+        length_other = u.length_other;
+        one = usual_more piece more u.comma_at comma u.one;
+        between = elim u.between [
+          | inl e ↦ inl e
+          | inr e ↦ inr (e.0, (let k = e.0 in get_or_append_left piece more 0 (u.comma_at + 1) (omega (arith, length-drop u.second_at piece)) ∙ e.1))
+        ];
+        other = subst P (sym rest) (usual_more (drop u.second_at piece) more u.length_other close_bracket u.other);
+      },
+      refl,
+    )
+
+pub usual_pair_end : (piece : List ℕ) (u : StartsUsualPair piece) → u.second_at + u.length_other < length piece
+usual_pair_end piece u = let there = u.other.number.within in omega (arith, length-drop u.second_at piece)

@@ -69,6 +69,7 @@ pub fn read_pair(piece: &[u8], first: &mut Short, second: &mut Short) -> Option<
     requires { 40 ≤ length piece.now }
     ensures numbers { IfSome result (λ pair.
         StartsWithPair piece.now (exact_of first.new) (exact_of second.new) pair.comma pair.second pair.end) }
+    ensures whole { IfSome result (λ pair. (usual : StartsUsualPair piece.now) → pair.end ≡ usual.second_at + usual.length_other) }
     ensures taken { StartsUsualPair piece.now → IsSome result }
 {
     let negative = piece[0] == b'-';
@@ -99,8 +100,9 @@ pub fn read_pair(piece: &[u8], first: &mut Short, second: &mut Short) -> Option<
 #[inline(never)]
 pub fn read_last_pair(piece: &[u8], first: &mut Short, second: &mut Short) -> Option<Pair>
     requires { length piece.now < 40 }
-    ensures { IfSome result (λ pair.
+    ensures numbers { IfSome result (λ pair.
         StartsWithPair piece.now (exact_of first.new) (exact_of second.new) pair.comma pair.second pair.end) }
+    ensures taken { StartsUsualPair piece.now → IsSome result }
 {
     let mut copy = [0; ROOM];
     copy[..piece.len()].copy_from_slice(piece);

@@ -2,12 +2,19 @@ use Rattle.std.proofs.Common.{◌≡◌, ◌∙◌, ap, List, ◌+◌, ◌-◌, 
 use Rattle.std.proofs.lemmas.List.{take_rest}
 use mir.Val.{bool_byte}
 use Rattle.gj_number.specs.Bytes.{minus_sign, space, close_bracket}
-use Rattle.gj_number.specs.Short.{StartsUsual}
+use Rattle.gj_number.specs.Short.{StartsUsual, StartsUsualPair}
 use Rattle.gj_number.specs.Internal.MovedPoint.{SpellsPlain}
 use Rattle.gj_number.proofs.Shorts.NumberPrefixes.{sign_length}
 use Rattle.gj_number.proofs.Shorts.PointedNumbers.{second_is}
 use Rattle.gj_number.proofs.Shorts.NumberPairs.{pair_front}
 use Rattle.gj_number.proofs.short.pair.read_pair.Goals as goal
+
+-- where the second of two usual numbers is found, it stands
+second_found : (piece : List ℕ) (length_one at : ℕ) (u : StartsUsualPair piece) → at ≡ length_one + 1 + bool_byte (get_or piece (length_one + 1) 0 == space)
+    → length_one ≡ u.comma_at → at ≡ u.second_at
+second_found piece length_one at u at_is there =
+    at_is ∙ ap (λ n. n + 1 + bool_byte (get_or piece (n + 1) 0 == space)) there
+    ∙ second_is piece u.comma_at u.second_at u.length_other close_bracket u.between u.other
 
 pub returns-clause-numbers : goal.returns-clause-numbers
 returns-clause-numbers c =
@@ -31,18 +38,23 @@ returns-clause-numbers c =
     (subst Q second c.in-Some-digits_before.ensures.spells)
     (subst Small second c.in-Some-digits_before.ensures.small) c.in-Some-digits_before.ensures.places c.in-Some-digits_before.ensures.after
 
+pub returns-clause-whole : goal.returns-clause-whole
+returns-clause-whole c = λ u.
+    let piece = c.args.piece.now in
+    let second = second_found piece c.in-Some.one.length c.after_comma-at.result u c.after_comma-at.ensures (c.in-Some.ensures.whole u.comma_at u.one) in
+    let P : List ℕ → Type 0 = λ xs. StartsUsual xs u.length_other close_bracket in
+    let Q : ℕ → Type 0 = λ n. StartsUsual (drop n piece) u.length_other close_bracket in
+    let other = c.in-Some-digits_before.ensures.whole u.length_other (subst P (sym (take_rest piece c.after_comma-at.result)) (subst Q (sym second) u.other)) in
+    ap (λ n. n + c.in-Some-digits_before.other.length) second ∙ ap (λ n. u.second_at + n) other
+
 pub returns-in_default-clause-taken : goal.returns-in_default-clause-taken
 returns-in_default-clause-taken c = λ u. c.in_default.ensures.taken u.comma_at u.one
 
 pub returns-in_default-digits_before-clause-taken : goal.returns-in_default-digits_before-clause-taken
 returns-in_default-digits_before-clause-taken c = λ u.
     let piece = c.args.piece.now in
-    let one = c.in-Some.one in
     let at = c.after_comma-at.result in
-    let at_is = c.after_comma-at.ensures in
-    let there : one.length ≡ u.comma_at = c.in-Some.ensures.whole u.comma_at u.one in
-    let second : at ≡ u.second_at = at_is ∙ ap (λ n. n + 1 + bool_byte (get_or piece (n + 1) 0 == space)) there
-    ∙ second_is piece u.comma_at u.second_at u.length_other close_bracket u.between u.other in
+    let second = second_found piece c.in-Some.one.length at u c.after_comma-at.ensures (c.in-Some.ensures.whole u.comma_at u.one) in
     let P : List ℕ → Type 0 = λ xs. StartsUsual xs u.length_other close_bracket in
     let Q : ℕ → Type 0 = λ n. StartsUsual (drop n piece) u.length_other close_bracket in
     c.in_default-digits_before.ensures.taken u.length_other (subst P (sym (take_rest piece at)) (subst Q (sym second) u.other))
