@@ -4,7 +4,7 @@ use Rattle.std.proofs.Common.{get_or, ap, sym, ◌∙◌, subst, true, false, no
 use Rattle.std.specs.List.{Contains}
 use Rattle.std.proofs.lemmas.Bool.Decides.{nat_tests}
 use Rattle.std.proofs.lemmas.List.{take-append-drop, take-take, length-take}
-use Rattle.std.proofs.lemmas.Bool.{or_right, or_from}
+use Rattle.std.proofs.lemmas.Bool.{and_parts, or_right, or_from}
 use Rattle.gj_json.specs.Limits.{Allowed, IsAllowed}
 use Rattle.gj_json.specs.Text.{IsTextWithin}
 use Rattle.gj_json.specs.Tree.{Text}
@@ -17,7 +17,6 @@ use Rattle.gj_rules.specs.Sequence.{is_separator as is_RS, has_separator as has_
 use Rattle.gj_rules.specs.Sequence.{records_of}
 use Rattle.geolint_report.specs.declared.sites.Site.{Site}
 use Rattle.geolint_report.specs.Sites.{is_separator, has_separator, last_record, CanGoOn, IsUnderWay, IsInText, ToldBy, ToldInTextsBy}
-use Rattle.gj_json.proofs.Truths.{first_of}
 
 -- some bytes of a text can go on
 CanGoOn-take : (limits : Allowed) (bytes : List ℕ) (n : ℕ) (text : Text) → IsTextWithin limits.depth text bytes → n ≤ length bytes → n ≤ limits.bytes
@@ -137,7 +136,7 @@ record-ends is_cut from (byte ∷ more) r n (k, within, is) fits =
     let first : SequenceRecord = record { start = from + 1; bytes = up_to_separator more; is_cut = is_cut && not (has_RS more) } in
     elim (found-by (is_RS byte && not (begins_with_separator more)) first r (records_from is_cut (from + 1) more) k within is) [
       | inl found ↦ subst (λ (s : SequenceRecord). EndsIn Sequence (byte ∷ more) from s.start n s.bytes) found.1
-          (first-ends byte from n more (first_of (is_RS byte) (not (begins_with_separator more)) found.0)
+          (first-ends byte from n more (and_parts (is_RS byte) (not (begins_with_separator more)) found.0).0
           (subst (λ (s : SequenceRecord). n ≤ length s.bytes) (sym found.1) fits))
       | inr later ↦ ends-later Sequence byte from r.start n more r.bytes (record-ends is_cut (from + 1) more r n later fits)
     ]

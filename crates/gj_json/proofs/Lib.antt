@@ -1,4 +1,3 @@
-pub mod Truths
 pub mod Grammar
 pub mod Machine
 pub mod Events

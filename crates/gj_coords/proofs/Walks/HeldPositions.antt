@@ -1,6 +1,7 @@
 -- What is held of a position that is the whole value says all that its levels would; and where a few looks show nothing
 -- worth a warning, there is none.
 use Rattle.std.proofs.Common.{◌≡◌, ℕ, Option, Some, None, Bool, true, false, ◌&&◌, ◌==◌, is_some, is_none, if◌then◌else◌, refl, ap}
+use Rattle.std.proofs.lemmas.Bool.{and_parts}
 use Rattle.gj_json.specs.declared.flat.Flat.{Flat}
 use Rattle.gj_json.specs.declared.flat.Numbered.{Numbered}
 use Rattle.gj_coords.specs.declared.fault.Fault.{Fault}
@@ -19,7 +20,6 @@ use Rattle.gj_coords.specs.Internal.GatheredWarnings.{no_warned}
 use Rattle.gj_coords.specs.Internal.PositionGather.{judged_noted, position_closed, sound_noted}
 use Rattle.gj_coords.specs.Internal.LevelGather.{fault_in, some_warned_in, warned_in, warned_as, some_quiet_in, quiet_as}
 use Rattle.gj_coords.specs.Internal.FlatPosition.{flat_count, flat_misshapen, flat_position, flat_first, held_fault, held_warned}
-use Rattle.gj_json.proofs.Truths.{first_of, second_of}
 
 -- ---- a position that is the whole value
 
@@ -119,15 +119,11 @@ some_quiet simple s e =
     let lines : Bool = is_none s.lines_warned.warnings in
     let rings : Bool = is_none s.rings_warned.warnings in
     let polygons : Bool = is_none s.polygons_warned.warnings in
-    let a = second_of broken (positions && (lines && (rings && polygons))) e in
-    let b = second_of positions (lines && (rings && polygons)) a in
-    let d = second_of lines (rings && polygons) b in
-    for_each simple s
-    (first_of broken (positions && (lines && (rings && polygons))) e)
-    (first_of positions (lines && (rings && polygons)) a)
-    (first_of lines (rings && polygons) b)
-    (first_of rings polygons d)
-    (second_of rings polygons d)
+    let a = and_parts broken (positions && (lines && (rings && polygons))) e in
+    let b = and_parts positions (lines && (rings && polygons)) a.1 in
+    let d = and_parts lines (rings && polygons) b.1 in
+    let f = and_parts rings polygons d.1 in
+    for_each simple s a.0 b.0 d.0 f.0 f.1
 
 where_some : (empty quiet : Bool) (w v : Warned) → (if empty then false else quiet) ≡ true → (quiet ≡ true → v ≡ no_warned)
     → (if empty then w else v) ≡ no_warned

@@ -89,12 +89,6 @@ added_is a kind place =
     (λ other. one_more place kind other (kept a other) (same_kind kind other) refl
     ∙ sym (ap (joined_noted (kept a other)) (kept_by_kind (λ k. noted_of k (warning_at place kind ∷ [])) other)))
 
--- one warning more, where there is one
-pub added_if : (b : Bool) (a : Warnings) (kind : Kind) (place : ℕ) →
-    (if b then added a kind place else a) ≡ joined a (warnings_of (if b then warning_at place kind ∷ [] else []))
-added_if true a kind place = added_is a kind place
-added_if false a kind place = sym (ap (joined a) warnings_of_none ∙ joined_none_last a)
-
 -- some warnings more and then the rest
 pub joined_step : (a x : Warnings) (xs ys : List Warning) (total : Warnings) →
     total ≡ joined (joined a x) (warnings_of ys) → x ≡ warnings_of xs → total ≡ joined a (warnings_of (xs ++ ys))

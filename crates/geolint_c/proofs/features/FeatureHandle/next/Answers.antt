@@ -4,7 +4,7 @@ use Rattle.geolint_c.specs.Features.{Judging, Judges, IsJudging, OfNext, ready_b
 use Rattle.geolint_c.specs.Internal.Pulling.{Counted, OfLinter}
 use Rattle.geolint_c.proofs.PulledFeatures.{none_next, pulled_on}
 use Rattle.geolint_c.proofs.features.FeatureHandle.next.Goals as goal
-use Rattle.gj_json.proofs.Truths.{second_of}
+use Rattle.std.proofs.lemmas.Bool.{and_parts}
 
 pub returns-then-not-is_ready : goal.returns-then-not-is_ready
 returns-then-not-is_ready c =
@@ -23,7 +23,7 @@ pub returns-in-Some : goal.returns-in-Some
 returns-in-Some c =
     let self = c.args.self.now in
     let on : is_ready self ≡ true = sym c.is_ready.ensures.value ∙ c.if-not-is_ready.false in
-    let r : ready_by self.linter self.pulled ≡ true = second_of (not self.ended) (ready_by self.linter self.pulled) on in
+    let r : ready_by self.linter self.pulled ≡ true = (and_parts (not self.ended) (ready_by self.linter self.pulled) on).1 in
     let more : tells_more c.in-Some.linter self.pulled ≡ true = subst (λ (o : Option Judging). ready_by o self.pulled ≡ true) c.in-Some.is r in
     let counts : Counted c.in-Some.linter = subst (λ (o : Option Judging). OfLinter o Counted) c.in-Some.is c.is_ready.ensures.counted in
     record {
