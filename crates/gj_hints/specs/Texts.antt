@@ -1,5 +1,5 @@
 -- What each hint says.
-use Rattle.std.specs.Prelude.{ℕ, List, codes}
+use Rattle.std.specs.Prelude.{ℕ, List, ◌++◌, codes}
 use Rattle.gj_hints.specs.declared.kind.Hint.{Hint}
 
 abbrev pub text_of : Hint → List ℕ
@@ -27,7 +27,8 @@ text_of Hint.TopoJson = codes "the file is TopoJSON: npx -p topojson-client topo
 text_of Hint.EsriJson = codes "the file is Esri JSON: ogr2ogr -f GeoJSON OUT.geojson IN.json, or ask the server with f=geojson"
 text_of Hint.TextInString = codes "a text stands inside a string: jq fromjson IN > OUT.geojson, where it is the whole file"
 text_of Hint.SwappedAxes =
-    codes "latitude and longitude look swapped; the longitude comes first: jq '(.. | objects | .coordinates? // empty | .. | arrays | select(.[0] | numbers)) |= [.[1], .[0]] + .[2:]' IN > OUT.geojson"
+    codes "latitude and longitude look swapped; the longitude comes first: "
+    ++ codes "jq '(.. | objects | .coordinates? // empty | .. | arrays | select(.[0] | numbers)) |= [.[1], .[0]] + .[2:]' IN > OUT.geojson"
 text_of Hint.ManyDigits = codes "the number has more than 30 digits; 17 give every number of a computer back, and 7 decimal places are a centimetre"
 text_of Hint.LargeNumber = codes "the number is too large, above 10 to the power of 400"
 text_of Hint.SmallNumber = codes "the number is nearly zero, below 10 to the power of -400: write 0"

@@ -86,8 +86,8 @@ impl Hint {
                 "the file is Esri JSON: ogr2ogr -f GeoJSON OUT.geojson IN.json, or ask the server with f=geojson",
             Hint::TextInString =>
                 "a text stands inside a string: jq fromjson IN > OUT.geojson, where it is the whole file",
-            Hint::SwappedAxes =>
-                "latitude and longitude look swapped; the longitude comes first: jq '(.. | objects | .coordinates? // empty | .. | arrays | select(.[0] | numbers)) |= [.[1], .[0]] + .[2:]' IN > OUT.geojson",
+            Hint::SwappedAxes => "latitude and longitude look swapped; the longitude comes first: \
+                 jq '(.. | objects | .coordinates? // empty | .. | arrays | select(.[0] | numbers)) |= [.[1], .[0]] + .[2:]' IN > OUT.geojson",
             Hint::ManyDigits => {
                 "the number has more than 30 digits; 17 give every number of a computer back, and 7 decimal places are a centimetre"
             }

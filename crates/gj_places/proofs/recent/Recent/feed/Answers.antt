@@ -6,7 +6,8 @@ use Rattle.gj_places.specs.declared.recent.TheConstants.{PIECE}
 use Rattle.gj_places.proofs.recent.Recent.feed.Goals as goal
 
 -- bytes in three rows
-recalled-with : (recent : Recent) (bytes taken few all : List ℕ) → taken ++ few ≡ all → Recalls recent ((bytes ++ taken) ++ few) → Recalls recent (bytes ++ all)
+recalled-with : (recent : Recent) (bytes taken few all : List ℕ) → taken ++ few ≡ all → Recalls recent ((bytes ++ taken) ++ few)
+    → Recalls recent (bytes ++ all)
 recalled-with recent bytes taken few all are recalls =
     subst (Recalls recent) (append_assoc bytes taken few ∙ ap (λ (ys : List ℕ). bytes ++ ys) are) recalls
 
@@ -20,9 +21,12 @@ loop-rest-preserved c =
     let few = c.split_at.result.0.now in record {
       taken = kept.taken ++ few;
       all = append_assoc kept.taken few c.split_at.result.1.now
-          ∙ ap (λ (ys : List ℕ). kept.taken ++ ys) (halves few c.split_at.result.1.now c.loop-rest.rest.now PIECE c.split_at.ensures.front c.split_at.ensures.back)
+          ∙ ap (λ (ys : List ℕ). kept.taken ++ ys)
+          (halves few c.split_at.result.1.now c.loop-rest.rest.now PIECE c.split_at.ensures.front c.split_at.ensures.back)
           ∙ kept.all;
-      recalls = λ bytes recalls. recalled-with c.feed_few.new.self bytes kept.taken few (kept.taken ++ few) refl (c.feed_few.ensures.recalls (bytes ++ kept.taken) (kept.recalls bytes recalls));
+      recalls = λ bytes recalls.
+          recalled-with c.feed_few.new.self bytes kept.taken few (kept.taken ++ few) refl
+          (c.feed_few.ensures.recalls (bytes ++ kept.taken) (kept.recalls bytes recalls));
       most = λ most. c.feed_few.ensures.most (kept.most most);
     }
 
