@@ -5,7 +5,7 @@ use Rattle.std.specs.Prelude.{Bool, true, false, ◌||◌, if◌then◌else◌, 
 use Rattle.std.proofs.lemmas.Grind.{common_steps}
 use Rattle.std.proofs.lemmas.List.{length-take, take-append-drop, take_more, take_all, take-append-le, drop-append-le, drop-drop, drop_at}
 use Rattle.std.proofs.lemmas.Str.{encodes-append}
-use Rattle.std.proofs.lemmas.Bool.{or_right}
+use Rattle.std.proofs.lemmas.Bool.{or_right, false≢true, true≢false}
 use Rattle.gj_places.specs.Lines.{is_line_feed, has_line_feed, last_line}
 use Rattle.gj_places.specs.Excerpts.{last_of, first_line, cut_back}
 
@@ -20,10 +20,7 @@ or_left true b c more is = refl
 or_left false b c more is = more is
 
 pub has-before : (xs ys : List ℕ) → has_line_feed xs ≡ true → has_line_feed (xs ++ ys) ≡ true
-has-before [] ys is = absurd (false_true is)
-  where
-    false_true : false ≡ true → ⊥
-    false_true e = cc
+has-before [] ys is = absurd (false≢true is)
 has-before (x ∷ xs) ys is = or_left (is_line_feed x) (has_line_feed xs) (has_line_feed (xs ++ ys)) (has-before xs ys) is
 
 pub has-neither : (xs ys : List ℕ) → has_line_feed ys ≡ false → has_line_feed (xs ++ ys) ≡ has_line_feed xs
@@ -104,12 +101,9 @@ pub recent : (n : ℕ) (before piece : List ℕ) → n ≤ length piece → last
 recent n before piece many =
     let front = take (length piece - n) piece in
     let ys = last_of n piece in
-    let parts : piece ≡ front ++ ys = sym (take-append-drop-at (length piece - n) piece) in
+    let parts : piece ≡ front ++ ys = sym (take-append-drop (length piece - n) piece) in
     ap (λ (p : List ℕ). last_of n (last_line (before ++ p))) parts ∙ ap (λ (p : List ℕ). last_of n (last_line p)) (sym (append_assoc before front ys))
     ∙ recent-by n (before ++ front) ys (has_line_feed ys) refl (length-last_of n piece many)
-  where
-    take-append-drop-at : (k : ℕ) (xs : List ℕ) → take k xs ++ drop k xs ≡ xs
-    take-append-drop-at k xs = take-append-drop k xs
 
 -- ---- the first line
 
@@ -119,18 +113,12 @@ ended-by true x more xs ys is same = refl
 ended-by false x more xs ys is same = ap (λ (zs : List ℕ). x ∷ zs) (same is)
 
 open-by : (b : Bool) (x : ℕ) (more : Bool) (xs ys : List ℕ) → (b || more) ≡ false → (more ≡ false → xs ≡ ys) → (if b then [] else x ∷ xs) ≡ x ∷ ys
-open-by true x more xs ys is same = absurd (never is)
-  where
-    never : true ≡ false → ⊥
-    never e = cc
+open-by true x more xs ys is same = absurd (true≢false is)
 open-by false x more xs ys is same = ap (λ (zs : List ℕ). x ∷ zs) (same is)
 
 -- one that has ended stays as it is
 pub first_line-ended : (xs ys : List ℕ) → has_line_feed xs ≡ true → first_line (xs ++ ys) ≡ first_line xs
-first_line-ended [] ys is = absurd (false_true is)
-  where
-    false_true : false ≡ true → ⊥
-    false_true e = cc
+first_line-ended [] ys is = absurd (false≢true is)
 first_line-ended (x ∷ xs) ys is = ended-by (is_line_feed x) x _ _ _ is (first_line-ended xs ys)
 
 pub first_line-open : (xs ys : List ℕ) → has_line_feed xs ≡ false → first_line (xs ++ ys) ≡ xs ++ first_line ys
