@@ -1,6 +1,7 @@
 -- Where the elements of an array stand in a text, and what follows each.
 use Rattle.std.proofs.Common.{◌≡◌, ℕ, ◌+◌, ◌≤◌, ◌⊎◌, inl, inr, max, Bool, true, false, if◌then◌else◌, List, [], ◌∷◌, ◌++◌, length, Option, Some, refl, sym, ap}
-use Rattle.std.proofs.Common.{subst, ◌∙◌, arith, append_assoc}
+use Rattle.std.proofs.Common.{subst, ◌∙◌, arith, add-zero, append_assoc}
+use Rattle.std.proofs.Math.Nat.{le-max_left, le-max_right}
 use Rattle.std.proofs.lemmas.List.{length-append, append-nil}
 use Rattle.std.specs.List.{AllByRecursion}
 use Rattle.gj_json.specs.declared.names.Known.TheVariants.{Features}
@@ -103,12 +104,9 @@ white_follow es close n bytes h = go h.first h.joined h.before
 front_element : (v : Tree) (es : Tree.Elements) (close n : ℕ) (bytes : List ℕ) → Then (Spells v) (Then White (SpellsMoreElements es close)) n bytes
     → IsElementIn v n bytes
 front_element v es close n bytes h = record {
-  stands = record { before = []; own = h.first; after = h.rest; joined = h.joined; spelled = subst (λ m. Spells v m h.first) (no_more n) h.before };
+  stands = record { before = []; own = h.first; after = h.rest; joined = h.joined; spelled = subst (λ m. Spells v m h.first) (sym (add-zero n)) h.before };
   followed = white_follow es close (n + length h.first) h.rest h.after;
 }
-  where
-    no_more : (n : ℕ) → n ≡ n + length {A = ℕ} []
-    no_more n = omega arith
 
 mutual
   elements_in : (es : Tree.Elements) (close n : ℕ) (bytes : List ℕ) → SpellsElements es close n bytes → AreElementsIn (items es) n bytes
@@ -157,11 +155,8 @@ features_after found n bytes first rest e h = elements_after (elements_if found)
 front_value : (v : Tree) (B : ℕ → List ℕ → Type 0) (n : ℕ) (bytes : List ℕ) → Then (Spells v) B n bytes → AreElementsIn (elements_of v) n bytes
 front_value v B n bytes h =
     each (λ w. IsElementIn w n h.first) (λ w. IsElementIn w n bytes)
-    (λ w s. element_in_part w n bytes [] h.first h.rest h.joined (subst (λ m. IsElementIn w m h.first) (no_more n) s)) (elements_of v)
+    (λ w s. element_in_part w n bytes [] h.first h.rest h.joined (subst (λ m. IsElementIn w m h.first) (sym (add-zero n)) s)) (elements_of v)
     (value_in v n h.first h.before)
-  where
-    no_more : (n : ℕ) → n ≡ n + length {A = ℕ} []
-    no_more n = omega arith
 
 either : (t : Bool) (v : Tree) (o : Option Tree) (n : ℕ) (bytes : List ℕ) → AreElementsIn (elements_of v) n bytes → AreFeaturesIn o n bytes
     → AreFeaturesIn (if t then Some v else o) n bytes
@@ -218,11 +213,8 @@ features_in text bytes h =
     elements_after vs 0 bytes h.first h.rest h.joined
     (elements_after vs (0 + length h.first) h.rest h.after.first h.after.rest h.after.joined
     (each (λ w. IsElementIn w _ k.first) (λ w. IsElementIn w _ h.after.rest)
-    (λ w s. element_in_part w _ h.after.rest [] k.first k.rest k.joined (subst (λ m. IsElementIn w m k.first) (no_more _) s)) vs
+    (λ w s. element_in_part w _ h.after.rest [] k.first k.rest k.joined (subst (λ m. IsElementIn w m k.first) (sym (add-zero _)) s)) vs
     (root_in text.value _ k.first k.before)))
-  where
-    no_more : (n : ℕ) → n ≡ n + length {A = ℕ} []
-    no_more n = omega arith
 
 -- ---- depths
 
@@ -234,14 +226,10 @@ deeper vs m n l h = each (λ v. depth v ≤ m) (λ v. depth v ≤ n) (λ v k. om
 
 items_within : (es : Tree.Elements) → AreWithin (items es) (elements_depth es)
 items_within end_of_array = tt
-items_within (element v more) =
-    (left (depth v) (elements_depth more), deeper (items more) (elements_depth more) _ (right (depth v) (elements_depth more)) (items_within more))
-  where
-    left : (a b : ℕ) → a ≤ max a b
-    left a b = omega arith
-
-    right : (a b : ℕ) → b ≤ max a b
-    right a b = omega arith
+items_within (element v more) = (
+  le-max_left (depth v) (elements_depth more),
+  deeper (items more) (elements_depth more) _ (le-max_right (depth v) (elements_depth more)) (items_within more),
+)
 
 elements_within : (v : Tree) → AreWithin (elements_of v) (depth v)
 elements_within (array place es close) = deeper (items es) (elements_depth es) _ (omega arith) (items_within es)
@@ -253,15 +241,9 @@ elements_within (object place members close) = tt
 found_within : (ms : Members) → AreWithin (elements_if (first_value Features ms)) (members_depth ms)
 found_within end_of_object = tt
 found_within (member place name end v more) =
-    by_test (same Features (known_of name)) (deeper (elements_of v) (depth v) _ (left (depth v) (members_depth more)) (elements_within v))
-    (deeper (elements_if (first_value Features more)) (members_depth more) _ (right (depth v) (members_depth more)) (found_within more))
+    by_test (same Features (known_of name)) (deeper (elements_of v) (depth v) _ (le-max_left (depth v) (members_depth more)) (elements_within v))
+    (deeper (elements_if (first_value Features more)) (members_depth more) _ (le-max_right (depth v) (members_depth more)) (found_within more))
   where
-    left : (a b : ℕ) → a ≤ max a b
-    left a b = omega arith
-
-    right : (a b : ℕ) → b ≤ max a b
-    right a b = omega arith
-
     by_test : (t : Bool) → AreWithin (elements_of v) (max (depth v) (members_depth more))
         → AreWithin (elements_if (first_value Features more)) (max (depth v) (members_depth more)) →
         AreWithin (elements_if (if t then Some v else first_value Features more)) (max (depth v) (members_depth more))

@@ -2,6 +2,7 @@
 use Rattle.std.proofs.Common.{◌≡◌, ℕ, ◌+◌, List, [], ◌∷◌, ◌++◌, length, Option, Some, None, refl, sym, ap, subst, ◌∙◌, arith, length-append}
 use Rattle.std.proofs.lemmas.Grind.{flat_map-append}
 use Rattle.std.proofs.lemmas.List.{append-nil}
+use Rattle.std.proofs.lemmas.Option.{same_Some}
 use Rattle.std.specs.Io.KnownBytes.{Appends}
 use Rattle.std.specs.Io.Iter.{u64_saturate}
 use Rattle.gj_coords.specs.declared.fault.Fault.{Fault}
@@ -53,10 +54,7 @@ pub known_more : (old new : Option (List ℕ)) (owns : List (List ℕ)) (own : L
 known_more None new owns own e h = cc
 known_more (Some xs) None owns own e h = absurd h
 known_more (Some xs) (Some ys) owns own e h =
-    ap Some (h ∙ (ap (λ zs. zs ++ record_of own) (same xs (sequence_of owns) e) ∙ sym (record_more owns own)))
-  where
-    same : (xs zs : List ℕ) → Some xs ≡ Some zs → xs ≡ zs
-    same xs zs e = cc
+    ap Some (h ∙ (ap (λ zs. zs ++ record_of own) (same_Some xs (sequence_of owns) e) ∙ sym (record_more owns own)))
 
 known_ends : (bytes : List ℕ) (features : List Feature) (feature : Feature) → AllByRecursion (EndsKnown bytes) features → EndsKnown bytes feature
     → AllByRecursion (EndsKnown bytes) (features ++ feature ∷ [])

@@ -1,5 +1,5 @@
 -- A value by its bytes alone: its tree, with each place from the start of the value.
-use Rattle.std.proofs.Common.{◌≡◌, ℕ, ◌+◌, ◌-◌, List, length, refl, ap, subst, arith}
+use Rattle.std.proofs.Common.{◌≡◌, ℕ, ◌+◌, ◌-◌, List, length, refl, ap, subst, arith, add_assoc}
 use Rattle.gj_json.specs.Tree.{Tree, constant, number, string, array, object, Elements, end_of_array, element, Members, end_of_object, member, depth}
 use Rattle.gj_json.specs.Tree.{elements_depth, members_depth}
 use Rattle.gj_json.specs.Bytes.{close_bracket, close_brace}
@@ -55,11 +55,8 @@ then_back {B = B} k n bytes f g h = record {
   rest = h.rest;
   joined = h.joined;
   before = f h.first h.before;
-  after = g (n + length h.first) h.rest (subst (λ m. B m h.rest) (grouped k n (length h.first)) h.after);
+  after = g (n + length h.first) h.rest (subst (λ m. B m h.rest) (add_assoc k n (length h.first)) h.after);
 }
-  where
-    grouped : (a b c : ℕ) → a + b + c ≡ a + (b + c)
-    grouped a b c = omega arith
 
 -- bytes that hold no place
 any_back : {A B D : ℕ → List ℕ → Type 0} (k n : ℕ) (bytes : List ℕ) → ((m : ℕ) (b : List ℕ) → A (k + m) b → A m b)

@@ -1,5 +1,5 @@
 -- What a result that is some value says.
-use Rattle.std.proofs.Common.{◌≡◌, Result, Ok, Err, IfOk, OnOk, IsErr, subst, ℕ, List, Some}
+use Rattle.std.proofs.Common.{◌≡◌, Result, Ok, Err, IfOk, OnOk, subst}
 
 abbrev ok_of : (T E : Type 0) → T → Result T E
 ok_of T E value = Ok value
@@ -16,14 +16,6 @@ pub ok_on : {T E : Type 0} (outcome : Result T E) (given : T) (N : Type 0) (X : 
     → OnOk outcome X
 ok_on (Ok v) given N X h f = f h.0
 ok_on (Err x) given N X h f = tt
-
-pub err_gives : {T E : Type 0} (outcome : Result T E) (P : T → Type 0) → IsErr outcome → IfOk outcome P
-err_gives (Ok v) P h = let none : ⊥ = cc in absurd none
-err_gives (Err x) P h = tt
-
-pub err_on : {T E : Type 0} (outcome : Result T E) (X : Type 0) → IsErr outcome → OnOk outcome X
-err_on (Ok v) X h = let none : ⊥ = cc in absurd none
-err_on (Err x) X h = tt
 
 pub on_map : {T E : Type 0} (outcome : Result T E) (X Y : Type 0) → OnOk outcome X → (X → Y) → OnOk outcome Y
 on_map (Ok v) X Y h f = f h
@@ -43,7 +35,3 @@ pub ok_on_both : {T E : Type 0} (outcome : Result T E) (given : T) (N M X : Type
     → OnOk outcome M → (N → M → X) → OnOk outcome X
 ok_on_both (Ok v) given N M X h k f = f h.0 k
 ok_on_both (Err x) given N M X h k f = tt
-
--- what two hold is one, where both are there
-pub same_held : (xs ys : List ℕ) → Some xs ≡ Some ys → xs ≡ ys
-same_held xs ys e = cc

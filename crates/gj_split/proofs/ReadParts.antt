@@ -1,17 +1,15 @@
 -- What a read at a place gives of a text.
 use Rattle.std.proofs.Common.{◌≡◌, ℕ, ◌+◌, ◌-◌, ◌≤◌, ◌<◌, max, min, List, ◌++◌, length, take, drop, Option, Some, None, Ok, sym, ap, subst, ◌∙◌, arith}
-use Rattle.std.proofs.Common.{take-take, take-add, drop-drop, length-take-le, length-take, length-drop}
+use Rattle.std.proofs.Common.{add-sub_of_le, take-take, take-add, drop-drop, length-take-le, length-take, length-drop}
 use Rattle.std.proofs.lemmas.List.{take-append-drop}
+use Rattle.std.proofs.lemmas.Option.{same_Some}
 use Rattle.gj_split.specs.Ranges.{StandsAt, ReadsFrom}
 use Rattle.gj_split.specs.Split.{bytes_between}
 
 pub part_read : (E : Type 0) (known : Option (List ℕ)) (place n : ℕ) (piece bytes : List ℕ) → ReadsFrom {E = E} known place (Ok n) piece → known ≡ Some bytes
     → StandsAt bytes place (take n piece)
 part_read E None place n piece bytes h e = cc
-part_read E (Some known) place n piece bytes h e = subst (λ xs. StandsAt xs place (take n piece)) (some_is known bytes e) h.0
-  where
-    some_is : (xs ys : List ℕ) → Some xs ≡ Some ys → xs ≡ ys
-    some_is xs ys e = cc
+part_read E (Some known) place n piece bytes h e = subst (λ xs. StandsAt xs place (take n piece)) (same_Some known bytes e) h.0
 
 -- the front of what was read, after what stands before it
 pub more_between : (place at due n : ℕ) (piece bytes : List ℕ) → place ≤ at → due ≤ n → n ≤ length piece → StandsAt bytes at (take n piece) →
@@ -20,13 +18,10 @@ more_between place at due n piece bytes l m k h =
     let long : length (take n piece) ≡ n = length-take-le n piece k in
     let read : take due piece ≡ take due (drop at bytes) =
     sym (take-take due n piece m) ∙ (ap (take due) (h ∙ ap (λ j. take j (drop at bytes)) long) ∙ take-take due n (drop at bytes) m) in
-    let from : drop (at - place) (drop place bytes) ≡ drop at bytes = drop-drop (at - place) place bytes ∙ ap (λ j. drop j bytes) (back_up place at l) in
+    let from : drop (at - place) (drop place bytes) ≡ drop at bytes = drop-drop (at - place) place bytes ∙ ap (λ j. drop j bytes) (add-sub_of_le l) in
     ap (λ xs. take (at - place) (drop place bytes) ++ xs) (read ∙ ap (take due) (sym from))
     ∙ (sym (take-add (at - place) due (drop place bytes)) ∙ ap (λ j. take j (drop place bytes)) (counted place at due l))
   where
-    back_up : (p a : ℕ) → p ≤ a → p + (a - p) ≡ a
-    back_up p a l = omega (arith, l)
-
     counted : (p a d : ℕ) → p ≤ a → a - p + d ≡ a + d - p
     counted p a d l = omega (arith, l)
 

@@ -1,6 +1,6 @@
 -- The text of a record, by the bytes at its place.
 use Rattle.std.proofs.Common.{◌≡◌, ℕ, zero, suc, get_or, ◌+◌, ◌-◌, ◌≤◌, Bool, true, false, nat_eq, if◌then◌else◌, List, [], ◌∷◌, ◌++◌, length, take, drop, refl}
-use Rattle.std.proofs.Common.{sym, ap, ◌∙◌, arith}
+use Rattle.std.proofs.Common.{sym, ap, ◌∙◌, arith, add-sub_of_le}
 use Rattle.std.proofs.Common.{Option, Some, Ok, ◌⊎◌, inl, inr, length-append, drop-drop, take-add}
 use Rattle.std.proofs.lemmas.Bool.{eqb-true}
 use Rattle.std.proofs.lemmas.List.{append-nil, take-append-drop}
@@ -91,13 +91,10 @@ one_more place last byte bytes l h =
     ap (λ n. take n (drop place bytes)) (counted place last l)
     ∙ (take-add (last - place) 1 (drop place bytes)
     ∙ ap (λ xs. bytes_between place last bytes ++ xs)
-    (ap (take 1) (drop-drop (last - place) place bytes ∙ ap (λ n. drop n bytes) (reached place last l)) ∙ sym h))
+    (ap (take 1) (drop-drop (last - place) place bytes ∙ ap (λ n. drop n bytes) (add-sub_of_le l)) ∙ sym h))
   where
     counted : (p a : ℕ) → p ≤ a → a + 1 - p ≡ a - p + 1
     counted p a l = omega (arith, l)
-
-    reached : (p a : ℕ) → p ≤ a → p + (a - p) ≡ a
-    reached p a l = omega (arith, l)
 
 pub text_by_last : (place last end byte : ℕ) (bytes : List ℕ) → end ≡ last + 1 → place ≤ last → StandsAt bytes last (byte ∷ [])
     → text_in (bytes_between place end bytes) ≡ (if nat_eq byte line_feed then bytes_between place last bytes else bytes_between place end bytes)

@@ -1,5 +1,5 @@
 -- Valid texts, each as a record, are a valid sequence.
-use Rattle.std.proofs.Common.{◌≡◌, ℕ, suc, ◌+◌, ◌≤◌, ◌<◌, true, false, List, [], ◌∷◌, ◌++◌, length, Some, None, refl, sym, ap, subst, ◌∙◌, arith, inl, inr}
+use Rattle.std.proofs.Common.{◌≡◌, ℕ, suc, ◌+◌, ◌≤◌, ◌<◌, true, false, List, [], ◌∷◌, ◌++◌, length, Some, None, refl, sym, ap, subst, ◌∙◌, arith, add-zero, inl, inr}
 use Rattle.std.proofs.lemmas.Bool.{le-ltb, ne_eqb}
 use Rattle.std.proofs.lemmas.List.{append-nil, take_all}
 use Rattle.std.specs.List.{AllByRecursion}
@@ -51,10 +51,7 @@ up_to_plain [] more h = refl
 up_to_plain (b ∷ bytes) more h = let e = plain_first b h.0 in rw e (ap (λ xs. b ∷ xs) (up_to_plain bytes more h.1))
 
 past_plain : (place : ℕ) (bytes more : List ℕ) → AreInText bytes → records_from false place (bytes ++ more) ≡ records_from false (place + length bytes) more
-past_plain place [] more h = ap (λ n. records_from false n more) (no_more place)
-  where
-    no_more : (n : ℕ) → n ≡ n + 0
-    no_more n = omega arith
+past_plain place [] more h = ap (λ n. records_from false n more) (sym (add-zero place))
 past_plain place (b ∷ bytes) more h =
     let e = plain_first b h.0 in
     rw e (past_plain (place + 1) bytes more h.1 ∙ ap (λ n. records_from false n more) (one_on place (length bytes)))

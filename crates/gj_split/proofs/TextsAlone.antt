@@ -1,5 +1,5 @@
 -- A feature by its bytes alone: it is a JSON text, and a valid one where it has no fault as a feature.
-use Rattle.std.proofs.Common.{◌≡◌, ℕ, ◌+◌, ◌-◌, ◌≤◌, false, List, [], ◌∷◌, ◌++◌, length, take, drop, map, Option, Some, None, refl, sym, ap, subst, ◌∙◌, arith}
+use Rattle.std.proofs.Common.{◌≡◌, ℕ, ◌+◌, ◌-◌, ◌≤◌, false, List, [], ◌∷◌, ◌++◌, length, take, drop, map, Option, Some, None, refl, sym, ap, subst, ◌∙◌, arith, add-zero}
 use Rattle.std.proofs.lemmas.List.{append-nil}
 use Rattle.std.specs.List.{AllByRecursion}
 use Rattle.std.proofs.Math.Seq.{take-append_seam, drop-append_seam}
@@ -63,12 +63,9 @@ spelled_alone v n own last w h = record {
     rest = own ++ last;
     joined = refl;
     before = tt;
-    after = record { first = own; rest = last; joined = refl; before = spelled_back n v 0 own (subst (λ m. Spells v m own) (no_more n) h); after = w };
+    after = record { first = own; rest = last; joined = refl; before = spelled_back n v 0 own (subst (λ m. Spells v m own) (sym (add-zero n)) h); after = w };
   };
 }
-  where
-    no_more : (n : ℕ) → n ≡ n + 0
-    no_more n = omega arith
 
 abbrev is_alone : (v : Tree) (levels n : ℕ) (own : List ℕ) → depth v ≤ levels → Spells v n own → IsAlone levels own
 is_alone v levels n own l h = record {

@@ -264,7 +264,8 @@ fn write_record<R: Ranges, W: Write>(source: &R, feature: &Feature, out: &mut W)
 
 /// Writes the text of a record of an input as a record: RS, the text, LF.
 fn write_found<R: Ranges, W: Write>(source: &R, found: &Record, out: &mut W) -> Result<(), Stop>
-    ensures { OnOk result ((bytes : List ℕ) → R.text ≡ Some bytes → Appends (W.contents out.old) (W.contents out.new) (record_of (found_text bytes found.now))) }
+    ensures { OnOk result ((bytes : List ℕ) → R.text ≡ Some bytes
+        → Appends (W.contents out.old) (W.contents out.new) (record_of (found_text bytes found.now))) }
 {
     let end = end_of_text(source, found)?;
     write_byte(out, SEPARATOR)?;

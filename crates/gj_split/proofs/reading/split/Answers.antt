@@ -1,8 +1,10 @@
 use Rattle.std.proofs.Common.{length, refl, sym, subst, ◌∙◌}
+use Rattle.std.proofs.lemmas.Option.{same_Some}
+use Rattle.std.proofs.lemmas.Result.{IfOk-from_err}
 use Rattle.gj_json.specs.Limits.{Allowed}
 use Rattle.gj_json.specs.Refusal.{IsAdmitted}
 use Rattle.gj_split.specs.Split.{split_of, IsValidSequence}
-use Rattle.gj_split.proofs.Outcomes.{ok_both, on_map, err_gives, err_on, same_held}
+use Rattle.gj_split.proofs.Outcomes.{ok_both, on_map}
 use Rattle.gj_split.proofs.WholeReadings.{verdict_read, whole_read}
 use Rattle.gj_split.proofs.reading.split.Goals as goal
 
@@ -33,14 +35,14 @@ returns-in-None-clause-sequence g c =
     let apart = h bytes text k.source_bytes
     (whole_read _ c.feed_all.new.linter c.args.limits same c.one_refusal.ensures.never_both bytes text
     (c.in-None.ensures.read refl bytes k.source_bytes (c.new-linter.ensures.stands (c.new.ensures.held bytes k))) admitted) admitted in
-    subst (λ xs. IsValidSequence c.args.limits.depth (length (split_of bytes text).valid) xs) (same_held _ held (sym apart.valid_records ∙ e))
+    subst (λ xs. IsValidSequence c.args.limits.depth (length (split_of bytes text).valid) xs) (same_Some _ held (sym apart.valid_records ∙ e))
     (c.valid_apart.ensures.sequence c.args.limits text bytes a))
 
 pub returns-in-Some-clause-verdict : goal.returns-in-Some-clause-verdict
-returns-in-Some-clause-verdict g c = err_gives c.stopped.result.outcome _ c.stopped.ensures
+returns-in-Some-clause-verdict g c = IfOk-from_err c.stopped.result.outcome _ c.stopped.ensures
 
 pub returns-in-Some-clause-apart : goal.returns-in-Some-clause-apart
-returns-in-Some-clause-apart g c = err_on c.stopped.result.outcome _ c.stopped.ensures
+returns-in-Some-clause-apart g c = IfOk-from_err c.stopped.result.outcome _ c.stopped.ensures
 
 pub returns-in-Some-clause-sequence : goal.returns-in-Some-clause-sequence
-returns-in-Some-clause-sequence g c = err_on c.stopped.result.outcome _ c.stopped.ensures
+returns-in-Some-clause-sequence g c = IfOk-from_err c.stopped.result.outcome _ c.stopped.ensures

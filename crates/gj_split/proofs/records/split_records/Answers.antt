@@ -1,11 +1,12 @@
 use Rattle.std.proofs.Common.{◌<◌, ◌↔◌, length, IsTrue, refl, sym, subst, ◌∙◌}
+use Rattle.std.proofs.lemmas.Option.{same_Some}
 use Rattle.gj_json.specs.Limits.{Allowed}
 use Rattle.gj_rules.specs.declared.records.framing.Framing.{Framing}
 use Rattle.gj_rules.specs.RecordFindings.{AreAllFindings, IsWholeVerdict}
 use Rattle.gj_rules.specs.RecordsStand.{framing_of, limits_of}
 use Rattle.gj_split.specs.RecordSplit.{split_records}
 use Rattle.gj_split.specs.Split.{IsValidSequence}
-use Rattle.gj_split.proofs.Outcomes.{if_map, on_map, same_held}
+use Rattle.gj_split.proofs.Outcomes.{if_map, on_map}
 use Rattle.gj_split.proofs.records.split_records.Goals as goal
 
 pub returns-in-None-clause-verdict : goal.returns-in-None-clause-verdict
@@ -42,5 +43,5 @@ returns-in-None-clause-sequence g c =
     (c.in-None.ensures.read refl bytes k.source_bytes c.new-records.ensures.stands (c.of_records-splitter.ensures.held bytes k))
     (subst (λ (f : Framing). AreAllFindings f (limits_of c.feed_records.new.records) bytes found) (sym framing)
     (subst (λ (l : Allowed). AreAllFindings c.args.framing l bytes found) (sym limits) a)) in
-    subst (λ xs. IsValidSequence c.args.limits.depth (length (split_records bytes found).valid) xs) (same_held _ held (sym apart.valid_records ∙ e))
+    subst (λ xs. IsValidSequence c.args.limits.depth (length (split_records bytes found).valid) xs) (same_Some _ held (sym apart.valid_records ∙ e))
     (c.valid_records_apart.ensures c.args.framing c.args.limits bytes found a))
