@@ -106,7 +106,9 @@ begun Sequence levels (part ∷ parts) found h = by_test (is_counted Sequence 0 
         record {
           numbers = inr (record { first = one; rest = all; is = refl; none = first.number; place = part.start; refused = first.verdict; numbered = numbered });
           next = λ some. ap (λ (b : Bool). number_from Sequence (number_after b 0) parts) e
-              ∙ (count ∙ none ∙ ap (λ (n : ℕ). 1 + records_among (record { number = n; place = one.place; end = one.end; verdict = one.verdict } ∷ all)) (sym first.number));
+              ∙ (count ∙ none
+              ∙ ap (λ (n : ℕ). 1 + records_among (record { number = n; place = one.place; end = one.end; verdict = one.verdict } ∷ all))
+              (sym first.number));
         }
     by_test false e all k =
         let (numbered, count) = count-on Sequence levels 1 parts all (omega arith) (rw e at k) in
@@ -250,7 +252,8 @@ ends-in place (byte ∷ next ∷ more) =
     ]
 
 -- whether it counts is the same
-counts-ended : (number : ℕ) (is_void : Bool) → (number ≡ 0) ⊎ (is_void ≡ false) → counts Sequence number Input is_void ≡ counts Sequence number Separator is_void
+counts-ended : (number : ℕ) (is_void : Bool) → (number ≡ 0) ⊎ (is_void ≡ false)
+    → counts Sequence number Input is_void ≡ counts Sequence number Separator is_void
 counts-ended zero is_void h = refl
 counts-ended (suc n) true (inl e) = absurd (omega (arith, e))
 counts-ended (suc n) true (inr e) = absurd (false≢true (sym e))
@@ -328,8 +331,9 @@ sequence-findings limits first second found more parts are of_rest =
     let moved = found-moved Sequence levels count a 1 rest.more more (omega arith) alone in
     let there = subst (λ (n : ℕ). AreFindings Sequence levels (entries_from Sequence n (map (moved_part a) rest.more)) (map (moved_finding count a) more))
     (sym next) moved in
-    let both = findings-append Sequence levels (entries_from Sequence 0 front) (entries_from Sequence (number_from Sequence 0 front) (map (moved_part a) rest.more))
-    found (map (moved_finding count a) more) before there in
+    let both =
+    findings-append Sequence levels (entries_from Sequence 0 front)
+    (entries_from Sequence (number_from Sequence 0 front) (map (moved_part a) rest.more)) found (map (moved_finding count a) more) before there in
     let entries : entries_from Sequence 0 (parts_of Sequence limits (first ++ second))
     ≡ entries_from Sequence 0 front ++ entries_from Sequence (number_from Sequence 0 front) (map (moved_part a) rest.more) =
     ap (λ (l : List Part). entries_from Sequence 0 l) rest.both ∙ entries-append Sequence 0 front (map (moved_part a) rest.more) in
@@ -367,7 +371,9 @@ found-none framing limits =
 
 pub none-found : (framing : Framing) (limits : Allowed) (found : List Record) → AreAllFindings framing limits [] found → found ≡ []
 none-found framing limits found are =
-    none found (subst (λ (l : List Entry). AreFindings framing limits.depth l found) (ap (entries_in framing) (no-parts framing limits) ∙ no-entries framing) are)
+    none found
+    (subst (λ (l : List Entry). AreFindings framing limits.depth l found)
+    (ap (entries_in framing) (no-parts framing limits) ∙ no-entries framing) are)
   where
     none : (all : List Record) → AreFindings framing limits.depth [] all → all ≡ []
     none [] h = refl

@@ -1,14 +1,11 @@
 -- Three parts give the same, whichever two are joined first.
-use Rattle.std.proofs.Common.{arith, ◌≡◌, ◌+◌, ℕ, refl, ap, sym, ◌∙◌, List, ◌++◌, map, append_assoc}
+use Rattle.std.proofs.Common.{arith, ◌≡◌, ◌+◌, ℕ, refl, ap, sym, ◌∙◌, add_comm, List, ◌++◌, map, append_assoc}
 use Rattle.std.proofs.lemmas.List.{map-append}
 use Rattle.gj_coords.specs.Warnings.{Warning, shifted_by}
 use Rattle.gj_rules.specs.Sequence.{SequenceJudgement, all_valid, failing}
 use Rattle.gj_rules.specs.SequenceJudgement.{shifted_judgement}
 use Rattle.gj_join.specs.Joined.{joined_judgement}
 use Rattle.gj_join.proofs.JoinedParts.{warnings-twice, judgement-twice}
-
-order : (one other : ℕ) → other + one ≡ one + other
-order one other = omega arith
 
 pub grouped : (end more : ℕ) (one two three : SequenceJudgement)
     → joined_judgement (end + more) (joined_judgement end one two) three ≡ joined_judgement end one (joined_judgement more two three)
@@ -17,7 +14,7 @@ grouped end more (all_valid a ws) (failing number judgement) three = refl
 grouped end more (all_valid a ws) (all_valid b vs) (all_valid c us) =
     let count : a + b + c ≡ a + (b + c) = omega arith in
     let last : map (shifted_by (end + more)) us ≡ map (shifted_by end) (map (shifted_by more) us) =
-    ap (λ (n : ℕ). map (shifted_by n) us) (order more end) ∙ warnings-twice more end us in
+    ap (λ (n : ℕ). map (shifted_by n) us) (add_comm end more) ∙ warnings-twice more end us in
     let all : (ws ++ map (shifted_by end) vs) ++ map (shifted_by (end + more)) us ≡ ws ++ map (shifted_by end) (vs ++ map (shifted_by more) us) =
     append_assoc ws (map (shifted_by end) vs) (map (shifted_by (end + more)) us)
     ∙ ap (λ (l : List Warning). ws ++ l)
@@ -26,5 +23,5 @@ grouped end more (all_valid a ws) (all_valid b vs) (all_valid c us) =
 grouped end more (all_valid a ws) (all_valid b vs) (failing number judgement) =
     let count : a + b + number ≡ a + (b + number) = omega arith in
     let further : shifted_judgement (end + more) judgement ≡ shifted_judgement end (shifted_judgement more judgement) =
-    ap (λ (n : ℕ). shifted_judgement n judgement) (order more end) ∙ judgement-twice more end judgement in
+    ap (λ (n : ℕ). shifted_judgement n judgement) (add_comm end more) ∙ judgement-twice more end judgement in
     ap (λ (n : ℕ). failing n (shifted_judgement (end + more) judgement)) count ∙ ap (failing (a + (b + number))) further

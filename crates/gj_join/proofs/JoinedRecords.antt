@@ -3,6 +3,7 @@ use Rattle.std.proofs.Common.{arith, ◌≡◌, ◌+◌, ◌-◌, ◌<◌, ◌�
 use Rattle.std.proofs.Common.{Bool, length-append, inl, inr}
 use Rattle.std.specs.Prelude.{◌&&◌, not, nat_lt}
 use Rattle.std.proofs.lemmas.Bool.{cases_Bool, cases_lt, false≢true, lt-ltb, le-ltb}
+use Rattle.std.proofs.Math.Bool.{and-false}
 use Rattle.std.proofs.Math.Seq.{take-append-add}
 use Rattle.std.proofs.lemmas.List.{take_all}
 use Rattle.gj_json.specs.Limits.{Allowed}
@@ -53,10 +54,6 @@ record_at start bytes is_cut = record { start = start; bytes = bytes; is_cut = i
 both_parts : {one other : SequenceRecord} {more others : List SequenceRecord} → one ≡ other → more ≡ others → one ∷ more ≡ other ∷ others
 both_parts {one} {other} {more} {others} first rest = ap (λ (r : SequenceRecord). r ∷ more) first ∙ ap (λ (l : List SequenceRecord). other ∷ l) rest
 
-never : (is_cut : Bool) → (is_cut && false) ≡ false
-never true = refl
-never false = refl
-
 records-append : (is_cut : Bool) (place : ℕ) (bytes next : List ℕ) → separator_last Sequence bytes ≡ false → begins_with_separator next ≡ true
     → records_from is_cut place (bytes ++ next) ≡ records_from false place bytes ++ records_from is_cut (place + length bytes) next
 records-append is_cut place [] next whole begins = ap (λ (p : ℕ). records_from is_cut p next) (omega arith)
@@ -68,7 +65,7 @@ records-append is_cut place (byte ∷ following ∷ more) next whole begins =
     let both = rest ∙ ap (λ (l : List SequenceRecord). records_from false (place + 1) (following ∷ more) ++ l) further in
     elim (cases_Bool (is_separator byte && not (is_separator following))) [
       | inl e ↦ rw e (rw (up_to_next (following ∷ more) next begins, has_next (following ∷ more) next begins)
-          (both_parts (ap (record_at (place + 1) (up_to_separator (following ∷ more))) (never is_cut)) both))
+          (both_parts (ap (record_at (place + 1) (up_to_separator (following ∷ more))) (and-false is_cut)) both))
       | inr e ↦ rw e both
     ]
 

@@ -1,5 +1,5 @@
 -- What newline-delimited texts are as a whole, by their parts.
-use Rattle.std.proofs.Common.{arith, ◌≡◌, ◌+◌, ◌-◌, ◌<◌, ℕ, suc, zero, refl, ap, sym, subst, ◌∙◌, List, [], ◌∷◌, ◌++◌, length, map, true, false, Bool}
+use Rattle.std.proofs.Common.{arith, ◌≡◌, ◌+◌, ◌-◌, ◌<◌, ℕ, suc, zero, refl, ap, sym, subst, ◌∙◌, add_comm, List, [], ◌∷◌, ◌++◌, length, map, true, false, Bool}
 use Rattle.std.proofs.lemmas.List.{append-nil}
 use Rattle.gj_json.specs.Limits.{Allowed}
 use Rattle.gj_coords.specs.Internal.KeptWarnings.{no_warnings, joined, shifted}
@@ -55,15 +55,12 @@ more-joined records by warnings [] more others kept all = refl
 more-joined records by warnings (one ∷ found) more others kept all =
     by_verdict (λ n ws k. more-joined records by warnings found n ws k all.1) one.verdict all.0
   where
-    order : (a b : ℕ) → a + b ≡ b + a
-    order a b = omega arith
-
     fails : (v : Verdict)
         → whole_from (SeqVerdict.Record (one.number + records) (shifted_verdict by v)) (map (moved_finding records by) found)
         ≡ joined_verdict by (SeqVerdict.Valid records warnings) (whole_from (SeqVerdict.Record one.number v) found)
     fails v =
         decided (one.number + records) (shifted_verdict by v) (map (moved_finding records by) found)
-        ∙ (ap (λ (n : ℕ). SeqVerdict.Record n (shifted_verdict by v)) (order one.number records)
+        ∙ (ap (λ (n : ℕ). SeqVerdict.Record n (shifted_verdict by v)) (add_comm one.number records)
         ∙ sym (ap (joined_verdict by (SeqVerdict.Valid records warnings)) (decided one.number v found)))
 
     by_verdict : ((n : ℕ) (ws : Warnings) → IsKept ws
@@ -73,7 +70,7 @@ more-joined records by warnings (one ∷ found) more others kept all =
         ≡ joined_verdict by (SeqVerdict.Valid records warnings) (whole_from (joined_with others one.number v) found)
     by_verdict again (Valid ws) k =
         ap (λ (n : ℕ). whole_from (SeqVerdict.Valid n (joined (joined warnings (shifted others by)) (shifted ws by))) (map (moved_finding records by) found))
-        (order one.number records)
+        (add_comm one.number records)
         ∙ (ap (λ (w : Warnings). whole_from (SeqVerdict.Valid (records + one.number) w) (map (moved_finding records by) found))
         (joined_assoc warnings (shifted others by) (shifted ws by) ∙ ap (joined warnings) (sym (shifted-joined by others ws kept k)))
         ∙ again one.number (joined others ws) (kept-joined others ws kept k))
@@ -109,7 +106,8 @@ counted levels n before (part ∷ parts) found records warnings h e =
     by_verdict again number (NotJson fault) all is rest f = absurd (never number (NotJson fault) all f)
 
     by_test : CountsOn levels parts records warnings → (b : Bool) → is_counted Lines (n + 1) part ≡ b → (all : List Record)
-        → AreFindings Lines levels (entries_from Lines (n + 1) (part ∷ parts)) all → whole_from (SeqVerdict.Valid n before) all ≡ SeqVerdict.Valid records warnings
+        → AreFindings Lines levels (entries_from Lines (n + 1) (part ∷ parts)) all
+        → whole_from (SeqVerdict.Valid n before) all ≡ SeqVerdict.Valid records warnings
         → number_from Lines (number_after (is_counted Lines (n + 1) part) (n + 1)) parts ≡ records + 1
     by_test again true t [] k f = absurd (rw t at k)
     by_test again true t (one ∷ all) k f =
@@ -134,7 +132,9 @@ findings-append framing levels (entry ∷ entries) others (one ∷ found) more h
 
 number-some : (number : ℕ) (parts : List Part) → 0 < number → 0 < number_from Lines number parts
 number-some number [] some = some
-number-some number (part ∷ parts) some = number-some (number_after (is_counted Lines number part) number) parts (after-some (is_counted Lines number part) number some)
+number-some number (part ∷ parts) some =
+    let counted = is_counted Lines number part in
+    number-some (number_after counted number) parts (after-some counted number some)
   where
     after-some : (b : Bool) (n : ℕ) → 0 < n → 0 < number_after b n
     after-some true n s = omega arith
@@ -164,10 +164,13 @@ findings-joined limits first second found more parts are of_rest =
     let rest = parts_of Lines (limits_after limits a) second in
     let next : 1 + records_in first ≡ number_from Lines 1 (ended 0 first) = omega (arith, number-some 1 (ended 0 first) (omega arith)) in
     let moved = found-moved Lines limits.depth (records_in first) a 1 rest more (omega arith) of_rest in
-    let there = subst (λ (n : ℕ). AreFindings Lines limits.depth (entries_from Lines n (map (moved_part a) rest)) (map (moved_finding (records_in first) a) more))
+    let there =
+    subst (λ (n : ℕ). AreFindings Lines limits.depth (entries_from Lines n (map (moved_part a) rest)) (map (moved_finding (records_in first) a) more))
     next moved in
-    let both = findings-append Lines limits.depth (entries_from Lines 1 (ended 0 first)) (entries_from Lines (number_from Lines 1 (ended 0 first)) (map (moved_part a) rest))
-    found (map (moved_finding (records_in first) a) more) (found-first limits first second found parts are) there in
+    let both =
+    findings-append Lines limits.depth (entries_from Lines 1 (ended 0 first))
+    (entries_from Lines (number_from Lines 1 (ended 0 first)) (map (moved_part a) rest)) found (map (moved_finding (records_in first) a) more)
+    (found-first limits first second found parts are) there in
     let entries : entries_from Lines 1 (parts_of Lines limits (first ++ second)) ≡ entries_from Lines 1 (ended 0 first)
     ++ entries_from Lines (number_from Lines 1 (ended 0 first)) (map (moved_part a) rest) =
     ap (λ (l : List Part). entries_from Lines 1 l) (parts_of-parts limits first second parts)
