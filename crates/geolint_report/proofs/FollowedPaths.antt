@@ -4,7 +4,8 @@ use Rattle.std.proofs.Common.{subst, true, false, append_assoc, append-nil, leng
 use Rattle.std.proofs.Common.{IfSome}
 use Rattle.std.specs.Io.KnownBytes.{Consumes}
 use Rattle.std.proofs.lemmas.List.{take-append-le, take_at, take_more, get_or-drop, take-append-drop}
-use Rattle.std.proofs.Math.Bool.{or-false, or_assoc}
+use Rattle.std.proofs.lemmas.Bool.{or_parts, false_from_ne_true}
+use Rattle.std.proofs.Math.Bool.{or-true, or-false, or_assoc}
 use Rattle.gj_json.specs.declared.path.Path.{Path}
 use Rattle.gj_rules.specs.declared.records.framing.Framing.{Framing}
 use Rattle.geolint_report.specs.declared.sites.Site.{Site}
@@ -22,14 +23,6 @@ module _ (framing : Framing) where
   has_separator-more (first ∷ more) byte = ap (λ (b : Bool). is_separator framing first || b) (has_separator-more more byte)
       ∙ sym (or_assoc (is_separator framing first) (has_separator framing more) (is_separator framing byte))
 
-  or-true : (a : Bool) → (a || true) ≡ true
-  or-true true = refl
-  or-true false = refl
-
-  or-none : (a : Bool) → (a || false) ≡ a
-  or-none true = refl
-  or-none false = refl
-
   pub has_separator-here : (bytes : List ℕ) (byte : ℕ) → is_separator framing byte ≡ true → has_separator framing (bytes ++ byte ∷ []) ≡ true
   has_separator-here bytes byte is =
       has_separator-more bytes byte ∙ (ap (λ (b : Bool). has_separator framing bytes || b) is ∙ or-true (has_separator framing bytes))
@@ -37,7 +30,7 @@ module _ (framing : Framing) where
   pub has_separator-other : (bytes : List ℕ) (byte : ℕ) → is_separator framing byte ≡ false
       → has_separator framing (bytes ++ byte ∷ []) ≡ has_separator framing bytes
   has_separator-other bytes byte is =
-      has_separator-more bytes byte ∙ (ap (λ (b : Bool). has_separator framing bytes || b) is ∙ or-none (has_separator framing bytes))
+      has_separator-more bytes byte ∙ (ap (λ (b : Bool). has_separator framing bytes || b) is ∙ or-false (has_separator framing bytes))
 
   pub last_record-begun : (bytes : List ℕ) (byte : ℕ) → is_separator framing byte ≡ true → last_record framing (bytes ++ byte ∷ []) ≡ []
   last_record-begun [] byte is = rw (has_separator-here [] byte is) refl
@@ -57,21 +50,17 @@ module _ (framing : Framing) where
 
   -- ---- records, by the last separator of some bytes
 
-  neither : (a b : Bool) → (a || b) ≡ false → (a ≡ false) × (b ≡ false)
-  neither true b e = absurd (cc)
-  neither false b e = (refl, e)
-
   pub last_record-longer : (xs ys : List ℕ) → has_separator framing ys ≡ false → last_record framing (xs ++ ys) ≡ last_record framing xs ++ ys
   last_record-longer xs [] none = ap (last_record framing) (append-nil xs) ∙ sym (append-nil (last_record framing xs))
   last_record-longer xs (y ∷ ys) none =
-      let both = neither (is_separator framing y) (has_separator framing ys) none in
+      let both = or_parts (is_separator framing y) (has_separator framing ys) none in
       ap (last_record framing) (sym (append_assoc xs (y ∷ []) ys)) ∙ last_record-longer (xs ++ y ∷ []) ys both.1
       ∙ ap (λ (zs : List ℕ). zs ++ ys) (last_record-more xs y both.0) ∙ append_assoc (last_record framing xs) (y ∷ []) ys
 
   pub has_separator-longer : (xs ys : List ℕ) → has_separator framing ys ≡ false → has_separator framing (xs ++ ys) ≡ has_separator framing xs
   has_separator-longer xs [] none = ap (has_separator framing) (append-nil xs)
   has_separator-longer xs (y ∷ ys) none =
-      let both = neither (is_separator framing y) (has_separator framing ys) none in
+      let both = or_parts (is_separator framing y) (has_separator framing ys) none in
       ap (has_separator framing) (sym (append_assoc xs (y ∷ []) ys)) ∙ has_separator-longer (xs ++ y ∷ []) ys both.1 ∙ has_separator-other xs y both.0
 
   none-separates : (xs : List ℕ) → ((k : ℕ) → k < length xs → is_separator framing (get_or xs k 0) ≡ false) → has_separator framing xs ≡ false
@@ -82,16 +71,12 @@ module _ (framing : Framing) where
       λ k within. (let next : is_separator framing (get_or (x ∷ xs) (suc k) 0) ≡ false = none (suc k) (omega arith) in next) in
       rw here (none-separates xs more)
 
-  not_true : (b : Bool) → (b ≡ true → ⊥) → b ≡ false
-  not_true true never = absurd (never refl)
-  not_true false never = refl
-
   -- the bytes from one on, where no separator is after it
   pub rest-separates : (xs : List ℕ) (from : ℕ) → ((k : ℕ) → from ≤ k → k < length xs → is_separator framing (get_or xs k 0) ≡ true → ⊥)
       → has_separator framing (drop from xs) ≡ false
   rest-separates xs from none = none-separates (drop from xs) (λ k within.
       let at : get_or (drop from xs) k 0 ≡ get_or xs (from + k) 0 = get_or-drop from xs k 0 in
-      rw at (not_true (is_separator framing (get_or xs (from + k) 0)) (none (from + k) (omega arith) (omega (arith, within, length-drop from xs)))))
+      rw at (false_from_ne_true (is_separator framing (get_or xs (from + k) 0)) (none (from + k) (omega arith) (omega (arith, within, length-drop from xs)))))
 
   -- what comes after the last separator is the record
   pub last_record-parted : (text bytes : List ℕ) (last : ℕ) → last < length bytes → is_separator framing (get_or bytes last 0) ≡ true

@@ -3,7 +3,7 @@ use Rattle.std.proofs.Common.{arith, refl, inl, inr, ◌⊎◌, true, false, ◌
 use Rattle.std.proofs.Common.{drop, append-nil}
 use Rattle.std.proofs.Common.{length-append}
 use Rattle.std.proofs.lemmas.Bool.{cases_lt}
-use Rattle.std.proofs.lemmas.List.{length-take, drop-append-le, drop_all, take-append-le, take_all}
+use Rattle.std.proofs.lemmas.List.{drop-append-le, drop_all}
 use Rattle.std.proofs.lemmas.List.Concat.{flat_map-append}
 use Rattle.std.specs.Io.Iter.{u64_saturate}
 use Rattle.std.specs.Io.KnownBytes.{Consumes, IsAtEnd}
@@ -25,21 +25,9 @@ use Rattle.geolint_report.specs.declared.every.listing.Listing.{Listing}
 use Rattle.geolint_report.specs.declared.every.tally.Tally.{Tally}
 use Rattle.geolint_report.specs.Every.{feature_notes, notes_of, notes_of_records, Keeps, KeepsOf, KeepsNotes, Lists, ListsIn, ListsBy, ListsFor, AreFirst}
 use Rattle.geolint_report.specs.Every.{AreNotesAll, AreNotesIn, AreNotesBy}
+use Rattle.geolint_report.proofs.ElementsInTurn.{take-full}
 
--- there is room for one more
-pub take-longer : {A : Type 0} (room : ℕ) (all : List A) (x : A) → length (take room all) < room → take room (all ++ x ∷ []) ≡ take room all ++ x ∷ []
-take-longer {A = A} room all x some =
-    let few : length all < room = omega (arith, some, length-take room all) in
-    let longer : length (all ++ x ∷ []) ≡ length all + 1 = length-append all (x ∷ []) in
-    take_all room (all ++ x ∷ []) (omega (arith, few, longer)) ∙ ap (λ (ys : List A). ys ++ x ∷ []) (sym (take_all room all (omega (arith, few))))
-
--- there is none
-pub take-full : {A : Type 0} (room : ℕ) (all : List A) (x : A) → room ≤ length (take room all) → take room (all ++ x ∷ []) ≡ take room all
-take-full room all x none =
-    let many : room ≤ length all = omega (arith, none, length-take room all) in
-    take-append-le room all (x ∷ []) many
-
--- the same, where so many are passed over
+-- there is no room for one more where so many are passed over
 window-full : {A : Type 0} (skipped room : ℕ) (all : List A) (x : A) → skipped ≤ length all → room ≤ length (take room (drop skipped all))
     → take room (drop skipped (all ++ x ∷ [])) ≡ take room (drop skipped all)
 window-full {A = A} skipped room all x within none =

@@ -51,7 +51,8 @@ pub fn judge_followed<S: Source, F: Follower>(
     ensures listed { IfOk result (λ found. ListsFor (framing_in reading) found.0 limits (S.remaining reader.old) found.1) }
     ensures text { S.text reader.new ≡ S.text reader.old }
     ensures failed { CountsFailure (S.failed_reads reader.old) (S.failed_reads reader.new) result }
-    ensures followed { F.follows follower.old [] → IfOk result (λ found. FollowedFrom (S.remaining reader.old) (S.remaining reader.new) (F.follows follower.new)) }
+    ensures followed { F.follows follower.old [] → IfOk result (λ found.
+        FollowedFrom (S.remaining reader.old) (S.remaining reader.new) (F.follows follower.new)) }
 {
     match reading {
         Reading::Text | Reading::Quick => {
@@ -105,7 +106,8 @@ pub fn judge_features<S: Source, F: Follower>(
     ensures listed { IfOk result (λ found. ListsFor None (Finding.Text found.0) limits (S.remaining reader.old) found.1) }
     ensures text { S.text reader.new ≡ S.text reader.old }
     ensures failed { CountsFailure (S.failed_reads reader.old) (S.failed_reads reader.new) result }
-    ensures followed { F.follows follower.old [] → IfOk result (λ found. FollowedFrom (S.remaining reader.old) (S.remaining reader.new) (F.follows follower.new)) }
+    ensures followed { F.follows follower.old [] → IfOk result (λ found.
+        FollowedFrom (S.remaining reader.old) (S.remaining reader.new) (F.follows follower.new)) }
 {
     let _most = limits.bytes();
     let mut linter = FeatureLinter::new(limits, Listing::new(alloc, asked));

@@ -28,7 +28,8 @@ pub fn judge_records<S: Source, F: Follower>(
     ensures listed { IfOk result (λ found. ListsBy (Some framing) limits (S.remaining reader.old) found.1) }
     ensures text { S.text reader.new ≡ S.text reader.old }
     ensures failed { CountsFailure (S.failed_reads reader.old) (S.failed_reads reader.new) result }
-    ensures followed { F.follows follower.old [] → IfOk result (λ found. FollowedFrom (S.remaining reader.old) (S.remaining reader.new) (F.follows follower.new)) }
+    ensures followed { F.follows follower.old [] → IfOk result (λ found.
+        FollowedFrom (S.remaining reader.old) (S.remaining reader.new) (F.follows follower.new)) }
 {
     let _most = limits.bytes();
     let mut records = Records::new(framing, limits);
