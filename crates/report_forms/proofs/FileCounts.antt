@@ -1,6 +1,6 @@
 -- Lemmas on the counts of files.
 use Rattle.std.specs.Prelude.{is_none, is_some}
-use Rattle.std.proofs.Common.{arith, refl, not, ◌&&◌, nat_le, ◌≢◌, inl, inr, length, map, ◌≡◌, ◌≤◌, ◌<◌, ◌+◌, ◌-◌, ℕ, Bool, true, false, List, []}
+use Rattle.std.proofs.Common.{arith, refl, not, ◌&&◌, nat_le, ◌≢◌, inl, inr, length, map, ◌≡◌, ◌≤◌, ◌<◌, ◌+◌, ℕ, Bool, true, false, List, []}
 use Rattle.std.proofs.Common.{◌∷◌, ◌++◌, Option, Some, None, get_or, ap, sym, ◌∙◌}
 use Rattle.std.proofs.lemmas.Bool.Decides.{nat_tests, eqb_tells}
 use Rattle.std.proofs.lemmas.List.{get_or-map}
@@ -8,7 +8,6 @@ use Rattle.std.proofs.lemmas.List.FromFn.{get_or-range_with_len}
 use Rattle.std.proofs.Math.Bool.{and-false, or-false}
 use Rattle.gj_coords.specs.Fault.{number_of}
 use Rattle.gj_coords.specs.Warnings.{kind_number, kinds}
-use Rattle.gj_coords.specs.declared.fault.Rule.{Rule}
 use Rattle.gj_coords.specs.declared.kind.Kind.{Kind}
 use Rattle.gj_json.specs.declared.fault.Cause.{Cause}
 use Rattle.gj_coords.specs.declared.warnings.Warnings.{Warnings}

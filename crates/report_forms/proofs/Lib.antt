@@ -1,6 +1,6 @@
 mod JoinedElements
 mod FileCounts
-mod CommasBetween
+pub mod CommasBetween
 mod ShownNames
 mod DetailsInParentheses
 mod ResultsBetween

@@ -183,7 +183,8 @@ sarif_kinds = flat_map (λ (kind : Kind). break_and_warning (Code.Kind kind)) ki
 -- the head of a log: the form, its version and the program
 abbrev pub sarif_head : List ℕ
 sarif_head =
-    codes "{\"$schema\":\"https://json.schemastore.org/sarif-2.1.0.json\",\"version\":\"2.1.0\",\"runs\":[{\"columnKind\":\"unicodeCodePoints\",\"tool\":{\"driver\":{\"name\":\"geolint-files\",\"version\":\"0.1.0\",\"rules\":[\n"
+    codes "{\"$schema\":\"https://json.schemastore.org/sarif-2.1.0.json\",\"version\":\"2.1.0\",\"runs\":[{\"columnKind\":\"unicodeCodePoints\","
+    ++ codes "\"tool\":{\"driver\":{\"name\":\"geolint-files\",\"version\":\"0.1.0\",\"rules\":[\n"
 
 -- what comes before the first result: the head and the rules of the program
 unfoldable pub sarif_begin : List ℕ

@@ -1,7 +1,7 @@
 use Rattle.std.proofs.Common.{ℕ, List, ◌++◌, codes}
 use Rattle.geolint_report.specs.Texts.{code_name, code_text}
 use Rattle.report_forms.specs.CodeLines.{in_eight_places, count_line}
-use Rattle.report_forms.proofs.JoinedElements.{behind}
+use Rattle.geolint_report.proofs.ElementsInTurn.{after}
 use Rattle.report_forms.proofs.code_lines.put_count_line.Goals as goal
 
 pub returns : goal.returns
@@ -17,9 +17,9 @@ returns c =
     let part2 : List ℕ = codes " " in
     let rest1 : List ℕ = part2 ++ rest2 in
     let part1 : List ℕ = in_eight_places c.args.count in
-    behind c.put-3.result c.args.line.now.items c.put_in_eight_places.new.line.items c.put-3.new.line.items part1 rest1 c.in_ok-put_in_eight_places.ensures
-    (behind c.put-3.result c.put_in_eight_places.new.line.items c.put.new.line.items c.put-3.new.line.items part2 rest2 c.in_ok-put.ensures
-    (behind c.put-3.result c.put.new.line.items c.put_name.new.line.items c.put-3.new.line.items part3 rest3 c.in_ok-put_name.ensures
-    (behind c.put-3.result c.put_name.new.line.items c.put-2.new.line.items c.put-3.new.line.items part4 rest4 c.in_ok-put-2.ensures
-    (behind c.put-3.result c.put-2.new.line.items c.put_text.new.line.items c.put-3.new.line.items part5 rest5 c.in_ok-put_text.ensures
+    after c.put-3.result c.args.line.now.items c.put_in_eight_places.new.line.items c.put-3.new.line.items part1 rest1 c.in_ok-put_in_eight_places.ensures
+    (after c.put-3.result c.put_in_eight_places.new.line.items c.put.new.line.items c.put-3.new.line.items part2 rest2 c.in_ok-put.ensures
+    (after c.put-3.result c.put.new.line.items c.put_name.new.line.items c.put-3.new.line.items part3 rest3 c.in_ok-put_name.ensures
+    (after c.put-3.result c.put_name.new.line.items c.put-2.new.line.items c.put-3.new.line.items part4 rest4 c.in_ok-put-2.ensures
+    (after c.put-3.result c.put-2.new.line.items c.put_text.new.line.items c.put-3.new.line.items part5 rest5 c.in_ok-put_text.ensures
     (c.put-3.ensures)))))

@@ -1,4 +1,4 @@
-use Rattle.std.proofs.Common.{arith, ap, ◌∙◌, subst, ◌≡◌, ◌<◌, ◌++◌, ℕ, List, length, take, get_or, ◌+◌, sym, append_assoc}
+use Rattle.std.proofs.Common.{arith, ap, ◌∙◌, subst, ◌≡◌, ◌<◌, ◌++◌, ℕ, List, length, take, get_or, sym, append_assoc}
 use Rattle.std.specs.List.{flat_map}
 use Rattle.std.proofs.lemmas.List.{take_all}
 use Rattle.std.proofs.lemmas.Option.{get_or_from_slice_get, slice_get-get_or}

@@ -3,7 +3,7 @@ use Rattle.std.proofs.lemmas.Result.{on_ok_weaker}
 use Rattle.geolint_report.specs.Items.{item_number, item_word}
 use Rattle.report_forms.specs.Forms.Features.{item_text}
 use Rattle.std.specs.Fmt.{decimal}
-use Rattle.report_forms.proofs.JoinedElements.{behind}
+use Rattle.geolint_report.proofs.ElementsInTurn.{after}
 use Rattle.report_forms.proofs.every.forms.put_item.Goals as goal
 
 pub returns : goal.returns
@@ -13,7 +13,7 @@ returns c =
     let part2 : List ℕ = codes " " in
     let rest1 : List ℕ = part2 ++ rest2 in
     let part1 : List ℕ = item_word c.args.item in
-    behind c.put_number.result c.args.line.now.items c.put.new.line.items c.put_number.new.line.items part1 rest1
+    after c.put_number.result c.args.line.now.items c.put.new.line.items c.put_number.new.line.items part1 rest1
     (c.in_ok-put.ensures ∙ ap (λ (ys : List ℕ). c.args.line.now.items ++ ys) c.word.ensures)
-    (behind c.put_number.result c.put.new.line.items c.put-2.new.line.items c.put_number.new.line.items part2 rest2 c.in_ok-put-2.ensures
+    (after c.put_number.result c.put.new.line.items c.put-2.new.line.items c.put_number.new.line.items part2 rest2 c.in_ok-put-2.ensures
     (on_ok_weaker c.put_number.result (λ is. is ∙ ap (λ (n : ℕ). c.put-2.new.line.items ++ decimal n) c.number.ensures) c.put_number.ensures))

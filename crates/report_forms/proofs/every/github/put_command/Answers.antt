@@ -2,7 +2,7 @@ use Rattle.std.proofs.Common.{ℕ, List, ◌++◌, codes}
 use Rattle.geolint_report.specs.Texts.{code_name}
 use Rattle.report_forms.specs.Forms.Features.{github_entry, github_text, spot_at}
 use Rattle.report_forms.specs.Forms.Github.{github_file, github_spot}
-use Rattle.report_forms.proofs.JoinedElements.{behind}
+use Rattle.geolint_report.proofs.ElementsInTurn.{after}
 use Rattle.report_forms.proofs.every.github.put_command.Goals as goal
 
 pub returns : goal.returns
@@ -16,8 +16,8 @@ returns c =
     let part2 : List ℕ = github_spot (spot_at c.args.entry.now.mark) in
     let rest1 : List ℕ = part2 ++ rest2 in
     let part1 : List ℕ = github_file c.args.level.now c.args.entry.now.name.now in
-    behind c.put_message.result c.args.line.now.items c.put_file.new.line.items c.put_message.new.line.items part1 rest1 c.in_ok-put_file.ensures
-    (behind c.put_message.result c.put_file.new.line.items c.put_spot_at.new.line.items c.put_message.new.line.items part2 rest2 c.in_ok-put_spot_at.ensures
-    (behind c.put_message.result c.put_spot_at.new.line.items c.put.new.line.items c.put_message.new.line.items part3 rest3 c.in_ok-put.ensures
-    (behind c.put_message.result c.put.new.line.items c.put_name.new.line.items c.put_message.new.line.items part4 rest4 c.in_ok-put_name.ensures
+    after c.put_message.result c.args.line.now.items c.put_file.new.line.items c.put_message.new.line.items part1 rest1 c.in_ok-put_file.ensures
+    (after c.put_message.result c.put_file.new.line.items c.put_spot_at.new.line.items c.put_message.new.line.items part2 rest2 c.in_ok-put_spot_at.ensures
+    (after c.put_message.result c.put_spot_at.new.line.items c.put.new.line.items c.put_message.new.line.items part3 rest3 c.in_ok-put.ensures
+    (after c.put_message.result c.put.new.line.items c.put_name.new.line.items c.put_message.new.line.items part4 rest4 c.in_ok-put_name.ensures
     (c.put_message.ensures))))

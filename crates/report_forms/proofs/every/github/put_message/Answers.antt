@@ -2,7 +2,7 @@ use Rattle.std.proofs.Common.{ℕ, List, ◌++◌, codes}
 use Rattle.report_forms.specs.Forms.Features.{and_byte, item_text, github_id, github_text, path_at}
 use Rattle.report_forms.specs.Forms.Messages.{and_path}
 use Rattle.geolint_report.specs.Texts.{code_text}
-use Rattle.report_forms.proofs.JoinedElements.{behind}
+use Rattle.geolint_report.proofs.ElementsInTurn.{after}
 use Rattle.report_forms.proofs.every.github.put_message.Goals as goal
 
 pub returns : goal.returns
@@ -22,11 +22,11 @@ returns c =
     let part2 : List ℕ = code_text c.args.entry.now.note.told.code in
     let rest1 : List ℕ = part2 ++ rest2 in
     let part1 : List ℕ = codes "::" in
-    behind c.put-3.result c.args.line.now.items c.put.new.line.items c.put-3.new.line.items part1 rest1 c.in_ok-put.ensures
-    (behind c.put-3.result c.put.new.line.items c.put_text.new.line.items c.put-3.new.line.items part2 rest2 c.in_ok-put_text.ensures
-    (behind c.put-3.result c.put_text.new.line.items c.put-2.new.line.items c.put-3.new.line.items part3 rest3 c.in_ok-put-2.ensures
-    (behind c.put-3.result c.put-2.new.line.items c.put_item.new.line.items c.put-3.new.line.items part4 rest4 c.in_ok-put_item.ensures
-    (behind c.put-3.result c.put_item.new.line.items c.put_id.new.line.items c.put-3.new.line.items part5 rest5 c.in_ok-put_id.ensures
-    (behind c.put-3.result c.put_id.new.line.items c.put_and_byte.new.line.items c.put-3.new.line.items part6 rest6 c.in_ok-put_and_byte.ensures
-    (behind c.put-3.result c.put_and_byte.new.line.items c.put_path_at.new.line.items c.put-3.new.line.items part7 rest7 c.in_ok-put_path_at.ensures
+    after c.put-3.result c.args.line.now.items c.put.new.line.items c.put-3.new.line.items part1 rest1 c.in_ok-put.ensures
+    (after c.put-3.result c.put.new.line.items c.put_text.new.line.items c.put-3.new.line.items part2 rest2 c.in_ok-put_text.ensures
+    (after c.put-3.result c.put_text.new.line.items c.put-2.new.line.items c.put-3.new.line.items part3 rest3 c.in_ok-put-2.ensures
+    (after c.put-3.result c.put-2.new.line.items c.put_item.new.line.items c.put-3.new.line.items part4 rest4 c.in_ok-put_item.ensures
+    (after c.put-3.result c.put_item.new.line.items c.put_id.new.line.items c.put-3.new.line.items part5 rest5 c.in_ok-put_id.ensures
+    (after c.put-3.result c.put_id.new.line.items c.put_and_byte.new.line.items c.put-3.new.line.items part6 rest6 c.in_ok-put_and_byte.ensures
+    (after c.put-3.result c.put_and_byte.new.line.items c.put_path_at.new.line.items c.put-3.new.line.items part7 rest7 c.in_ok-put_path_at.ensures
     (c.put-3.ensures)))))))

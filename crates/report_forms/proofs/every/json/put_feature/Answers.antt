@@ -1,7 +1,7 @@
 use Rattle.std.proofs.Common.{ℕ, List, ◌++◌, codes}
 use Rattle.report_forms.specs.Forms.Features.{feature_members, id_or_null}
 use Rattle.std.specs.Fmt.{decimal}
-use Rattle.report_forms.proofs.JoinedElements.{behind}
+use Rattle.geolint_report.proofs.ElementsInTurn.{after}
 use Rattle.report_forms.proofs.every.json.put_feature.Goals as goal
 
 pub returns : goal.returns
@@ -13,7 +13,7 @@ returns c =
     let part2 : List ℕ = decimal c.args.index in
     let rest1 : List ℕ = part2 ++ rest2 in
     let part1 : List ℕ = codes "\"feature\":" in
-    behind c.put_id.result c.args.line.now.items c.put.new.line.items c.put_id.new.line.items part1 rest1 c.in_ok-put.ensures
-    (behind c.put_id.result c.put.new.line.items c.put_number.new.line.items c.put_id.new.line.items part2 rest2 c.in_ok-put_number.ensures
-    (behind c.put_id.result c.put_number.new.line.items c.put-2.new.line.items c.put_id.new.line.items part3 rest3 c.in_ok-put-2.ensures
+    after c.put_id.result c.args.line.now.items c.put.new.line.items c.put_id.new.line.items part1 rest1 c.in_ok-put.ensures
+    (after c.put_id.result c.put.new.line.items c.put_number.new.line.items c.put_id.new.line.items part2 rest2 c.in_ok-put_number.ensures
+    (after c.put_id.result c.put_number.new.line.items c.put-2.new.line.items c.put_id.new.line.items part3 rest3 c.in_ok-put-2.ensures
     (c.put_id.ensures)))

@@ -1,7 +1,7 @@
 use Rattle.std.proofs.Common.{ℕ, List, ◌++◌, codes}
 use Rattle.report_forms.specs.Forms.Features.{item_members, json_entry, path_at, spot_at}
 use Rattle.report_forms.specs.Forms.Json.{json_told}
-use Rattle.report_forms.proofs.JoinedElements.{behind}
+use Rattle.geolint_report.proofs.ElementsInTurn.{after}
 use Rattle.report_forms.proofs.every.json.put_line.Goals as goal
 
 pub returns : goal.returns
@@ -17,9 +17,9 @@ returns c =
     let part2 : List ℕ = c.args.name.now in
     let rest1 : List ℕ = part2 ++ rest2 in
     let part1 : List ℕ = codes "{\"path\":" in
-    behind c.put-4.result c.args.line.now.items c.put.new.line.items c.put-4.new.line.items part1 rest1 c.in_ok-put.ensures
-    (behind c.put-4.result c.put.new.line.items c.put-2.new.line.items c.put-4.new.line.items part2 rest2 c.in_ok-put-2.ensures
-    (behind c.put-4.result c.put-2.new.line.items c.put-3.new.line.items c.put-4.new.line.items part3 rest3 c.in_ok-put-3.ensures
-    (behind c.put-4.result c.put-3.new.line.items c.put_members.new.line.items c.put-4.new.line.items part4 rest4 c.in_ok-put_members.ensures
-    (behind c.put-4.result c.put_members.new.line.items c.put_placed.new.line.items c.put-4.new.line.items part5 rest5 c.in_ok-put_placed.ensures
+    after c.put-4.result c.args.line.now.items c.put.new.line.items c.put-4.new.line.items part1 rest1 c.in_ok-put.ensures
+    (after c.put-4.result c.put.new.line.items c.put-2.new.line.items c.put-4.new.line.items part2 rest2 c.in_ok-put-2.ensures
+    (after c.put-4.result c.put-2.new.line.items c.put-3.new.line.items c.put-4.new.line.items part3 rest3 c.in_ok-put-3.ensures
+    (after c.put-4.result c.put-3.new.line.items c.put_members.new.line.items c.put-4.new.line.items part4 rest4 c.in_ok-put_members.ensures
+    (after c.put-4.result c.put_members.new.line.items c.put_placed.new.line.items c.put-4.new.line.items part5 rest5 c.in_ok-put_placed.ensures
     (c.put-4.ensures)))))

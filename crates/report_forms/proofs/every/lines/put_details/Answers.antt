@@ -1,7 +1,7 @@
 use Rattle.std.proofs.Common.{ℕ, List, ◌++◌, codes}
 use Rattle.report_forms.specs.Forms.Features.{byte_behind, feature_details, item_text, id_behind, path_at, spot_at}
 use Rattle.report_forms.specs.Forms.Messages.{and_path}
-use Rattle.report_forms.proofs.JoinedElements.{behind}
+use Rattle.geolint_report.proofs.ElementsInTurn.{after}
 use Rattle.report_forms.proofs.every.lines.put_details.Goals as goal
 
 pub returns : goal.returns
@@ -17,9 +17,9 @@ returns c =
     let part2 : List ℕ = item_text c.args.entry.now.note.item in
     let rest1 : List ℕ = part2 ++ rest2 in
     let part1 : List ℕ = codes " (" in
-    behind c.put-2.result c.args.line.now.items c.put.new.line.items c.put-2.new.line.items part1 rest1 c.in_ok-put.ensures
-    (behind c.put-2.result c.put.new.line.items c.put_item.new.line.items c.put-2.new.line.items part2 rest2 c.in_ok-put_item.ensures
-    (behind c.put-2.result c.put_item.new.line.items c.put_id_behind.new.line.items c.put-2.new.line.items part3 rest3 c.in_ok-put_id_behind.ensures
-    (behind c.put-2.result c.put_id_behind.new.line.items c.put_byte_behind.new.line.items c.put-2.new.line.items part4 rest4 c.in_ok-put_byte_behind.ensures
-    (behind c.put-2.result c.put_byte_behind.new.line.items c.put_path_at.new.line.items c.put-2.new.line.items part5 rest5 c.in_ok-put_path_at.ensures
+    after c.put-2.result c.args.line.now.items c.put.new.line.items c.put-2.new.line.items part1 rest1 c.in_ok-put.ensures
+    (after c.put-2.result c.put.new.line.items c.put_item.new.line.items c.put-2.new.line.items part2 rest2 c.in_ok-put_item.ensures
+    (after c.put-2.result c.put_item.new.line.items c.put_id_behind.new.line.items c.put-2.new.line.items part3 rest3 c.in_ok-put_id_behind.ensures
+    (after c.put-2.result c.put_id_behind.new.line.items c.put_byte_behind.new.line.items c.put-2.new.line.items part4 rest4 c.in_ok-put_byte_behind.ensures
+    (after c.put-2.result c.put_byte_behind.new.line.items c.put_path_at.new.line.items c.put-2.new.line.items part5 rest5 c.in_ok-put_path_at.ensures
     (c.put-2.ensures)))))

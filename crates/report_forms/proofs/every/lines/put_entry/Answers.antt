@@ -1,7 +1,7 @@
 use Rattle.std.proofs.Common.{ℕ, List, ◌++◌}
 use Rattle.report_forms.specs.Forms.Features.{feature_details, lines_entry, lines_where, note_part, note_word, spot_at}
 use Rattle.report_forms.specs.Forms.Lines.{beginning, lines_code}
-use Rattle.report_forms.proofs.JoinedElements.{behind}
+use Rattle.geolint_report.proofs.ElementsInTurn.{after}
 use Rattle.report_forms.proofs.every.lines.put_entry.Goals as goal
 
 pub returns : goal.returns
@@ -15,8 +15,8 @@ returns c =
     let part2 : List ℕ = beginning (note_part c.args.entry.now.note.told.code) c.args.style in
     let rest1 : List ℕ = part2 ++ rest2 in
     let part1 : List ℕ = lines_where c.args.style c.args.entry.now.name.now (spot_at c.args.entry.now.mark) in
-    behind c.put_details.result c.args.line.now.items c.put_where.new.line.items c.put_details.new.line.items part1 rest1 c.in_ok-put_where.ensures
-    (behind c.put_details.result c.put_where.new.line.items c.put_begun.new.line.items c.put_details.new.line.items part2 rest2 c.in_ok-put_begun.ensures
-    (behind c.put_details.result c.put_begun.new.line.items c.put_word.new.line.items c.put_details.new.line.items part3 rest3 c.in_ok-put_word.ensures
-    (behind c.put_details.result c.put_word.new.line.items c.put_code.new.line.items c.put_details.new.line.items part4 rest4 c.in_ok-put_code.ensures
+    after c.put_details.result c.args.line.now.items c.put_where.new.line.items c.put_details.new.line.items part1 rest1 c.in_ok-put_where.ensures
+    (after c.put_details.result c.put_where.new.line.items c.put_begun.new.line.items c.put_details.new.line.items part2 rest2 c.in_ok-put_begun.ensures
+    (after c.put_details.result c.put_begun.new.line.items c.put_word.new.line.items c.put_details.new.line.items part3 rest3 c.in_ok-put_word.ensures
+    (after c.put_details.result c.put_word.new.line.items c.put_code.new.line.items c.put_details.new.line.items part4 rest4 c.in_ok-put_code.ensures
     (c.put_details.ensures))))

@@ -1,7 +1,7 @@
 use Rattle.std.proofs.Common.{ℕ, List, ◌++◌, codes}
 use Rattle.report_forms.specs.Forms.Features.{item_text, sarif_text}
 use Rattle.geolint_report.specs.Texts.{code_text}
-use Rattle.report_forms.proofs.JoinedElements.{behind}
+use Rattle.geolint_report.proofs.ElementsInTurn.{after}
 use Rattle.report_forms.proofs.every.sarif.put_message.Goals as goal
 
 pub returns : goal.returns
@@ -13,7 +13,7 @@ returns c =
     let part2 : List ℕ = codes ", " in
     let rest1 : List ℕ = part2 ++ rest2 in
     let part1 : List ℕ = code_text c.args.entry.now.note.told.code in
-    behind c.put-2.result c.args.line.now.items c.put_text.new.line.items c.put-2.new.line.items part1 rest1 c.in_ok-put_text.ensures
-    (behind c.put-2.result c.put_text.new.line.items c.put.new.line.items c.put-2.new.line.items part2 rest2 c.in_ok-put.ensures
-    (behind c.put-2.result c.put.new.line.items c.put_item.new.line.items c.put-2.new.line.items part3 rest3 c.in_ok-put_item.ensures
+    after c.put-2.result c.args.line.now.items c.put_text.new.line.items c.put-2.new.line.items part1 rest1 c.in_ok-put_text.ensures
+    (after c.put-2.result c.put_text.new.line.items c.put.new.line.items c.put-2.new.line.items part2 rest2 c.in_ok-put.ensures
+    (after c.put-2.result c.put.new.line.items c.put_item.new.line.items c.put-2.new.line.items part3 rest3 c.in_ok-put_item.ensures
     (c.put-2.ensures)))

@@ -1,7 +1,7 @@
 use Rattle.std.proofs.Common.{ℕ, List, ◌++◌, codes}
 use Rattle.report_forms.specs.Forms.Features.{and_more, sarif_more}
 use Rattle.report_forms.specs.Forms.Sarif.{location}
-use Rattle.report_forms.proofs.JoinedElements.{behind}
+use Rattle.geolint_report.proofs.ElementsInTurn.{after}
 use Rattle.report_forms.proofs.every.sarif.put_more.Goals as goal
 
 pub returns : goal.returns
@@ -15,8 +15,8 @@ returns c =
     let part2 : List ℕ = and_more c.args.count in
     let rest1 : List ℕ = part2 ++ rest2 in
     let part1 : List ℕ = codes "{\"level\":\"note\",\"message\":{\"text\":\"" in
-    behind c.put-3.result c.args.line.now.items c.put.new.line.items c.put-3.new.line.items part1 rest1 c.in_ok-put.ensures
-    (behind c.put-3.result c.put.new.line.items c.put_and_more.new.line.items c.put-3.new.line.items part2 rest2 c.in_ok-put_and_more.ensures
-    (behind c.put-3.result c.put_and_more.new.line.items c.put-2.new.line.items c.put-3.new.line.items part3 rest3 c.in_ok-put-2.ensures
-    (behind c.put-3.result c.put-2.new.line.items c.put_location.new.line.items c.put-3.new.line.items part4 rest4 c.in_ok-put_location.ensures
+    after c.put-3.result c.args.line.now.items c.put.new.line.items c.put-3.new.line.items part1 rest1 c.in_ok-put.ensures
+    (after c.put-3.result c.put.new.line.items c.put_and_more.new.line.items c.put-3.new.line.items part2 rest2 c.in_ok-put_and_more.ensures
+    (after c.put-3.result c.put_and_more.new.line.items c.put-2.new.line.items c.put-3.new.line.items part3 rest3 c.in_ok-put-2.ensures
+    (after c.put-3.result c.put-2.new.line.items c.put_location.new.line.items c.put-3.new.line.items part4 rest4 c.in_ok-put_location.ensures
     (c.put-3.ensures))))

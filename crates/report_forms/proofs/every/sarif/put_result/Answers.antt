@@ -1,7 +1,7 @@
 use Rattle.std.proofs.Common.{ℕ, List, ◌++◌, codes}
 use Rattle.geolint_report.specs.Texts.{code_name}
 use Rattle.report_forms.specs.Forms.Features.{sarif_entry, sarif_place, sarif_properties, sarif_text}
-use Rattle.report_forms.proofs.JoinedElements.{behind}
+use Rattle.geolint_report.proofs.ElementsInTurn.{after}
 use Rattle.report_forms.proofs.every.sarif.put_result.Goals as goal
 
 pub returns : goal.returns
@@ -21,12 +21,12 @@ returns c =
     let part2 : List ℕ = code_name c.args.entry.now.note.told.code in
     let rest1 : List ℕ = part2 ++ rest2 in
     let part1 : List ℕ = codes "{\"ruleId\":\"" in
-    behind c.put_properties.result c.args.line.now.items c.put.new.line.items c.put_properties.new.line.items part1 rest1 c.in_ok-put.ensures
-    (behind c.put_properties.result c.put.new.line.items c.put_name.new.line.items c.put_properties.new.line.items part2 rest2 c.in_ok-put_name.ensures
-    (behind c.put_properties.result c.put_name.new.line.items c.put-2.new.line.items c.put_properties.new.line.items part3 rest3 c.in_ok-put-2.ensures
-    (behind c.put_properties.result c.put-2.new.line.items c.put-3.new.line.items c.put_properties.new.line.items part4 rest4 c.in_ok-put-3.ensures
-    (behind c.put_properties.result c.put-3.new.line.items c.put-4.new.line.items c.put_properties.new.line.items part5 rest5 c.in_ok-put-4.ensures
-    (behind c.put_properties.result c.put-4.new.line.items c.put_message.new.line.items c.put_properties.new.line.items part6 rest6 c.in_ok-put_message.ensures
-    (behind c.put_properties.result c.put_message.new.line.items c.put_place.new.line.items c.put_properties.new.line.items part7 rest7
+    after c.put_properties.result c.args.line.now.items c.put.new.line.items c.put_properties.new.line.items part1 rest1 c.in_ok-put.ensures
+    (after c.put_properties.result c.put.new.line.items c.put_name.new.line.items c.put_properties.new.line.items part2 rest2 c.in_ok-put_name.ensures
+    (after c.put_properties.result c.put_name.new.line.items c.put-2.new.line.items c.put_properties.new.line.items part3 rest3 c.in_ok-put-2.ensures
+    (after c.put_properties.result c.put-2.new.line.items c.put-3.new.line.items c.put_properties.new.line.items part4 rest4 c.in_ok-put-3.ensures
+    (after c.put_properties.result c.put-3.new.line.items c.put-4.new.line.items c.put_properties.new.line.items part5 rest5 c.in_ok-put-4.ensures
+    (after c.put_properties.result c.put-4.new.line.items c.put_message.new.line.items c.put_properties.new.line.items part6 rest6 c.in_ok-put_message.ensures
+    (after c.put_properties.result c.put_message.new.line.items c.put_place.new.line.items c.put_properties.new.line.items part7 rest7
     c.in_ok-put_place.ensures
     (c.put_properties.ensures)))))))

@@ -1,7 +1,7 @@
 use Rattle.std.proofs.Common.{ℕ, List, ◌++◌, codes}
 use Rattle.report_forms.specs.Forms.Features.{item_text, id_behind, note_word, text_entry, text_place}
 use Rattle.geolint_report.specs.Texts.{code_name, code_text}
-use Rattle.report_forms.proofs.JoinedElements.{behind}
+use Rattle.geolint_report.proofs.ElementsInTurn.{after}
 use Rattle.report_forms.proofs.every.text.put_entry.Goals as goal
 
 pub returns : goal.returns
@@ -23,12 +23,12 @@ returns c =
     let part2 : List ℕ = id_behind (codes " id ") c.args.entry.now.id.now in
     let rest1 : List ℕ = part2 ++ rest2 in
     let part1 : List ℕ = item_text c.args.entry.now.note.item in
-    behind c.put-3.result c.args.line.now.items c.put_item.new.line.items c.put-3.new.line.items part1 rest1 c.in_ok-put_item.ensures
-    (behind c.put-3.result c.put_item.new.line.items c.put_id_behind.new.line.items c.put-3.new.line.items part2 rest2 c.in_ok-put_id_behind.ensures
-    (behind c.put-3.result c.put_id_behind.new.line.items c.put.new.line.items c.put-3.new.line.items part3 rest3 c.in_ok-put.ensures
-    (behind c.put-3.result c.put.new.line.items c.put_word.new.line.items c.put-3.new.line.items part4 rest4 c.in_ok-put_word.ensures
-    (behind c.put-3.result c.put_word.new.line.items c.put-2.new.line.items c.put-3.new.line.items part5 rest5 c.in_ok-put-2.ensures
-    (behind c.put-3.result c.put-2.new.line.items c.put_name.new.line.items c.put-3.new.line.items part6 rest6 c.in_ok-put_name.ensures
-    (behind c.put-3.result c.put_name.new.line.items c.put_place.new.line.items c.put-3.new.line.items part7 rest7 c.in_ok-put_place.ensures
-    (behind c.put-3.result c.put_place.new.line.items c.put_text.new.line.items c.put-3.new.line.items part8 rest8 c.in_ok-put_text.ensures
+    after c.put-3.result c.args.line.now.items c.put_item.new.line.items c.put-3.new.line.items part1 rest1 c.in_ok-put_item.ensures
+    (after c.put-3.result c.put_item.new.line.items c.put_id_behind.new.line.items c.put-3.new.line.items part2 rest2 c.in_ok-put_id_behind.ensures
+    (after c.put-3.result c.put_id_behind.new.line.items c.put.new.line.items c.put-3.new.line.items part3 rest3 c.in_ok-put.ensures
+    (after c.put-3.result c.put.new.line.items c.put_word.new.line.items c.put-3.new.line.items part4 rest4 c.in_ok-put_word.ensures
+    (after c.put-3.result c.put_word.new.line.items c.put-2.new.line.items c.put-3.new.line.items part5 rest5 c.in_ok-put-2.ensures
+    (after c.put-3.result c.put-2.new.line.items c.put_name.new.line.items c.put-3.new.line.items part6 rest6 c.in_ok-put_name.ensures
+    (after c.put-3.result c.put_name.new.line.items c.put_place.new.line.items c.put-3.new.line.items part7 rest7 c.in_ok-put_place.ensures
+    (after c.put-3.result c.put_place.new.line.items c.put_text.new.line.items c.put-3.new.line.items part8 rest8 c.in_ok-put_text.ensures
     (c.put-3.ensures))))))))

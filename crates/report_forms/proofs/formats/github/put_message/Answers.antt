@@ -7,7 +7,7 @@ use Rattle.geolint_report.specs.Report.{path_of}
 use Rattle.geolint_report.specs.Texts.{code_text}
 use Rattle.report_forms.specs.Forms.Github.{github_mark, github_message}
 use Rattle.report_forms.specs.Forms.Messages.{and_record, and_times, and_path}
-use Rattle.report_forms.proofs.JoinedElements.{behind}
+use Rattle.geolint_report.proofs.ElementsInTurn.{after}
 use Rattle.report_forms.proofs.formats.github.put_message.Goals as goal
 
 pub returns : goal.returns
@@ -27,15 +27,15 @@ returns c =
     let part2 : List ℕ = code_text c.args.told.now.code in
     let rest1 : List ℕ = part2 ++ rest2 in
     let part1 : List ℕ = github_mark c.args.told.now.code in
-    behind c.put-3.result c.args.line.now.items c.put.new.line.items c.put-3.new.line.items part1 rest1
+    after c.put-3.result c.args.line.now.items c.put.new.line.items c.put-3.new.line.items part1 rest1
     (c.in_ok-put.ensures ∙ ap (λ (ys : List ℕ). c.args.line.now.items ++ ys) (c.mark.ensures))
-    (behind c.put-3.result c.put.new.line.items c.put_text.new.line.items c.put-3.new.line.items part2 rest2 c.in_ok-put_text.ensures
-    (behind c.put-3.result c.put_text.new.line.items c.put_and_record.new.line.items c.put-3.new.line.items part3 rest3
+    (after c.put-3.result c.put.new.line.items c.put_text.new.line.items c.put-3.new.line.items part2 rest2 c.in_ok-put_text.ensures
+    (after c.put-3.result c.put_text.new.line.items c.put_and_record.new.line.items c.put-3.new.line.items part3 rest3
     (c.in_ok-put_and_record.ensures
     ∙ ap (λ (ys : List ℕ). c.put_text.new.line.items ++ ys) (ap (λ (number : Option ℕ). and_record number) c.record.ensures))
-    (behind c.put-3.result c.put_and_record.new.line.items c.put_and_times.new.line.items c.put-3.new.line.items part4 rest4 c.in_ok-put_and_times.ensures
-    (behind c.put-3.result c.put_and_times.new.line.items c.put-2.new.line.items c.put-3.new.line.items part5 rest5 c.in_ok-put-2.ensures
-    (behind c.put-3.result c.put-2.new.line.items c.put_number.new.line.items c.put-3.new.line.items part6 rest6 c.in_ok-put_number.ensures
-    (behind c.put-3.result c.put_number.new.line.items c.put_and_path.new.line.items c.put-3.new.line.items part7 rest7
+    (after c.put-3.result c.put_and_record.new.line.items c.put_and_times.new.line.items c.put-3.new.line.items part4 rest4 c.in_ok-put_and_times.ensures
+    (after c.put-3.result c.put_and_times.new.line.items c.put-2.new.line.items c.put-3.new.line.items part5 rest5 c.in_ok-put-2.ensures
+    (after c.put-3.result c.put-2.new.line.items c.put_number.new.line.items c.put-3.new.line.items part6 rest6 c.in_ok-put_number.ensures
+    (after c.put-3.result c.put_number.new.line.items c.put_and_path.new.line.items c.put-3.new.line.items part7 rest7
     (c.in_ok-put_and_path.ensures ∙ ap (λ (ys : List ℕ). c.put_number.new.line.items ++ ys) (ap (λ (path : Option Path). and_path path) c.path.ensures))
     (c.put-3.ensures)))))))

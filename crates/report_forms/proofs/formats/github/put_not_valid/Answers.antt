@@ -1,6 +1,6 @@
 use Rattle.std.proofs.Common.{ℕ, List, codes}
 use Rattle.report_forms.specs.Forms.Github.{github_file, github_not_valid}
-use Rattle.report_forms.proofs.JoinedElements.{behind}
+use Rattle.geolint_report.proofs.ElementsInTurn.{after}
 use Rattle.report_forms.proofs.formats.github.put_not_valid.Goals as goal
 
 pub returns : goal.returns
@@ -8,5 +8,5 @@ unfolding github_not_valid
 returns c =
     let rest1 : List ℕ = codes "::not valid\n" in
     let part1 : List ℕ = github_file (codes "error") c.args.name.now in
-    behind c.put.result c.args.line.now.items c.put_file.new.line.items c.put.new.line.items part1 rest1 c.in_ok-put_file.ensures
+    after c.put.result c.args.line.now.items c.put_file.new.line.items c.put.new.line.items part1 rest1 c.in_ok-put_file.ensures
     (c.put.ensures)

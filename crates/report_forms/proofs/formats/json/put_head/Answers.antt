@@ -2,7 +2,7 @@ use Rattle.std.proofs.Common.{ℕ, List, ◌++◌, codes}
 use Rattle.geolint_report.specs.Finding.{word_of, record_of, records_of}
 use Rattle.geolint_report.specs.Line.{optional_number, truth}
 use Rattle.report_forms.specs.Forms.Json.{json_head}
-use Rattle.report_forms.proofs.JoinedElements.{behind}
+use Rattle.geolint_report.proofs.ElementsInTurn.{after}
 use Rattle.report_forms.proofs.formats.json.put_head.Goals as goal
 
 pub returns : goal.returns
@@ -26,13 +26,13 @@ returns c =
     let part2 : List ℕ = c.args.name.now in
     let rest2 : List ℕ = part2 ++ rest3 in
     let part1 : List ℕ = codes "{\"path\":" in
-    behind c.put_records.result c.args.line.now.items c.put.new.line.items c.put_records.new.line.items part1 rest2 c.in_ok-put.ensures
-    (behind c.put_records.result c.put.new.line.items c.put-2.new.line.items c.put_records.new.line.items part2 rest3 c.in_ok-put-2.ensures
-    (behind c.put_records.result c.put-2.new.line.items c.put-3.new.line.items c.put_records.new.line.items part3 rest4 c.in_ok-put-3.ensures
-    (behind c.put_records.result c.put-3.new.line.items c.put_word.new.line.items c.put_records.new.line.items part4 rest5 c.in_ok-put_word.ensures
-    (behind c.put_records.result c.put_word.new.line.items c.put-4.new.line.items c.put_records.new.line.items part5 rest6 c.in_ok-put-4.ensures
-    (behind c.put_records.result c.put-4.new.line.items c.put_truth.new.line.items c.put_records.new.line.items part6 rest7 c.in_ok-put_truth.ensures
-    (behind c.put_records.result c.put_truth.new.line.items c.put-5.new.line.items c.put_records.new.line.items part7 rest8 c.in_ok-put-5.ensures
-    (behind c.put_records.result c.put-5.new.line.items c.put_record.new.line.items c.put_records.new.line.items part8 rest9 c.in_ok-put_record.ensures
-    (behind c.put_records.result c.put_record.new.line.items c.put-6.new.line.items c.put_records.new.line.items part9 rest10 c.in_ok-put-6.ensures
+    after c.put_records.result c.args.line.now.items c.put.new.line.items c.put_records.new.line.items part1 rest2 c.in_ok-put.ensures
+    (after c.put_records.result c.put.new.line.items c.put-2.new.line.items c.put_records.new.line.items part2 rest3 c.in_ok-put-2.ensures
+    (after c.put_records.result c.put-2.new.line.items c.put-3.new.line.items c.put_records.new.line.items part3 rest4 c.in_ok-put-3.ensures
+    (after c.put_records.result c.put-3.new.line.items c.put_word.new.line.items c.put_records.new.line.items part4 rest5 c.in_ok-put_word.ensures
+    (after c.put_records.result c.put_word.new.line.items c.put-4.new.line.items c.put_records.new.line.items part5 rest6 c.in_ok-put-4.ensures
+    (after c.put_records.result c.put-4.new.line.items c.put_truth.new.line.items c.put_records.new.line.items part6 rest7 c.in_ok-put_truth.ensures
+    (after c.put_records.result c.put_truth.new.line.items c.put-5.new.line.items c.put_records.new.line.items part7 rest8 c.in_ok-put-5.ensures
+    (after c.put_records.result c.put-5.new.line.items c.put_record.new.line.items c.put_records.new.line.items part8 rest9 c.in_ok-put_record.ensures
+    (after c.put_records.result c.put_record.new.line.items c.put-6.new.line.items c.put_records.new.line.items part9 rest10 c.in_ok-put-6.ensures
     (c.put_records.ensures)))))))))

@@ -2,7 +2,7 @@ use Rattle.std.proofs.Common.{ℕ, List, ◌++◌, codes}
 use Rattle.std.proofs.lemmas.Result.{on_ok_weaker}
 use Rattle.geolint_report.specs.Finding.{fault_of, warnings_of}
 use Rattle.report_forms.specs.Forms.Json.{json_head, json_fault, json_hint, json_warnings_of, json_line}
-use Rattle.report_forms.proofs.JoinedElements.{behind}
+use Rattle.geolint_report.proofs.ElementsInTurn.{after}
 use Rattle.report_forms.proofs.formats.json.put_line.Goals as goal
 
 pub returns : goal.returns
@@ -21,10 +21,10 @@ returns c =
     let rest1 : List ℕ = part2 ++ rest2 in
     let part1 : List ℕ = json_head c.args.name.now c.args.report.now.finding c.args.report.now.passes in
     on_ok_weaker c.put-2.result (λ adds. (found, is_found, adds))
-    (behind c.put-2.result c.args.line.now.items c.put_head.new.line.items c.put-2.new.line.items part1 rest1 c.in_ok-put_head.ensures
-    (behind c.put-2.result c.put_head.new.line.items c.put_fault.new.line.items c.put-2.new.line.items part2 rest2 c.in_ok-put_fault.ensures
-    (behind c.put-2.result c.put_fault.new.line.items c.put_found.new.line.items c.put-2.new.line.items found rest3 added
-    (behind c.put-2.result c.put_found.new.line.items c.put_hint.new.line.items c.put-2.new.line.items part4 rest4 c.in_ok-put_hint.ensures
-    (behind c.put-2.result c.put_hint.new.line.items c.put.new.line.items c.put-2.new.line.items part5 rest5 c.in_ok-put.ensures
-    (behind c.put-2.result c.put.new.line.items c.put_all_warnings.new.line.items c.put-2.new.line.items part6 rest6 c.in_ok-put_all_warnings.ensures
+    (after c.put-2.result c.args.line.now.items c.put_head.new.line.items c.put-2.new.line.items part1 rest1 c.in_ok-put_head.ensures
+    (after c.put-2.result c.put_head.new.line.items c.put_fault.new.line.items c.put-2.new.line.items part2 rest2 c.in_ok-put_fault.ensures
+    (after c.put-2.result c.put_fault.new.line.items c.put_found.new.line.items c.put-2.new.line.items found rest3 added
+    (after c.put-2.result c.put_found.new.line.items c.put_hint.new.line.items c.put-2.new.line.items part4 rest4 c.in_ok-put_hint.ensures
+    (after c.put-2.result c.put_hint.new.line.items c.put.new.line.items c.put-2.new.line.items part5 rest5 c.in_ok-put.ensures
+    (after c.put-2.result c.put.new.line.items c.put_all_warnings.new.line.items c.put-2.new.line.items part6 rest6 c.in_ok-put_all_warnings.ensures
     (c.put-2.ensures)))))))

@@ -2,7 +2,7 @@ use Rattle.std.proofs.Common.{ℕ, List, ◌++◌, codes}
 use Rattle.std.specs.Fmt.{decimal}
 use Rattle.geolint_report.specs.Texts.{code_name, code_text}
 use Rattle.report_forms.specs.Forms.Json.{json_told, json_spot, json_path}
-use Rattle.report_forms.proofs.JoinedElements.{behind}
+use Rattle.geolint_report.proofs.ElementsInTurn.{after}
 use Rattle.report_forms.proofs.formats.json.put_told.Goals as goal
 
 pub returns : goal.returns
@@ -22,11 +22,11 @@ returns c =
     let part2 : List ℕ = code_name c.args.told.now.code in
     let rest2 : List ℕ = part2 ++ rest3 in
     let part1 : List ℕ = codes ",\"rule\":\"" in
-    behind c.put_path_member.result c.args.line.now.items c.put.new.line.items c.put_path_member.new.line.items part1 rest2 c.in_ok-put.ensures
-    (behind c.put_path_member.result c.put.new.line.items c.put_name.new.line.items c.put_path_member.new.line.items part2 rest3 c.in_ok-put_name.ensures
-    (behind c.put_path_member.result c.put_name.new.line.items c.put-2.new.line.items c.put_path_member.new.line.items part3 rest4 c.in_ok-put-2.ensures
-    (behind c.put_path_member.result c.put-2.new.line.items c.put_text.new.line.items c.put_path_member.new.line.items part4 rest5 c.in_ok-put_text.ensures
-    (behind c.put_path_member.result c.put_text.new.line.items c.put-3.new.line.items c.put_path_member.new.line.items part5 rest6 c.in_ok-put-3.ensures
-    (behind c.put_path_member.result c.put-3.new.line.items c.put_number.new.line.items c.put_path_member.new.line.items part6 rest7 c.in_ok-put_number.ensures
-    (behind c.put_path_member.result c.put_number.new.line.items c.put_spot.new.line.items c.put_path_member.new.line.items part7 rest8 c.in_ok-put_spot.ensures
+    after c.put_path_member.result c.args.line.now.items c.put.new.line.items c.put_path_member.new.line.items part1 rest2 c.in_ok-put.ensures
+    (after c.put_path_member.result c.put.new.line.items c.put_name.new.line.items c.put_path_member.new.line.items part2 rest3 c.in_ok-put_name.ensures
+    (after c.put_path_member.result c.put_name.new.line.items c.put-2.new.line.items c.put_path_member.new.line.items part3 rest4 c.in_ok-put-2.ensures
+    (after c.put_path_member.result c.put-2.new.line.items c.put_text.new.line.items c.put_path_member.new.line.items part4 rest5 c.in_ok-put_text.ensures
+    (after c.put_path_member.result c.put_text.new.line.items c.put-3.new.line.items c.put_path_member.new.line.items part5 rest6 c.in_ok-put-3.ensures
+    (after c.put_path_member.result c.put-3.new.line.items c.put_number.new.line.items c.put_path_member.new.line.items part6 rest7 c.in_ok-put_number.ensures
+    (after c.put_path_member.result c.put_number.new.line.items c.put_spot.new.line.items c.put_path_member.new.line.items part7 rest8 c.in_ok-put_spot.ensures
     (c.put_path_member.ensures)))))))

@@ -1,7 +1,7 @@
 use Rattle.std.proofs.Common.{ℕ, List, ◌++◌, codes}
 use Rattle.geolint_report.specs.Texts.{code_name, code_text}
 use Rattle.report_forms.specs.Forms.Lines.{ending, lines_code}
-use Rattle.report_forms.proofs.JoinedElements.{behind}
+use Rattle.geolint_report.proofs.ElementsInTurn.{after}
 use Rattle.report_forms.proofs.formats.lines.put_code.Goals as goal
 
 pub returns : goal.returns
@@ -15,8 +15,8 @@ returns c =
     let part2 : List ℕ = code_name c.args.code in
     let rest1 : List ℕ = part2 ++ rest2 in
     let part1 : List ℕ = codes " " in
-    behind c.put_text.result c.args.line.now.items c.put.new.line.items c.put_text.new.line.items part1 rest1 c.in_ok-put.ensures
-    (behind c.put_text.result c.put.new.line.items c.put_name.new.line.items c.put_text.new.line.items part2 rest2 c.in_ok-put_name.ensures
-    (behind c.put_text.result c.put_name.new.line.items c.put_ending.new.line.items c.put_text.new.line.items part3 rest3 c.in_ok-put_ending.ensures
-    (behind c.put_text.result c.put_ending.new.line.items c.put-2.new.line.items c.put_text.new.line.items part4 rest4 c.in_ok-put-2.ensures
+    after c.put_text.result c.args.line.now.items c.put.new.line.items c.put_text.new.line.items part1 rest1 c.in_ok-put.ensures
+    (after c.put_text.result c.put.new.line.items c.put_name.new.line.items c.put_text.new.line.items part2 rest2 c.in_ok-put_name.ensures
+    (after c.put_text.result c.put_name.new.line.items c.put_ending.new.line.items c.put_text.new.line.items part3 rest3 c.in_ok-put_ending.ensures
+    (after c.put_text.result c.put_ending.new.line.items c.put-2.new.line.items c.put_text.new.line.items part4 rest4 c.in_ok-put-2.ensures
     (c.put_text.ensures))))

@@ -3,7 +3,7 @@ use Rattle.std.specs.Prelude.{OnOk}
 use Rattle.report_forms.specs.Forms.Lines.{record_detail, times_detail, byte_detail, path_detail, details, in_parentheses}
 use Rattle.report_forms.specs.Internal.WrittenDetails.{next_details, end}
 use Rattle.report_forms.proofs.DetailsInParentheses.{four_details}
-use Rattle.report_forms.proofs.JoinedElements.{behind}
+use Rattle.geolint_report.proofs.ElementsInTurn.{after}
 use Rattle.report_forms.proofs.formats.lines.put_details.Goals as goal
 
 pub returns : goal.returns
@@ -28,8 +28,8 @@ returns c =
     let part1 : List ℕ = next_details false records in
     subst (λ (ys : List ℕ). OnOk c.put_end.result (c.put_end.new.line.items ≡ start ++ ys))
     (sym all ∙ ap (λ (items : List (List ℕ)). in_parentheses items) same)
-    (behind c.put_end.result start c.put_record.new.line.items c.put_end.new.line.items part1 rest1 c.in_ok-with_record.ensures.bytes
-    (behind c.put_end.result c.put_record.new.line.items c.put_times.new.line.items c.put_end.new.line.items part2 rest2 c.in_ok-with_times.ensures.bytes
-    (behind c.put_end.result c.put_times.new.line.items c.put_byte.new.line.items c.put_end.new.line.items part3 rest3 c.in_ok-with_byte.ensures.bytes
-    (behind c.put_end.result c.put_byte.new.line.items c.put_path_of.new.line.items c.put_end.new.line.items part4 rest4 c.in_ok-with_path.ensures.bytes
+    (after c.put_end.result start c.put_record.new.line.items c.put_end.new.line.items part1 rest1 c.in_ok-with_record.ensures.bytes
+    (after c.put_end.result c.put_record.new.line.items c.put_times.new.line.items c.put_end.new.line.items part2 rest2 c.in_ok-with_times.ensures.bytes
+    (after c.put_end.result c.put_times.new.line.items c.put_byte.new.line.items c.put_end.new.line.items part3 rest3 c.in_ok-with_byte.ensures.bytes
+    (after c.put_end.result c.put_byte.new.line.items c.put_path_of.new.line.items c.put_end.new.line.items part4 rest4 c.in_ok-with_path.ensures.bytes
     c.put_end.ensures))))

@@ -1,6 +1,6 @@
 use Rattle.std.proofs.Common.{ℕ, List, ◌++◌, codes}
 use Rattle.report_forms.specs.Forms.Lines.{beginning, details, in_parentheses, lines_place, lines_code, lines_line}
-use Rattle.report_forms.proofs.JoinedElements.{behind}
+use Rattle.geolint_report.proofs.ElementsInTurn.{after}
 use Rattle.report_forms.proofs.formats.lines.put_line.Goals as goal
 
 pub returns : goal.returns
@@ -16,9 +16,9 @@ returns c =
     let part2 : List ℕ = beginning c.args.part c.args.style in
     let rest1 : List ℕ = part2 ++ rest2 in
     let part1 : List ℕ = lines_place c.args.style c.args.report.now c.args.told.now.place in
-    behind c.put-2.result c.args.line.now.items c.put_place.new.line.items c.put-2.new.line.items part1 rest1 c.in_ok-put_place.ensures
-    (behind c.put-2.result c.put_place.new.line.items c.put_beginning.new.line.items c.put-2.new.line.items part2 rest2 c.in_ok-put_beginning.ensures
-    (behind c.put-2.result c.put_beginning.new.line.items c.put.new.line.items c.put-2.new.line.items part3 rest3 c.in_ok-put.ensures
-    (behind c.put-2.result c.put.new.line.items c.put_code.new.line.items c.put-2.new.line.items part4 rest4 c.in_ok-put_code.ensures
-    (behind c.put-2.result c.put_code.new.line.items c.put_details.new.line.items c.put-2.new.line.items part5 rest5 c.in_ok-put_details.ensures
+    after c.put-2.result c.args.line.now.items c.put_place.new.line.items c.put-2.new.line.items part1 rest1 c.in_ok-put_place.ensures
+    (after c.put-2.result c.put_place.new.line.items c.put_beginning.new.line.items c.put-2.new.line.items part2 rest2 c.in_ok-put_beginning.ensures
+    (after c.put-2.result c.put_beginning.new.line.items c.put.new.line.items c.put-2.new.line.items part3 rest3 c.in_ok-put.ensures
+    (after c.put-2.result c.put.new.line.items c.put_code.new.line.items c.put-2.new.line.items part4 rest4 c.in_ok-put_code.ensures
+    (after c.put-2.result c.put_code.new.line.items c.put_details.new.line.items c.put-2.new.line.items part5 rest5 c.in_ok-put_details.ensures
     (c.put-2.ensures)))))

@@ -2,7 +2,7 @@ use Rattle.std.proofs.Common.{ℕ, List, ◌++◌, codes}
 use Rattle.std.specs.Prelude.{replicate}
 use Rattle.report_forms.specs.declared.formats.lines.Part.{Part}
 use Rattle.report_forms.specs.Forms.Lines.{beginning, ending, lines_excerpt}
-use Rattle.report_forms.proofs.JoinedElements.{behind}
+use Rattle.geolint_report.proofs.ElementsInTurn.{after}
 use Rattle.report_forms.proofs.formats.lines.put_shown.Goals as goal
 
 pub returns : goal.returns
@@ -22,11 +22,11 @@ returns c =
     let part2 : List ℕ = c.args.text.now in
     let rest1 : List ℕ = part2 ++ rest2 in
     let part1 : List ℕ = codes "    " in
-    behind c.put-5.result c.args.line.now.items c.put.new.line.items c.put-5.new.line.items part1 rest1 c.in_ok-put.ensures
-    (behind c.put-5.result c.put.new.line.items c.put-2.new.line.items c.put-5.new.line.items part2 rest2 c.in_ok-put-2.ensures
-    (behind c.put-5.result c.put-2.new.line.items c.put-3.new.line.items c.put-5.new.line.items part3 rest3 c.in_ok-put-3.ensures
-    (behind c.put-5.result c.put-3.new.line.items c.put_spaces.new.line.items c.put-5.new.line.items part4 rest4 c.in_ok-put_spaces.ensures
-    (behind c.put-5.result c.put_spaces.new.line.items c.put_beginning.new.line.items c.put-5.new.line.items part5 rest5 c.in_ok-put_beginning.ensures
-    (behind c.put-5.result c.put_beginning.new.line.items c.put-4.new.line.items c.put-5.new.line.items part6 rest6 c.in_ok-put-4.ensures
-    (behind c.put-5.result c.put-4.new.line.items c.put_ending.new.line.items c.put-5.new.line.items part7 rest7 c.in_ok-put_ending.ensures
+    after c.put-5.result c.args.line.now.items c.put.new.line.items c.put-5.new.line.items part1 rest1 c.in_ok-put.ensures
+    (after c.put-5.result c.put.new.line.items c.put-2.new.line.items c.put-5.new.line.items part2 rest2 c.in_ok-put-2.ensures
+    (after c.put-5.result c.put-2.new.line.items c.put-3.new.line.items c.put-5.new.line.items part3 rest3 c.in_ok-put-3.ensures
+    (after c.put-5.result c.put-3.new.line.items c.put_spaces.new.line.items c.put-5.new.line.items part4 rest4 c.in_ok-put_spaces.ensures
+    (after c.put-5.result c.put_spaces.new.line.items c.put_beginning.new.line.items c.put-5.new.line.items part5 rest5 c.in_ok-put_beginning.ensures
+    (after c.put-5.result c.put_beginning.new.line.items c.put-4.new.line.items c.put-5.new.line.items part6 rest6 c.in_ok-put-4.ensures
+    (after c.put-5.result c.put-4.new.line.items c.put_ending.new.line.items c.put-5.new.line.items part7 rest7 c.in_ok-put_ending.ensures
     (c.put-5.ensures)))))))

@@ -1,7 +1,7 @@
 use Rattle.std.proofs.Common.{ℕ, List, ◌++◌, codes}
 use Rattle.geolint_report.specs.Texts.{code_name}
 use Rattle.report_forms.specs.Forms.Sarif.{explained, name_and_text}
-use Rattle.report_forms.proofs.JoinedElements.{behind}
+use Rattle.geolint_report.proofs.ElementsInTurn.{after}
 use Rattle.report_forms.proofs.formats.sarif.put_explained.Goals as goal
 
 pub returns : goal.returns
@@ -13,7 +13,7 @@ returns c =
     let part2 : List ℕ = codes " (geolint-files --explain " in
     let rest1 : List ℕ = part2 ++ rest2 in
     let part1 : List ℕ = name_and_text c.args.code in
-    behind c.put-2.result c.args.line.now.items c.put_name_and_text.new.line.items c.put-2.new.line.items part1 rest1 c.in_ok-put_name_and_text.ensures
-    (behind c.put-2.result c.put_name_and_text.new.line.items c.put.new.line.items c.put-2.new.line.items part2 rest2 c.in_ok-put.ensures
-    (behind c.put-2.result c.put.new.line.items c.put_name.new.line.items c.put-2.new.line.items part3 rest3 c.in_ok-put_name.ensures
+    after c.put-2.result c.args.line.now.items c.put_name_and_text.new.line.items c.put-2.new.line.items part1 rest1 c.in_ok-put_name_and_text.ensures
+    (after c.put-2.result c.put_name_and_text.new.line.items c.put.new.line.items c.put-2.new.line.items part2 rest2 c.in_ok-put.ensures
+    (after c.put-2.result c.put.new.line.items c.put_name.new.line.items c.put-2.new.line.items part3 rest3 c.in_ok-put_name.ensures
     (c.put-2.ensures)))

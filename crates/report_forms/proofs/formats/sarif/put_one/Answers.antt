@@ -3,7 +3,7 @@ use Rattle.std.specs.Prelude.{Option}
 use Rattle.gj_json.specs.declared.path.Path.{Path}
 use Rattle.geolint_report.specs.Report.{path_of}
 use Rattle.report_forms.specs.Forms.Sarif.{id_of, sarif_message, location, region, region_if, logical_location_of, sarif_result}
-use Rattle.report_forms.proofs.JoinedElements.{behind}
+use Rattle.geolint_report.proofs.ElementsInTurn.{after}
 use Rattle.report_forms.proofs.formats.sarif.put_one.Goals as goal
 
 pub returns : goal.returns
@@ -31,17 +31,17 @@ returns c =
     let part2 : List ℕ = id_of c.args.told.now.code in
     let rest1 : List ℕ = part2 ++ rest2 in
     let part1 : List ℕ = codes "{\"ruleId\":\"" in
-    behind c.put-7.result c.args.line.now.items c.put.new.line.items c.put-7.new.line.items part1 rest1 c.in_ok-put.ensures
-    (behind c.put-7.result c.put.new.line.items c.put_id.new.line.items c.put-7.new.line.items part2 rest2 c.in_ok-put_id.ensures
-    (behind c.put-7.result c.put_id.new.line.items c.put-2.new.line.items c.put-7.new.line.items part3 rest3 c.in_ok-put-2.ensures
-    (behind c.put-7.result c.put-2.new.line.items c.put-3.new.line.items c.put-7.new.line.items part4 rest4 c.in_ok-put-3.ensures
-    (behind c.put-7.result c.put-3.new.line.items c.put-4.new.line.items c.put-7.new.line.items part5 rest5 c.in_ok-put-4.ensures
-    (behind c.put-7.result c.put-4.new.line.items c.put_message.new.line.items c.put-7.new.line.items part6 rest6 c.in_ok-put_message.ensures
-    (behind c.put-7.result c.put_message.new.line.items c.put-5.new.line.items c.put-7.new.line.items part7 rest7 c.in_ok-put-5.ensures
-    (behind c.put-7.result c.put-5.new.line.items c.put_location.new.line.items c.put-7.new.line.items part8 rest8 c.in_ok-put_location.ensures
-    (behind c.put-7.result c.put_location.new.line.items c.put_region_if.new.line.items c.put-7.new.line.items part9 rest9 c.in_ok-put_region_if.ensures
-    (behind c.put-7.result c.put_region_if.new.line.items c.put-6.new.line.items c.put-7.new.line.items part10 rest10 c.in_ok-put-6.ensures
-    (behind c.put-7.result c.put-6.new.line.items c.put_logical_location_of.new.line.items c.put-7.new.line.items part11 rest11
+    after c.put-7.result c.args.line.now.items c.put.new.line.items c.put-7.new.line.items part1 rest1 c.in_ok-put.ensures
+    (after c.put-7.result c.put.new.line.items c.put_id.new.line.items c.put-7.new.line.items part2 rest2 c.in_ok-put_id.ensures
+    (after c.put-7.result c.put_id.new.line.items c.put-2.new.line.items c.put-7.new.line.items part3 rest3 c.in_ok-put-2.ensures
+    (after c.put-7.result c.put-2.new.line.items c.put-3.new.line.items c.put-7.new.line.items part4 rest4 c.in_ok-put-3.ensures
+    (after c.put-7.result c.put-3.new.line.items c.put-4.new.line.items c.put-7.new.line.items part5 rest5 c.in_ok-put-4.ensures
+    (after c.put-7.result c.put-4.new.line.items c.put_message.new.line.items c.put-7.new.line.items part6 rest6 c.in_ok-put_message.ensures
+    (after c.put-7.result c.put_message.new.line.items c.put-5.new.line.items c.put-7.new.line.items part7 rest7 c.in_ok-put-5.ensures
+    (after c.put-7.result c.put-5.new.line.items c.put_location.new.line.items c.put-7.new.line.items part8 rest8 c.in_ok-put_location.ensures
+    (after c.put-7.result c.put_location.new.line.items c.put_region_if.new.line.items c.put-7.new.line.items part9 rest9 c.in_ok-put_region_if.ensures
+    (after c.put-7.result c.put_region_if.new.line.items c.put-6.new.line.items c.put-7.new.line.items part10 rest10 c.in_ok-put-6.ensures
+    (after c.put-7.result c.put-6.new.line.items c.put_logical_location_of.new.line.items c.put-7.new.line.items part11 rest11
     (c.in_ok-put_logical_location_of.ensures
     ∙ ap (λ (ys : List ℕ). c.put-6.new.line.items ++ ys) (ap (λ (path : Option Path). logical_location_of path) c.path.ensures))
     (c.put-7.ensures)))))))))))

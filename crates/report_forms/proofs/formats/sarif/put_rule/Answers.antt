@@ -1,7 +1,7 @@
 use Rattle.std.proofs.Common.{ℕ, List, ◌++◌, codes}
 use Rattle.geolint_report.specs.Texts.{code_text}
 use Rattle.report_forms.specs.Forms.Sarif.{id_of, section_of, sarif_rule}
-use Rattle.report_forms.proofs.JoinedElements.{behind}
+use Rattle.geolint_report.proofs.ElementsInTurn.{after}
 use Rattle.report_forms.proofs.formats.sarif.put_rule.Goals as goal
 
 pub returns : goal.returns
@@ -23,12 +23,12 @@ returns c =
     let part2 : List ℕ = id_of c.args.code in
     let rest1 : List ℕ = part2 ++ rest2 in
     let part1 : List ℕ = codes "{\"id\":\"" in
-    behind c.put-6.result c.args.line.now.items c.put.new.line.items c.put-6.new.line.items part1 rest1 c.in_ok-put.ensures
-    (behind c.put-6.result c.put.new.line.items c.put_id.new.line.items c.put-6.new.line.items part2 rest2 c.in_ok-put_id.ensures
-    (behind c.put-6.result c.put_id.new.line.items c.put-2.new.line.items c.put-6.new.line.items part3 rest3 c.in_ok-put-2.ensures
-    (behind c.put-6.result c.put-2.new.line.items c.put_text.new.line.items c.put-6.new.line.items part4 rest4 c.in_ok-put_text.ensures
-    (behind c.put-6.result c.put_text.new.line.items c.put-3.new.line.items c.put-6.new.line.items part5 rest5 c.in_ok-put-3.ensures
-    (behind c.put-6.result c.put-3.new.line.items c.put_section.new.line.items c.put-6.new.line.items part6 rest6 c.in_ok-put_section.ensures
-    (behind c.put-6.result c.put_section.new.line.items c.put-4.new.line.items c.put-6.new.line.items part7 rest7 c.in_ok-put-4.ensures
-    (behind c.put-6.result c.put-4.new.line.items c.put-5.new.line.items c.put-6.new.line.items part8 rest8 c.in_ok-put-5.ensures
+    after c.put-6.result c.args.line.now.items c.put.new.line.items c.put-6.new.line.items part1 rest1 c.in_ok-put.ensures
+    (after c.put-6.result c.put.new.line.items c.put_id.new.line.items c.put-6.new.line.items part2 rest2 c.in_ok-put_id.ensures
+    (after c.put-6.result c.put_id.new.line.items c.put-2.new.line.items c.put-6.new.line.items part3 rest3 c.in_ok-put-2.ensures
+    (after c.put-6.result c.put-2.new.line.items c.put_text.new.line.items c.put-6.new.line.items part4 rest4 c.in_ok-put_text.ensures
+    (after c.put-6.result c.put_text.new.line.items c.put-3.new.line.items c.put-6.new.line.items part5 rest5 c.in_ok-put-3.ensures
+    (after c.put-6.result c.put-3.new.line.items c.put_section.new.line.items c.put-6.new.line.items part6 rest6 c.in_ok-put_section.ensures
+    (after c.put-6.result c.put_section.new.line.items c.put-4.new.line.items c.put-6.new.line.items part7 rest7 c.in_ok-put-4.ensures
+    (after c.put-6.result c.put-4.new.line.items c.put-5.new.line.items c.put-6.new.line.items part8 rest8 c.in_ok-put-5.ensures
     (c.put-6.ensures))))))))

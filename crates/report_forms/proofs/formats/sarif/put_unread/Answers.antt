@@ -1,6 +1,6 @@
 use Rattle.std.proofs.Common.{ℕ, List, ◌++◌, codes}
 use Rattle.report_forms.specs.Forms.Sarif.{location, sarif_unread}
-use Rattle.report_forms.proofs.JoinedElements.{behind}
+use Rattle.geolint_report.proofs.ElementsInTurn.{after}
 use Rattle.report_forms.proofs.formats.sarif.put_unread.Goals as goal
 
 pub returns : goal.returns
@@ -14,8 +14,8 @@ returns c =
     let part2 : List ℕ = c.args.reason.now in
     let rest1 : List ℕ = part2 ++ rest2 in
     let part1 : List ℕ = codes "{\"level\":\"error\",\"message\":{\"text\":" in
-    behind c.put-4.result c.args.line.now.items c.put.new.line.items c.put-4.new.line.items part1 rest1 c.in_ok-put.ensures
-    (behind c.put-4.result c.put.new.line.items c.put-2.new.line.items c.put-4.new.line.items part2 rest2 c.in_ok-put-2.ensures
-    (behind c.put-4.result c.put-2.new.line.items c.put-3.new.line.items c.put-4.new.line.items part3 rest3 c.in_ok-put-3.ensures
-    (behind c.put-4.result c.put-3.new.line.items c.put_location.new.line.items c.put-4.new.line.items part4 rest4 c.in_ok-put_location.ensures
+    after c.put-4.result c.args.line.now.items c.put.new.line.items c.put-4.new.line.items part1 rest1 c.in_ok-put.ensures
+    (after c.put-4.result c.put.new.line.items c.put-2.new.line.items c.put-4.new.line.items part2 rest2 c.in_ok-put-2.ensures
+    (after c.put-4.result c.put-2.new.line.items c.put-3.new.line.items c.put-4.new.line.items part3 rest3 c.in_ok-put-3.ensures
+    (after c.put-4.result c.put-3.new.line.items c.put_location.new.line.items c.put-4.new.line.items part4 rest4 c.in_ok-put_location.ensures
     (c.put-4.ensures))))

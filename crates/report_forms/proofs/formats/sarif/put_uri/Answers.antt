@@ -1,7 +1,7 @@
 use Rattle.std.proofs.Common.{ℕ, List, ◌++◌, ◌∙◌, ap, codes}
 use Rattle.std.specs.List.{flat_map}
 use Rattle.report_forms.specs.Forms.Sarif.{in_uri, scheme_of, uri_of}
-use Rattle.report_forms.proofs.JoinedElements.{behind}
+use Rattle.geolint_report.proofs.ElementsInTurn.{after}
 use Rattle.report_forms.proofs.formats.sarif.put_uri.Goals as goal
 
 pub returns : goal.returns
@@ -11,7 +11,7 @@ returns c =
     let part2 : List ℕ = flat_map in_uri c.args.name.now in
     let rest1 : List ℕ = part2 ++ rest2 in
     let part1 : List ℕ = scheme_of c.args.name.now in
-    behind c.put-2.result c.args.line.now.items c.put.new.line.items c.put-2.new.line.items part1 rest1
+    after c.put-2.result c.args.line.now.items c.put.new.line.items c.put-2.new.line.items part1 rest1
     (c.in_ok-put.ensures ∙ ap (λ (ys : List ℕ). c.args.line.now.items ++ ys) (c.scheme.ensures))
-    (behind c.put-2.result c.put.new.line.items c.put_all_in_uri.new.line.items c.put-2.new.line.items part2 rest2 c.in_ok-put_all_in_uri.ensures
+    (after c.put-2.result c.put.new.line.items c.put_all_in_uri.new.line.items c.put-2.new.line.items part2 rest2 c.in_ok-put_all_in_uri.ensures
     (c.put-2.ensures))

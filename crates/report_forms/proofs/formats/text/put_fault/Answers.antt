@@ -5,7 +5,7 @@ use Rattle.gj_json.specs.declared.path.Path.{Path}
 use Rattle.geolint_report.specs.Report.{path_of}
 use Rattle.geolint_report.specs.Texts.{code_text}
 use Rattle.report_forms.specs.Forms.Text.{broken_or_refused, path_line_of, text_fault}
-use Rattle.report_forms.proofs.JoinedElements.{behind}
+use Rattle.geolint_report.proofs.ElementsInTurn.{after}
 use Rattle.report_forms.proofs.formats.text.put_fault.Goals as goal
 
 pub returns : goal.returns
@@ -23,13 +23,13 @@ returns c =
     let part2 : List ℕ = codes " at " in
     let rest1 : List ℕ = part2 ++ rest2 in
     let part1 : List ℕ = broken_or_refused c.args.told.now.code in
-    behind c.put_path_line_of.result c.args.line.now.items c.put_broken_or_refused.new.line.items c.put_path_line_of.new.line.items part1 rest1
+    after c.put_path_line_of.result c.args.line.now.items c.put_broken_or_refused.new.line.items c.put_path_line_of.new.line.items part1 rest1
     c.in_ok-put_broken_or_refused.ensures
-    (behind c.put_path_line_of.result c.put_broken_or_refused.new.line.items c.put.new.line.items c.put_path_line_of.new.line.items part2 rest2
+    (after c.put_path_line_of.result c.put_broken_or_refused.new.line.items c.put.new.line.items c.put_path_line_of.new.line.items part2 rest2
     c.in_ok-put.ensures
-    (behind c.put_path_line_of.result c.put.new.line.items c.put_number.new.line.items c.put_path_line_of.new.line.items part3 rest3 c.in_ok-put_number.ensures
-    (behind c.put_path_line_of.result c.put_number.new.line.items c.put-2.new.line.items c.put_path_line_of.new.line.items part4 rest4 c.in_ok-put-2.ensures
-    (behind c.put_path_line_of.result c.put-2.new.line.items c.put_text.new.line.items c.put_path_line_of.new.line.items part5 rest5 c.in_ok-put_text.ensures
-    (behind c.put_path_line_of.result c.put_text.new.line.items c.put-3.new.line.items c.put_path_line_of.new.line.items part6 rest6 c.in_ok-put-3.ensures
+    (after c.put_path_line_of.result c.put.new.line.items c.put_number.new.line.items c.put_path_line_of.new.line.items part3 rest3 c.in_ok-put_number.ensures
+    (after c.put_path_line_of.result c.put_number.new.line.items c.put-2.new.line.items c.put_path_line_of.new.line.items part4 rest4 c.in_ok-put-2.ensures
+    (after c.put_path_line_of.result c.put-2.new.line.items c.put_text.new.line.items c.put_path_line_of.new.line.items part5 rest5 c.in_ok-put_text.ensures
+    (after c.put_path_line_of.result c.put_text.new.line.items c.put-3.new.line.items c.put_path_line_of.new.line.items part6 rest6 c.in_ok-put-3.ensures
     (subst (λ (ys : List ℕ). OnOk c.put_path_line_of.result (c.put_path_line_of.new.line.items ≡ c.put-3.new.line.items ++ ys))
     (ap (λ (path : Option Path). path_line_of path) c.path.ensures) c.put_path_line_of.ensures))))))

@@ -2,7 +2,7 @@ use Rattle.std.proofs.Common.{ℕ, List, ◌++◌, codes}
 use Rattle.gj_json.specs.Path.{steps_of}
 use Rattle.report_forms.specs.Forms.Text.{path_line}
 use Rattle.report_forms.specs.Forms.Messages.{path_text}
-use Rattle.report_forms.proofs.JoinedElements.{behind}
+use Rattle.geolint_report.proofs.ElementsInTurn.{after}
 use Rattle.report_forms.proofs.formats.text.put_path_line.Goals as goal
 
 pub returns : goal.returns
@@ -12,6 +12,6 @@ returns c =
     let part2 : List ℕ = path_text (steps_of c.args.path.now) in
     let rest1 : List ℕ = part2 ++ rest2 in
     let part1 : List ℕ = codes "path " in
-    behind c.put-2.result c.args.line.now.items c.put.new.line.items c.put-2.new.line.items part1 rest1 c.in_ok-put.ensures
-    (behind c.put-2.result c.put.new.line.items c.put_path.new.line.items c.put-2.new.line.items part2 rest2 c.in_ok-put_path.ensures
+    after c.put-2.result c.args.line.now.items c.put.new.line.items c.put-2.new.line.items part1 rest1 c.in_ok-put.ensures
+    (after c.put-2.result c.put.new.line.items c.put_path.new.line.items c.put-2.new.line.items part2 rest2 c.in_ok-put_path.ensures
     (c.put-2.ensures))

@@ -2,7 +2,7 @@ use Rattle.std.proofs.Common.{ℕ, List, ◌++◌, codes}
 use Rattle.geolint_report.specs.Finding.{record_of, fault_of}
 use Rattle.report_forms.specs.Forms.Text.{number_line, text_found, text_told}
 use Rattle.report_forms.specs.Names.{shown_name}
-use Rattle.report_forms.proofs.JoinedElements.{behind}
+use Rattle.geolint_report.proofs.ElementsInTurn.{after}
 use Rattle.report_forms.proofs.formats.text.put_report.Goals as goal
 
 pub returns : goal.returns
@@ -16,8 +16,8 @@ returns c =
     let part2 : List ℕ = shown_name c.args.report.now.name.now in
     let rest1 : List ℕ = part2 ++ rest2 in
     let part1 : List ℕ = codes "==> " in
-    behind c.put_found.result c.args.line.now.items c.put.new.line.items c.put_found.new.line.items part1 rest1 c.in_ok-put.ensures
-    (behind c.put_found.result c.put.new.line.items c.put_name.new.line.items c.put_found.new.line.items part2 rest2 c.in_ok-put_name.ensures
-    (behind c.put_found.result c.put_name.new.line.items c.put-2.new.line.items c.put_found.new.line.items part3 rest3 c.in_ok-put-2.ensures
-    (behind c.put_found.result c.put-2.new.line.items c.put_record.new.line.items c.put_found.new.line.items part4 rest4 c.in_ok-put_record.ensures
+    after c.put_found.result c.args.line.now.items c.put.new.line.items c.put_found.new.line.items part1 rest1 c.in_ok-put.ensures
+    (after c.put_found.result c.put.new.line.items c.put_name.new.line.items c.put_found.new.line.items part2 rest2 c.in_ok-put_name.ensures
+    (after c.put_found.result c.put_name.new.line.items c.put-2.new.line.items c.put_found.new.line.items part3 rest3 c.in_ok-put-2.ensures
+    (after c.put_found.result c.put-2.new.line.items c.put_record.new.line.items c.put_found.new.line.items part4 rest4 c.in_ok-put_record.ensures
     (c.put_found.ensures))))

@@ -1,7 +1,7 @@
 use Rattle.std.proofs.Common.{ℕ, List, ◌++◌, codes}
 use Rattle.geolint_report.specs.Finding.{records_of}
 use Rattle.report_forms.specs.Forms.Text.{number_line, text_warnings, text_valid}
-use Rattle.report_forms.proofs.JoinedElements.{behind}
+use Rattle.geolint_report.proofs.ElementsInTurn.{after}
 use Rattle.report_forms.proofs.formats.text.put_valid.Goals as goal
 
 pub returns : goal.returns
@@ -11,6 +11,6 @@ returns c =
     let part2 : List ℕ = number_line (codes "records ") (records_of c.args.finding.now) in
     let rest1 : List ℕ = part2 ++ rest2 in
     let part1 : List ℕ = codes "valid\n" in
-    behind c.put_warnings.result c.args.line.now.items c.put.new.line.items c.put_warnings.new.line.items part1 rest1 c.in_ok-put.ensures
-    (behind c.put_warnings.result c.put.new.line.items c.put_records.new.line.items c.put_warnings.new.line.items part2 rest2 c.in_ok-put_records.ensures
+    after c.put_warnings.result c.args.line.now.items c.put.new.line.items c.put_warnings.new.line.items part1 rest1 c.in_ok-put.ensures
+    (after c.put_warnings.result c.put.new.line.items c.put_records.new.line.items c.put_warnings.new.line.items part2 rest2 c.in_ok-put_records.ensures
     (c.put_warnings.ensures))

@@ -1,15 +1,15 @@
-use Rattle.std.proofs.Common.{ℕ, List, ◌++◌}
+use Rattle.std.proofs.Common.{ℕ}
 use Rattle.geolint_report.specs.declared.texts.Code.{Code}
 use Rattle.report_forms.specs.CodeLines.{code_lines}
 use Rattle.report_forms.specs.Counts.{tells}
 use Rattle.report_forms.specs.Summary.{counted, files_line, summary_of}
-use Rattle.report_forms.proofs.JoinedElements.{behind}
+use Rattle.geolint_report.proofs.ElementsInTurn.{after}
 use Rattle.report_forms.proofs.summary.Summary.put.Goals as goal
 
 pub returns : goal.returns
 unfolding summary_of
 returns c = λ files counts.
     let count : Code → ℕ = λ (code : Code). counted (tells code) files in
-    behind c.put_codes.result c.args.line.now.items c.put_files.new.line.items c.put_codes.new.line.items (files_line files) (code_lines count)
+    after c.put_codes.result c.args.line.now.items c.put_files.new.line.items c.put_codes.new.line.items (files_line files) (code_lines count)
     (c.in_ok-put_files.ensures files counts)
     (c.put_codes.ensures count counts.codes)

@@ -4,7 +4,7 @@ use Rattle.std.specs.Fmt.{decimal}
 use Rattle.geolint_report.specs.declared.judge.Finding.{Finding}
 use Rattle.report_forms.specs.Counts.{is_valid, is_warned, is_broken, is_refused, is_not_valid}
 use Rattle.report_forms.specs.Summary.{counted, and_not_valid, files_line}
-use Rattle.report_forms.proofs.JoinedElements.{behind}
+use Rattle.geolint_report.proofs.ElementsInTurn.{after}
 use Rattle.report_forms.proofs.summary.Summary.put_files.Goals as goal
 
 pub returns : goal.returns
@@ -32,21 +32,21 @@ returns c = λ files counts.
     let part2 : List ℕ = codes " valid, " in
     let rest1 : List ℕ = part2 ++ rest2 in
     let part1 : List ℕ = decimal (counted is_valid files) in
-    behind c.put-6.result c.args.line.now.items c.put_number.new.line.items c.put-6.new.line.items part1 rest1
+    after c.put-6.result c.args.line.now.items c.put_number.new.line.items c.put-6.new.line.items part1 rest1
     (c.in_ok-put_number.ensures ∙ ap (λ (ys : List ℕ). c.args.line.now.items ++ ys) (ap (λ (n : ℕ). decimal n) counts.valid))
-    (behind c.put-6.result c.put_number.new.line.items c.put.new.line.items c.put-6.new.line.items part2 rest2 c.in_ok-put.ensures
-    (behind c.put-6.result c.put.new.line.items c.put_number-2.new.line.items c.put-6.new.line.items part3 rest3
+    (after c.put-6.result c.put_number.new.line.items c.put.new.line.items c.put-6.new.line.items part2 rest2 c.in_ok-put.ensures
+    (after c.put-6.result c.put.new.line.items c.put_number-2.new.line.items c.put-6.new.line.items part3 rest3
     (c.in_ok-put_number-2.ensures ∙ ap (λ (ys : List ℕ). c.put.new.line.items ++ ys) (ap (λ (n : ℕ). decimal n) counts.warned))
-    (behind c.put-6.result c.put_number-2.new.line.items c.put-2.new.line.items c.put-6.new.line.items part4 rest4 c.in_ok-put-2.ensures
-    (behind c.put-6.result c.put-2.new.line.items c.put_number-3.new.line.items c.put-6.new.line.items part5 rest5
+    (after c.put-6.result c.put_number-2.new.line.items c.put-2.new.line.items c.put-6.new.line.items part4 rest4 c.in_ok-put-2.ensures
+    (after c.put-6.result c.put-2.new.line.items c.put_number-3.new.line.items c.put-6.new.line.items part5 rest5
     (c.in_ok-put_number-3.ensures ∙ ap (λ (ys : List ℕ). c.put-2.new.line.items ++ ys) (ap (λ (n : ℕ). decimal n) counts.broken))
-    (behind c.put-6.result c.put_number-3.new.line.items c.put-3.new.line.items c.put-6.new.line.items part6 rest6 c.in_ok-put-3.ensures
-    (behind c.put-6.result c.put-3.new.line.items c.put_number-4.new.line.items c.put-6.new.line.items part7 rest7
+    (after c.put-6.result c.put_number-3.new.line.items c.put-3.new.line.items c.put-6.new.line.items part6 rest6 c.in_ok-put-3.ensures
+    (after c.put-6.result c.put-3.new.line.items c.put_number-4.new.line.items c.put-6.new.line.items part7 rest7
     (c.in_ok-put_number-4.ensures ∙ ap (λ (ys : List ℕ). c.put-3.new.line.items ++ ys) (ap (λ (n : ℕ). decimal n) counts.refused))
-    (behind c.put-6.result c.put_number-4.new.line.items c.put-4.new.line.items c.put-6.new.line.items part8 rest8 c.in_ok-put-4.ensures
-    (behind c.put-6.result c.put-4.new.line.items c.put_number-5.new.line.items c.put-6.new.line.items part9 rest9
+    (after c.put-6.result c.put_number-4.new.line.items c.put-4.new.line.items c.put-6.new.line.items part8 rest8 c.in_ok-put-4.ensures
+    (after c.put-6.result c.put-4.new.line.items c.put_number-5.new.line.items c.put-6.new.line.items part9 rest9
     (c.in_ok-put_number-5.ensures ∙ ap (λ (ys : List ℕ). c.put-4.new.line.items ++ ys) (ap (λ (n : ℕ). decimal n) counts.unread))
-    (behind c.put-6.result c.put_number-5.new.line.items c.put-5.new.line.items c.put-6.new.line.items part10 rest10 c.in_ok-put-5.ensures
-    (behind c.put-6.result c.put-5.new.line.items c.put_and_not_valid.new.line.items c.put-6.new.line.items part11 rest11
+    (after c.put-6.result c.put_number-5.new.line.items c.put-5.new.line.items c.put-6.new.line.items part10 rest10 c.in_ok-put-5.ensures
+    (after c.put-6.result c.put-5.new.line.items c.put_and_not_valid.new.line.items c.put-6.new.line.items part11 rest11
     (c.in_ok-put_and_not_valid.ensures ∙ ap (λ (ys : List ℕ). c.put-5.new.line.items ++ ys) (ap (λ (n : ℕ). and_not_valid n) counts.not_valid))
     (c.put-6.ensures)))))))))))

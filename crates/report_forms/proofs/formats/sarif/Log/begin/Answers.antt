@@ -1,7 +1,7 @@
 use Rattle.std.proofs.Common.{ℕ, List, ◌++◌, codes}
 use Rattle.geolint_report.specs.declared.texts.Code.{Code}
 use Rattle.report_forms.specs.Forms.Sarif.{sarif_begin, sarif_head, sarif_rules, sarif_causes, sarif_rule, sarif_kinds}
-use Rattle.report_forms.proofs.JoinedElements.{behind}
+use Rattle.geolint_report.proofs.ElementsInTurn.{after}
 use Rattle.report_forms.proofs.formats.sarif.Log.begin.Goals as goal
 
 pub returns : goal.returns
@@ -17,9 +17,9 @@ returns c =
     let part2 : List ℕ = sarif_rules in
     let rest1 : List ℕ = part2 ++ rest2 in
     let part1 : List ℕ = sarif_head in
-    behind c.put-2.result c.args.line.now.items c.put.new.line.items c.put-2.new.line.items part1 rest1 c.in_ok-put.ensures
-    (behind c.put-2.result c.put.new.line.items c.put_rules.new.line.items c.put-2.new.line.items part2 rest2 c.in_ok-put_rules.ensures
-    (behind c.put-2.result c.put_rules.new.line.items c.put_causes.new.line.items c.put-2.new.line.items part3 rest3 c.in_ok-put_causes.ensures
-    (behind c.put-2.result c.put_causes.new.line.items c.put_rule.new.line.items c.put-2.new.line.items part4 rest4 c.in_ok-put_rule.ensures
-    (behind c.put-2.result c.put_rule.new.line.items c.put_kinds.new.line.items c.put-2.new.line.items part5 rest5 c.in_ok-put_kinds.ensures
+    after c.put-2.result c.args.line.now.items c.put.new.line.items c.put-2.new.line.items part1 rest1 c.in_ok-put.ensures
+    (after c.put-2.result c.put.new.line.items c.put_rules.new.line.items c.put-2.new.line.items part2 rest2 c.in_ok-put_rules.ensures
+    (after c.put-2.result c.put_rules.new.line.items c.put_causes.new.line.items c.put-2.new.line.items part3 rest3 c.in_ok-put_causes.ensures
+    (after c.put-2.result c.put_causes.new.line.items c.put_rule.new.line.items c.put-2.new.line.items part4 rest4 c.in_ok-put_rule.ensures
+    (after c.put-2.result c.put_rule.new.line.items c.put_kinds.new.line.items c.put-2.new.line.items part5 rest5 c.in_ok-put_kinds.ensures
     (c.put-2.ensures)))))

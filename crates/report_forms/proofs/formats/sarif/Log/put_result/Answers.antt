@@ -1,7 +1,7 @@
 use Rattle.std.proofs.Common.{subst, ◌≡◌, ◌++◌, ℕ, List}
 use Rattle.std.specs.Prelude.{OnOk}
 use Rattle.report_forms.specs.Forms.Sarif.{sarif_result, break_unless}
-use Rattle.report_forms.proofs.JoinedElements.{behind}
+use Rattle.geolint_report.proofs.ElementsInTurn.{after}
 use Rattle.report_forms.proofs.ResultsBetween.{one-result}
 use Rattle.report_forms.proofs.formats.sarif.Log.put_result.Goals as goal
 
@@ -11,5 +11,5 @@ returns-clause-bytes c =
     let is_first = c.args.self.now.is_first in
     let bytes : List ℕ = sarif_result c.args.report.now c.args.level.now c.args.told.now c.args.count in
     subst (λ (ys : List ℕ). OnOk c.put_one.result (c.put_one.new.line.items ≡ start ++ ys)) (one-result is_first bytes)
-    (behind c.put_one.result start c.begin_result.new.line.items c.put_one.new.line.items
+    (after c.put_one.result start c.begin_result.new.line.items c.put_one.new.line.items
     (break_unless is_first) bytes c.in_ok-begin_result.ensures.bytes c.put_one.ensures)
