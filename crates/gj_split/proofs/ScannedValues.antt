@@ -1,5 +1,5 @@
 -- How far a value reaches that is no array and no object.
-use Rattle.std.proofs.Common.{◌≡◌, ℕ, ◌+◌, List, ◌++◌, length, drop, true, ◌⊎◌, inl, inr, refl, ap, ◌∙◌, arith}
+use Rattle.std.proofs.Common.{◌≡◌, ℕ, ◌+◌, List, ◌++◌, length, drop, true, ◌⊎◌, inl, inr, refl, ap, sym, ◌∙◌, add_assoc}
 use Rattle.gj_split.specs.declared.scan.Scan.{Scan}
 use Rattle.gj_split.specs.Ranges.{StandsAt}
 use Rattle.gj_split.specs.Internal.ScannedValues.{scan_length, rest_length, is_running}
@@ -32,7 +32,4 @@ pub length_on : (place at count : ℕ) (first scan next : Scan) (part bytes : Li
     → place + scan_length first (drop place bytes) ≡ at + count + rest_length next (drop (at + length part) bytes)
 length_on place at count first scan next part bytes h e f =
     e ∙ (ap (λ xs. at + scan_length scan xs) (read_and_rest at part bytes h)
-    ∙ (ap (λ n. at + n) (f (drop (at + length part) bytes)) ∙ grouped at count (rest_length next (drop (at + length part) bytes))))
-  where
-    grouped : (a b c : ℕ) → a + (b + c) ≡ a + b + c
-    grouped a b c = omega arith
+    ∙ (ap (λ n. at + n) (f (drop (at + length part) bytes)) ∙ sym (add_assoc at count (rest_length next (drop (at + length part) bytes)))))

@@ -1,6 +1,6 @@
 -- What was told of the features of a text, where each ends, is what is found in them.
 use Rattle.std.proofs.Common.{◌≡◌, ℕ, suc, ◌+◌, ◌≤◌, ◌<◌, inl, inr, true, false, ◌==◌, if◌then◌else◌, eqb, List, [], ◌∷◌, ◌++◌, length, drop}
-use Rattle.std.proofs.Common.{Option, Some, None, refl, sym, ap, subst, ◌∙◌, arith, append_assoc, length-append}
+use Rattle.std.proofs.Common.{Option, Some, None, refl, sym, ap, subst, ◌∙◌, arith, add-zero, append_assoc, length-append}
 use Rattle.std.proofs.lemmas.Bool.{ne_eqb, or_from}
 use Rattle.std.specs.List.{AllByRecursion}
 use Rattle.std.proofs.Math.Seq.{drop-append_seam}
@@ -122,10 +122,7 @@ number_length : (literal after : List ℕ) → AllByRecursion IsNumberByte liter
 number_length [] after h f = start_ends after f
 number_length (b ∷ literal) after h f =
     byte_passes Scan.Start Scan.Word Scan.Word b literal (start_on b h.0) refl (word_passes literal h.1) after
-    ∙ (ap (λ n. suc (length literal) + n) (word_ends after f) ∙ no_more (suc (length literal)))
-  where
-    no_more : (n : ℕ) → n + 0 ≡ n
-    no_more n = omega arith
+    ∙ (ap (λ n. suc (length literal) + n) (word_ends after f) ∙ add-zero (suc (length literal)))
 
 letters_length : (which : Constant) (after : List ℕ) → IsFollowed after → scan_length Scan.Start (letters_of which ++ after) ≡ length (letters_of which)
 letters_length Null after f = ap (λ n. suc (suc (suc (suc n)))) (word_ends after f)
