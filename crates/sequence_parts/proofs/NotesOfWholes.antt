@@ -1,5 +1,6 @@
 -- What is told of the records of a whole, given what is told of those of its parts.
-use Rattle.std.proofs.Common.{arith, ◌≡◌, ◌+◌, ◌-◌, ◌<◌, ◌≤◌, ℕ, refl, ap, sym, subst, ◌∙◌, List, [], ◌∷◌, ◌++◌, length, map, take, drop, Bool, true, false, inl, inr}
+use Rattle.std.proofs.Common.{arith, ◌≡◌, ◌+◌, ◌-◌, ◌<◌, ◌≤◌, ℕ, refl, ap, sym, subst, ◌∙◌, zero-add, Bool, true, false, inl, inr}
+use Rattle.std.proofs.Common.{List, [], ◌∷◌, ◌++◌, length, map, take, drop}
 use Rattle.std.proofs.Common.{Some, None, length-append}
 use Rattle.std.specs.Prelude.{◌⊎◌, ◌==◌, if◌then◌else◌}
 use Rattle.std.specs.List.{flat_map}
@@ -97,9 +98,11 @@ still note = by_item note.item
 
     by_item : (item : Item) → moved_note 0 0 (record { item = item; told = note.told }) ≡ record { item = item; told = note.told }
     by_item (Item.Feature index id) =
-        ap (λ (n : ℕ). record { item = Item.Feature index id; told = record { code = note.told.code; place = n } }) (same (note.told.place + 0) note.told.place refl)
+        ap (λ (n : ℕ). record { item = Item.Feature index id; told = record { code = note.told.code; place = n } })
+        (same (note.told.place + 0) note.told.place refl)
     by_item (Item.Record number) =
-        ap (λ (n : ℕ). record { item = Item.Record (number + 0); told = record { code = note.told.code; place = n } }) (same (note.told.place + 0) note.told.place refl)
+        ap (λ (n : ℕ). record { item = Item.Record (number + 0); told = record { code = note.told.code; place = n } })
+        (same (note.told.place + 0) note.told.place refl)
         ∙ ap (λ (n : ℕ). record { item = Item.Record n; told = note.told }) (same (number + 0) number refl)
 
 all-still : (notes : List Note) → map (moved_note 0 0) notes ≡ notes
@@ -134,12 +137,9 @@ goes-first framing limits text begin end found more first are of_it =
           let told = notes_of_records with_warnings more in
           sym (ap (λ (l : List Record). joined_notes (records_among l) begin (notes_of_records with_warnings l) told) none
           ∙ (ap (λ (n : ℕ). map (moved_note 0 n) told) first ∙ all-still told));
-      long = more-alone (length more) ∙ ap (λ (l : List Record). length l + length more) (sym none);
-      among = more-alone (records_among more) ∙ ap (λ (l : List Record). records_among l + records_among more) (sym none);
+      long = sym (zero-add (length more)) ∙ ap (λ (l : List Record). length l + length more) (sym none);
+      among = sym (zero-add (records_among more)) ∙ ap (λ (l : List Record). records_among l + records_among more) (sym none);
     }
-  where
-    more-alone : (n : ℕ) → n ≡ 0 + n
-    more-alone n = omega arith
 
 goes-further : (framing : Framing) (limits : Allowed) (text : List ℕ) (begin end : ℕ) (found more : List Record) → begin < end → begin ≤ length text
     → MayBeCut framing limits text begin

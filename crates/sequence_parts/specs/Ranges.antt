@@ -24,7 +24,8 @@ IsFromCut framing limits text until None begin end = (begin ≡ until) × (end �
 -- The bytes of a part, by its range: all records that begin in it. The first part begins with the text, whatever its first byte is.
 abbrev pub IsByRange : Framing → Allowed → List ℕ → (from until begin end : ℕ) → Type 0
 IsByRange framing limits text zero until begin end = (begin ≡ 0) × IsEnd framing limits text until end
-IsByRange framing limits text (suc n) until begin end = (cut : Option ℕ) × IsFirstCut framing limits text (suc n) until cut × IsFromCut framing limits text until cut begin end
+IsByRange framing limits text (suc n) until begin end =
+    (cut : Option ℕ) × IsFirstCut framing limits text (suc n) until cut × IsFromCut framing limits text until cut begin end
 
 -- the bytes of the part of this number, counted from 1, of so many
 abbrev pub ArePart : Framing → Allowed → List ℕ → (number parts begin end : ℕ) → Type 0
