@@ -1,10 +1,10 @@
 -- The notes on the records of one part more.
-use Rattle.std.proofs.Common.{arith, ◌≡◌, ◌+◌, ◌-◌, ◌<◌, ◌≤◌, ◌^◌, ℕ, suc, zero, refl, ap, sym, subst, ◌∙◌, List, [], ◌∷◌, ◌++◌, length, map, take, drop, Bool, true, false, inl, inr}
-use Rattle.std.proofs.Common.{Some, None, append_assoc, get_or, length-append, vec_len}
+use Rattle.std.proofs.Common.{arith, ◌≡◌, ◌+◌, ◌-◌, ◌<◌, ◌≤◌, ◌^◌, ℕ, suc, zero, refl, ap, sym, subst, ◌∙◌, Bool, true, false, inl, inr}
+use Rattle.std.proofs.Common.{List, [], ◌∷◌, ◌++◌, length, map, take, drop, Some, None, append_assoc, get_or, length-append, vec_len}
 use Rattle.std.specs.Prelude.{◌⊎◌, Option, cond, count_by, sum_by}
 use Rattle.std.specs.Io.Iter.{u64_saturate}
 use Rattle.std.specs.List.{flat_map}
-use Rattle.std.proofs.lemmas.List.{length-map, length-take, map-append, take-map, take_all, take_more}
+use Rattle.std.proofs.lemmas.List.{length-map, length-take, map-append, take-map, take-take, take_all, take_more}
 use Rattle.std.proofs.lemmas.List.Sums.{sum_by-cons, sum_by-append, sum_by_push}
 use Rattle.gj_json.specs.Limits.{Allowed}
 use Rattle.gj_json.specs.declared.fault.Cause.TheVariants.{Syntax}
@@ -28,6 +28,7 @@ use Rattle.geolint_report.specs.declared.every.listing.Item.{Item}
 use Rattle.geolint_report.specs.declared.every.listing.Note.{Note}
 use Rattle.geolint_report.specs.declared.every.tally.Tally.{Tally}
 use Rattle.geolint_report.specs.declared.report.Told.{Told}
+use Rattle.geolint_report.proofs.ElementsInTurn.{take-full}
 use Rattle.sequence_parts.proofs.NotesOfWholes.{goes-on}
 use Rattle.sequence_parts.specs.Checked.{IsPartOf, AreNotesOfPart}
 use Rattle.sequence_parts.specs.Cuts.{bytes_between}
@@ -39,15 +40,9 @@ use Rattle.part_lines.specs.declared.notes.SoFar.{SoFar}
 
 -- ---- lists
 
-take-less : {A : Type 0} (room many : ℕ) (ys : List A) → room ≤ many → take room (take many ys) ≡ take room ys
-take-less zero many ys le = refl
-take-less (suc n) zero ys le = absurd (omega (arith, le))
-take-less (suc n) (suc m) [] le = refl
-take-less (suc n) (suc m) (y ∷ ys) le = ap (λ l. y ∷ l) (take-less n m ys (omega (arith, le)))
-
 take-both : {A : Type 0} (room many : ℕ) (xs ys : List A) → room ≤ many → take room (take room xs ++ take many ys) ≡ take room (xs ++ ys)
 take-both zero many xs ys le = refl
-take-both (suc n) many [] ys le = take-less (suc n) many ys le
+take-both (suc n) many [] ys le = take-take (suc n) many ys le
 take-both (suc n) many (x ∷ xs) ys le = ap (λ l. x ∷ l) (take-both n many xs ys (omega (arith, le)))
 
 -- with no room nothing is taken
@@ -55,20 +50,12 @@ take-alike : {A : Type 0} (room : ℕ) (xs ys : List A) → (0 < room → xs ≡
 take-alike zero xs ys same = refl
 take-alike (suc n) xs ys same = ap (take (suc n)) (same (omega arith))
 
-take-nothing : {A : Type 0} (n : ℕ) → take {A = A} n [] ≡ []
-take-nothing zero = refl
-take-nothing (suc n) = refl
-
--- there is room for one more, or there is none
+-- there is room for one more
 pub take-longer : {A : Type 0} (room : ℕ) (all : List A) (x : A) → length (take room all) < room → take room (all ++ x ∷ []) ≡ take room all ++ x ∷ []
-take-longer zero all x some = absurd (omega (arith, some))
-take-longer (suc n) [] x some = ap (λ l. x ∷ l) (take-nothing n)
-take-longer (suc n) (y ∷ all) x some = ap (λ l. y ∷ l) (take-longer n all x (omega (arith, some)))
-
-pub take-full : {A : Type 0} (room : ℕ) (all : List A) (x : A) → room ≤ length (take room all) → take room (all ++ x ∷ []) ≡ take room all
-take-full zero all x none = refl
-take-full (suc n) [] x none = absurd (omega (arith, none))
-take-full (suc n) (y ∷ all) x none = ap (λ l. y ∷ l) (take-full n all x (omega (arith, none)))
+take-longer {A = A} room all x some =
+    let few : length all < room = omega (arith, some, length-take room all) in
+    let longer : length (all ++ x ∷ []) ≡ length all + 1 = length-append all (x ∷ []) in
+    take_all room (all ++ x ∷ []) (omega (arith, few, longer)) ∙ ap (λ (ys : List A). ys ++ x ∷ []) (sym (take_all room all (omega (arith, few))))
 
 -- one more of those that were moved
 all-longer : (old more : List Note) (i : ℕ) (m : Note → Note) (d : Note) → i < length more
@@ -238,7 +225,8 @@ next-notes framing limits asked text old new part listed none lists has there en
     let noted : listed.notes.count ≡ u64_saturate (length others) = told.are_first.count_is ∙ ap (λ (l : List Note). u64_saturate (length l)) same in
     let is_count : new.notes.count ≡ u64_saturate (length whole) = omega (arith, adds.count, before.are_notes.are_first.count_is, noted, long) in
     let is_tally : Tallies new.notes.tally whole =
-    tallied old.notes.tally new.notes.tally listed.notes.tally before.tallies count part.begin all others before.are_notes.tallied of_others before.total total in
+    tallied old.notes.tally new.notes.tally listed.notes.tally before.tallies count part.begin all others before.are_notes.tallied of_others
+    before.total total in
     let is_items : new.notes.tally.items ≡ u64_saturate (length on.whole) =
     summed (λ (t : Tally). t.items) old.notes.tally new.notes.tally listed.notes.tally before.tallies (length found) (length more) (length on.whole)
     before.are_notes.items_are before.total.items told.items_are total.items on.long in
@@ -248,7 +236,9 @@ next-notes framing limits asked text old new part listed none lists has there en
       are_found = subst (λ (n : ℕ). AreAllFindings framing limits (take n text) on.whole) (sym ends) on.are_found;
       are_notes = record {
         are_first = record {
-          first = joined ∙ (ap (λ (l : List Note). take room l) (sym is_whole) ∙ ap (λ (s : ℕ). take room (drop s (notes_of_records with_warnings on.whole))) (sym none));
+          first = joined
+              ∙ (ap (λ (l : List Note). take room l) (sym is_whole)
+              ∙ ap (λ (s : ℕ). take room (drop s (notes_of_records with_warnings on.whole))) (sym none));
           count_is = is_count ∙ ap (λ (l : List Note). u64_saturate (length l)) (sym is_whole);
         };
         tallied = subst (λ (l : List Note). Tallies new.notes.tally l) (sym is_whole) is_tally;

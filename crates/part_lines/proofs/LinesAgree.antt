@@ -1,7 +1,11 @@
 -- The object of a line says all members of one line.
-use Rattle.std.proofs.Common.{arith, ◌≡◌, ◌<◌, ◌+◌, ◌^◌, ℕ, refl, ap, sym, subst, ◌∙◌, List, [], ◌∷◌, ◌++◌, Bool, true, false, Some, None, Option, codes, decimal, replicate}
+use Rattle.std.proofs.Common.{arith, ◌≡◌, ◌<◌, ◌+◌, ◌^◌, ℕ, refl, ap, sym, subst, ◌∙◌, Bool, true, false, Some, None, Option}
+use Rattle.std.proofs.Common.{List, [], ◌∷◌, ◌++◌, codes, decimal, replicate}
 use Rattle.std.specs.Prelude.{if◌then◌else◌, ◌==◌, option_and_then}
 use Rattle.std.proofs.lemmas.Bool.Decides.{nat_tests}
+use Rattle.std.proofs.lemmas.Fmt.{decimal_injective}
+use Rattle.std.proofs.lemmas.Option.{same_Some}
+use Rattle.part_lines.proofs.ReadItems.{items_of-same}
 use Rattle.gj_coords.specs.Fault.{number_of}
 use Rattle.gj_coords.specs.Internal.KeptWarnings.{warnings_of}
 use Rattle.gj_coords.specs.Warnings.{Warning, kind_number, warning_at}
@@ -13,7 +17,6 @@ use Rattle.gj_coords.specs.declared.warnings.Warnings.{Warnings}
 use Rattle.gj_json.specs.Texts.{cause_number}
 use Rattle.gj_json.specs.declared.fault.Cause.{Cause}
 use Rattle.gj_json.specs.declared.fault.Cause.TheVariants.{Syntax, Truncated, Depth, Length}
-use Rattle.serde_json.proofs.Numbers as decimals
 use Rattle.serde_json.specs.Data.{Data, Items}
 use Rattle.serde_json.specs.Find.{get, as_str}
 use Rattle.serde_json.specs.View.{items_of}
@@ -32,22 +35,11 @@ use Rattle.geolint_report.specs.declared.every.listing.Note.{Note}
 use Rattle.part_lines.specs.declared.line.PartLine.{PartLine}
 use Rattle.gj_rules.specs.declared.sequence.verdict.SeqVerdict.{SeqVerdict}
 use Rattle.gj_rules.specs.declared.verdict.Verdict.{Verdict}
-use Rattle.serde_json.specs.Data.{unsigned}
-use Rattle.serde_json.specs.Read.{number_of as number_read}
 
 -- ---- names
 
-inside : {A : Type 0} (x y : A) → Some x ≡ Some y → x ≡ y
-inside x y e = cc
-
 both-said : {A : Type 0} (o : Option A) (x y : A) → o ≡ Some x → o ≡ Some y → x ≡ y
-both-said o x y e f = inside x y (sym e ∙ f)
-
-same-digits : (n m : ℕ) → n < 2 ^ 64 → m < 2 ^ 64 → decimal n ≡ decimal m → n ≡ m
-same-digits n m small less e =
-    let f : Some (unsigned n) ≡ Some (unsigned m) = sym (decimals.number_of-decimal n small) ∙ (ap number_read e ∙ decimals.number_of-decimal m less) in
-    let g : unsigned n ≡ unsigned m = inside (unsigned n) (unsigned m) f in
-    cc
+both-said o x y e f = same_Some x y (sym e ∙ f)
 
 -- the rule of a number
 abbrev rule-of : ℕ → Rule
@@ -111,21 +103,21 @@ tail-same x y xs ys e = cc
 same-rule : (one other : Rule) → code_name (Code.Rule one) ≡ code_name (Code.Rule other) → one ≡ other
 unfolding code_name
 same-rule one other e =
-    let n = same-digits (number_of one) (number_of other) (rule-back one).1 (rule-back other).1
+    let n = decimal_injective (number_of one) (number_of other) (rule-back one).1 (rule-back other).1
     (tail-same 71 71 (decimal (number_of one)) (decimal (number_of other)) e) in
     sym (rule-back one).0 ∙ (ap rule-of n ∙ (rule-back other).0)
 
 same-kind : (one other : Kind) → code_name (Code.Kind one) ≡ code_name (Code.Kind other) → one ≡ other
 unfolding code_name
 same-kind one other e =
-    let n = same-digits (kind_number one) (kind_number other) (kind-back one).1 (kind-back other).1
+    let n = decimal_injective (kind_number one) (kind_number other) (kind-back one).1 (kind-back other).1
     (tail-same 87 87 (decimal (kind_number one)) (decimal (kind_number other)) e) in
     sym (kind-back one).0 ∙ (ap kind-of n ∙ (kind-back other).0)
 
 same-cause : (one other : Cause) → code_name (Code.Cause one) ≡ code_name (Code.Cause other) → one ≡ other
 unfolding code_name
 same-cause one other e =
-    let n = same-digits (cause_number one) (cause_number other) (cause-back one).1 (cause-back other).1
+    let n = decimal_injective (cause_number one) (cause_number other) (cause-back one).1 (cause-back other).1
     (tail-same 74 74 (decimal (cause_number one)) (decimal (cause_number other)) e) in
     sym (cause-back one).0 ∙ (ap cause-of n ∙ (cause-back other).0)
 
@@ -165,17 +157,8 @@ same-every false false e = refl
 same-every true false e = absurd (apart 119 102 _ _ refl e)
 same-every false true e = absurd (apart 102 119 _ _ refl e)
 
-items-same : (one other : List Data) → items_of one ≡ items_of other → one ≡ other
-items-same [] [] e = refl
-items-same [] (it ∷ more) e = absurd cc
-items-same (it ∷ more) [] e = absurd cc
-items-same (it ∷ more) (that ∷ others) e =
-    let rest : items_of more ≡ items_of others = cc in
-    let same : more ≡ others = items-same more others rest in
-    cc
-
 arrays-same : (o : Option Items) (one other : List Data) → o ≡ Some (items_of one) → o ≡ Some (items_of other) → one ≡ other
-arrays-same o one other e f = items-same one other (both-said o (items_of one) (items_of other) e f)
+arrays-same o one other e f = items_of-same one other (both-said o (items_of one) (items_of other) e f)
 
 -- ---- the verdict
 
@@ -206,11 +189,13 @@ unfolding code_name
 record-same it begin (Verdict.Broken a) (Verdict.Broken b) e f =
     let rule = same-rule a.rule b.rule (both-said (text_in (codes "fault") it) _ _ e.0 f.0) in
     let place = place-same (number_in (codes "at") it) begin a.place b.place e.1 f.1 in
-    ap (λ (r : Rule). Verdict.Broken (record { place = a.place; rule = r })) rule ∙ ap (λ (p : ℕ). Verdict.Broken (record { place = p; rule = b.rule })) place
+    ap (λ (r : Rule). Verdict.Broken (record { place = a.place; rule = r })) rule
+    ∙ ap (λ (p : ℕ). Verdict.Broken (record { place = p; rule = b.rule })) place
 record-same it begin (Verdict.NotJson a) (Verdict.NotJson b) e f =
     let cause = same-cause a.cause b.cause (both-said (text_in (codes "fault") it) _ _ e.0 f.0) in
     let place = place-same (number_in (codes "at") it) begin a.place b.place e.1 f.1 in
-    ap (λ (c : Cause). Verdict.NotJson (record { place = a.place; cause = c })) cause ∙ ap (λ (p : ℕ). Verdict.NotJson (record { place = p; cause = b.cause })) place
+    ap (λ (c : Cause). Verdict.NotJson (record { place = a.place; cause = c })) cause
+    ∙ ap (λ (p : ℕ). Verdict.NotJson (record { place = p; cause = b.cause })) place
 record-same it begin (Verdict.Broken a) (Verdict.NotJson b) e f = absurd (apart 71 74 _ _ refl (both-said (text_in (codes "fault") it) _ _ e.0 f.0))
 record-same it begin (Verdict.NotJson a) (Verdict.Broken b) e f = absurd (apart 74 71 _ _ refl (both-said (text_in (codes "fault") it) _ _ e.0 f.0))
 record-same it begin (Verdict.Valid warnings) other e f = absurd e
@@ -245,7 +230,8 @@ checked-same it one other e f =
 
 note-same : (it : Data) (begin : ℕ) (one other : Note) (n m : ℕ) → IsNoteIn it begin one n → IsNoteIn it begin other m → one ≡ other
 note-same it begin one other n m e f =
-    let items : one.item ≡ other.item = e.item ∙ (ap (λ (k : ℕ). Item.Record k) (both-said (number_in (codes "record") it) n m e.number f.number) ∙ sym f.item) in
+    let items : one.item ≡ other.item =
+    e.item ∙ (ap (λ (k : ℕ). Item.Record k) (both-said (number_in (codes "record") it) n m e.number f.number) ∙ sym f.item) in
     let code = same-code one.told.code other.told.code (both-said (text_in (codes "code") it) _ _ e.code f.code) in
     let place = place-same (number_in (codes "at") it) begin one.told.place other.told.place e.at f.at in
     ap (λ (i : Item). record { item = i; told = one.told }) items

@@ -44,7 +44,8 @@ first_size framing limits text lines first is all =
     (all 0 first some).size ∙ ap (λ (line : PartLine). line.file.size) here
 
 -- what holds of all lines holds of the one that is there
-pub line_there : (P : PartLine → Type 0) (lines : List PartLine) (i : ℕ) (line : PartLine) → i < length lines → line ≡ get_or lines i line → All P lines → P line
+pub line_there : (P : PartLine → Type 0) (lines : List PartLine) (i : ℕ) (line : PartLine) → i < length lines → line ≡ get_or lines i line
+    → All P lines → P line
 line_there P lines i line within is all = subst P (sym is) (all i line within)
 
 pub all_lines : (framing : Framing) (limits : Allowed) (text : List ℕ) (lines : List PartLine) → All (IsListedLineOf framing limits text) lines

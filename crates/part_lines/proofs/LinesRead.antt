@@ -1,5 +1,6 @@
 -- A written line is read as what it was written for.
-use Rattle.std.proofs.Common.{arith, ◌≡◌, ◌<◌, ◌≤◌, ◌^◌, ℕ, suc, zero, refl, ap, sym, ◌∙◌, List, [], ◌∷◌, ◌++◌, Bool, true, false, Some, None, Option, codes, string_bytes, map, replicate, length, min, cond, filter}
+use Rattle.std.proofs.Common.{arith, ◌≡◌, ◌<◌, ◌≤◌, ◌^◌, ℕ, suc, zero, refl, ap, sym, ◌∙◌, min, Bool, true, false, cond, Some, None, Option}
+use Rattle.std.proofs.Common.{List, [], ◌∷◌, ◌++◌, length, map, filter, replicate, codes, string_bytes}
 use Rattle.std.specs.Prelude.{option_and_then, unwrap_or, ◌==◌, if◌then◌else◌}
 use Rattle.std.proofs.lemmas.Bool.Decides.{nat_tests}
 use Rattle.std.proofs.lemmas.List.{length-replicate}
@@ -169,15 +170,15 @@ are-warnings begin warnings small (kind ∷ all) = by_first (first_in kind warni
 places-same : (kind : Kind) (place n : ℕ) → places_of kind (replicate n (warning_at place kind)) ≡ replicate n place
 places-same kind place zero = refl
 places-same kind place (suc n) =
-    ap (λ (b : Bool). map (λ (w : Warning). w.place) (cond b (warning_at place kind ∷ filter (λ (w : Warning). same_kind w.kind kind) (replicate n (warning_at place kind)))
-    (filter (λ (w : Warning). same_kind w.kind kind) (replicate n (warning_at place kind))))) (same_itself kind)
+    let others = filter (λ (w : Warning). same_kind w.kind kind) (replicate n (warning_at place kind)) in
+    ap (λ (b : Bool). map (λ (w : Warning). w.place) (cond b (warning_at place kind ∷ others) others)) (same_itself kind)
     ∙ ap (λ (l : List ℕ). place ∷ l) (places-same kind place n)
 
 places-other : (kind other : Kind) (place n : ℕ) → same_kind other kind ≡ false → places_of kind (replicate n (warning_at place other)) ≡ []
 places-other kind other place zero apart = refl
 places-other kind other place (suc n) apart =
-    ap (λ (b : Bool). map (λ (w : Warning). w.place) (cond b (warning_at place other ∷ filter (λ (w : Warning). same_kind w.kind kind) (replicate n (warning_at place other)))
-    (filter (λ (w : Warning). same_kind w.kind kind) (replicate n (warning_at place other))))) apart
+    let others = filter (λ (w : Warning). same_kind w.kind kind) (replicate n (warning_at place other)) in
+    ap (λ (b : Bool). map (λ (w : Warning). w.place) (cond b (warning_at place other ∷ others) others)) apart
     ∙ places-other kind other place n apart
 
 least-same : (place n : ℕ) → least_place (replicate (suc n) place) ≡ Some place
@@ -207,7 +208,8 @@ noted-when : (kind other : Kind) (count : ℕ) (first : Option ℕ) → same_kin
 noted-when kind other count (Some place) apart = noted-other kind other place count apart
 noted-when kind other count None apart = refl
 
-noted-all-other : (warnings : Warnings) (kind : Kind) (all : List Kind) → AllOther kind all → noted_of kind (flat_map (kind-warnings warnings) all) ≡ nothing_noted
+noted-all-other : (warnings : Warnings) (kind : Kind) (all : List Kind) → AllOther kind all
+    → noted_of kind (flat_map (kind-warnings warnings) all) ≡ nothing_noted
 noted-all-other warnings kind [] apart = refl
 noted-all-other warnings kind (other ∷ all) apart =
     noted_of-append kind (kind-warnings warnings other) (flat_map (kind-warnings warnings) all)

@@ -1,5 +1,6 @@
 -- The text of a written line is that of an object with these members.
-use Rattle.std.proofs.Common.{arith, ◌≡◌, ◌<◌, ◌+◌, ◌^◌, ℕ, suc, refl, ap, sym, subst, ◌∙◌, List, [], ◌∷◌, ◌++◌, Bool, true, false, append_assoc, Some, None, Option, codes, decimal, string_bytes, get_or, map}
+use Rattle.std.proofs.Common.{arith, ◌≡◌, ◌<◌, ◌+◌, ◌^◌, ℕ, suc, refl, ap, sym, subst, ◌∙◌, Bool, true, false, Some, None, Option}
+use Rattle.std.proofs.Common.{List, [], ◌∷◌, ◌++◌, append_assoc, get_or, map, codes, decimal, string_bytes}
 use Rattle.std.specs.Prelude.{nat_lt, if◌then◌else◌}
 use Rattle.std.specs.Fmt.{digits}
 use Rattle.std.specs.Io.Iter.{u64_saturate}
@@ -25,7 +26,8 @@ use Rattle.geolint_report.specs.declared.texts.TheConstants.{RULES, CAUSES}
 use Rattle.report_forms.specs.Forms.Json.{with_commas, behind_commas}
 use Rattle.report_forms.specs.Passing.{contains}
 use Rattle.part_lines.specs.Lines.{framing_word, every_word}
-use Rattle.part_lines.specs.LineText.{place_text, file_text, code_string, allowed_kind, allowed_text, settings_text, warning_text, warning_if, kind_texts, warnings_text}
+use Rattle.part_lines.specs.LineText.{place_text, file_text, code_string, allowed_kind, allowed_text, settings_text}
+use Rattle.part_lines.specs.LineText.{warning_text, warning_if, kind_texts, warnings_text}
 use Rattle.part_lines.specs.LineText.{fault_text, valid_text, count_text, count_texts, rule_counts, kind_counts, cause_counts, counts_text, tally_text}
 use Rattle.part_lines.specs.LineText.{note_text, note_texts, notes_text, listed_text, listed_text_of, broken_text, verdict_text, line_text}
 use Rattle.part_lines.specs.Internal.JsonTexts.{Reads, ReadsItems, ReadsMembers}
@@ -42,7 +44,8 @@ use Rattle.gj_rules.specs.declared.sequence.verdict.SeqVerdict.{SeqVerdict}
 use Rattle.gj_rules.specs.declared.verdict.Verdict.{Verdict}
 use Rattle.part_lines.specs.declared.line.Settings.{Settings}
 use Rattle.geolint_report.specs.declared.every.tally.Tally.{Tally}
-use Rattle.part_lines.proofs.ReadTexts.{reads-number, reads-string, reads-boolean, comma, no-more-items, one-item, reads-array, no-more-members, one-member, reads-object}
+use Rattle.part_lines.proofs.ReadTexts.{reads-number, reads-string, reads-boolean, comma, no-more-items, one-item, reads-array}
+use Rattle.part_lines.proofs.ReadTexts.{no-more-members, one-member, reads-object}
 
 -- ---- words
 
@@ -166,7 +169,8 @@ reads-items levels texts ds h = reads-array levels (with_commas texts ++ codes "
 
 abbrev pub file-members : FileState → Members → Members
 file-members file found =
-    put (codes "modified") (string (string_bytes file.modified)) (put (codes "size") (num file.size) (put (codes "path") (string (string_bytes file.path)) found))
+    put (codes "modified") (string (string_bytes file.modified))
+    (put (codes "size") (num file.size) (put (codes "path") (string (string_bytes file.path)) found))
 
 pub file-read : (levels : ℕ) (file : FileState) (more : List ℕ) (found all : Members) → Fits file.size
     → ReadsMembers levels true more (file-members file found) all
@@ -397,7 +401,8 @@ tally-read tally more found all items broken counts h =
 abbrev pub listed-members : ℕ → Listed → Members → Members
 listed-members begin listed found =
     put (codes "listed") (array (items_of (map (note-data begin) listed.notes.notes.items))) (put (codes "findings") (num listed.notes.count)
-    (tally-members listed.notes.tally (put (codes "most") (num listed.asked.room) (put (codes "every") (string (every_word listed.asked.with_warnings)) found))))
+    (tally-members listed.notes.tally
+    (put (codes "most") (num listed.asked.room) (put (codes "every") (string (every_word listed.asked.with_warnings)) found))))
 
 listed-read : (begin : ℕ) (listed : Listed) (more : List ℕ) (found all : Members) → IsWritableListed begin listed
     → ReadsMembers 2 true more (listed-members begin listed found) all

@@ -1,7 +1,7 @@
 -- What is read of the items of an array, with one item more.
-use Rattle.std.proofs.Common.{◌≡◌, ℕ, ◌+◌, zero, suc, ◌<◌, ◌≤◌, arith, Option, Some, None, List, [], ◌∷◌, ◌++◌, length, get_or, take, refl, ap, sym}
+use Rattle.std.proofs.Common.{◌≡◌, ℕ, ◌+◌, zero, suc, ◌<◌, ◌≤◌, arith, Option, Some, List, [], ◌∷◌, ◌++◌, length, get_or, take, refl, ap, sym}
 use Rattle.std.proofs.Common.{subst, ◌∙◌, append_assoc, append-nil}
-use Rattle.std.specs.Prelude.{map, replicate, IfSome}
+use Rattle.std.specs.Prelude.{map, replicate}
 use Rattle.std.specs.List.{All}
 use Rattle.std.proofs.lemmas.List.{take_more, take_all, get_or-map, length-map}
 use Rattle.gj_coords.specs.Warnings.{Warning, warning_at}

@@ -1,5 +1,6 @@
 -- Texts of JSON, one member after another.
-use Rattle.std.proofs.Common.{arith, ◌≡◌, ◌<◌, ◌≤◌, ◌^◌, ℕ, suc, refl, ap, sym, ◌∙◌, List, [], ◌∷◌, ◌++◌, Bool, true, false, fold, append_assoc, append-nil, Some, codes, decimal}
+use Rattle.std.proofs.Common.{arith, ◌≡◌, ◌<◌, ◌≤◌, ◌^◌, ℕ, suc, refl, ap, sym, ◌∙◌, Bool, true, false, Some}
+use Rattle.std.proofs.Common.{List, [], ◌∷◌, ◌++◌, fold, append_assoc, append-nil, codes, decimal}
 use Rattle.std.specs.Prelude.{option_and_then, option_map}
 use Rattle.std.proofs.lemmas.List.Sums.{fold-append}
 use Rattle.json.specs.Json as json
@@ -125,7 +126,8 @@ unfolding print_from
 no-more-members levels true all = record { values = json.no_members; is = refl; numbers = tt; nests = omega arith; text_is = refl }
 no-more-members levels false all = record { values = json.no_members; is = refl; numbers = tt; nests = omega arith; text_is = refl }
 
-key-first : (after : Bool) (name : List ℕ) (ts : List Token) → print_from after (Token.key name ∷ ts) ≡ comma after ++ (quoted name ++ (codes ":" ++ print_from false ts))
+key-first : (after : Bool) (name : List ℕ) (ts : List Token)
+    → print_from after (Token.key name ∷ ts) ≡ comma after ++ (quoted name ++ (codes ":" ++ print_from false ts))
 unfolding print_from
 key-first true name ts = ap (λ (l : List ℕ). 44 ∷ l) (append_assoc (quoted name) (codes ":") (print_from false ts))
 key-first false name ts = append_assoc (quoted name) (codes ":") (print_from false ts)
@@ -144,7 +146,8 @@ one-member levels after name text more d found all h k = record {
       ∙ (ap (λ (l : List ℕ). l ++ print_from true (tree.members_tokens k.values)) h.text_is ∙ ap (λ (l : List ℕ). text ++ l) k.text_is));
 }
 
-pub reads-object : (levels : ℕ) (text : List ℕ) (all : Members) → ReadsMembers levels false text no_members all → Reads (suc levels) (codes "{" ++ text) (object all)
+pub reads-object : (levels : ℕ) (text : List ℕ) (all : Members) → ReadsMembers levels false text no_members all
+    → Reads (suc levels) (codes "{" ++ text) (object all)
 unfolding print_from
 reads-object levels text all h = record {
   value = json.object h.values;

@@ -116,7 +116,8 @@ pub record IsNoteIn (it : Data) (begin : ℕ) (note : Note) (before : ℕ) : Typ
 -- one of each item, in their order
 abbrev pub AreNotes : ℕ → List Data → List Note → Type 0
 AreNotes begin [] notes = notes ≡ []
-AreNotes begin (it ∷ more) notes = (note : Note) × (number : ℕ) × (rest : List Note) × IsNoteIn it begin note number × (notes ≡ note ∷ rest) × AreNotes begin more rest
+AreNotes begin (it ∷ more) notes =
+    (note : Note) × (number : ℕ) × (rest : List Note) × IsNoteIn it begin note number × (notes ≡ note ∷ rest) × AreNotes begin more rest
 
 abbrev pub AreNotesIn : Data → ℕ → List Note → Type 0
 AreNotesIn it begin notes = (items : List Data) × (array_in (codes "listed") it ≡ Some (items_of items)) × AreNotes begin items notes

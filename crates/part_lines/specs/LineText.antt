@@ -37,7 +37,8 @@ place_text begin place = decimal (u64_saturate (place + begin))
 
 unfoldable pub file_text : FileState → List ℕ
 file_text file =
-    codes ",\"path\":" ++ (quoted (string_bytes file.path) ++ (codes ",\"size\":" ++ (decimal file.size ++ (codes ",\"modified\":" ++ quoted (string_bytes file.modified)))))
+    codes ",\"path\":" ++ (quoted (string_bytes file.path) ++ (codes ",\"size\":" ++ (decimal file.size
+    ++ (codes ",\"modified\":" ++ quoted (string_bytes file.modified)))))
 
 abbrev pub code_string : Code → List ℕ
 code_string code = codes "\"" ++ (code_name code ++ codes "\"")
@@ -58,7 +59,8 @@ settings_text settings =
 
 unfoldable pub warning_text : ℕ → Kind → ℕ → ℕ → List ℕ
 warning_text begin kind count place =
-    codes "{\"kind\":\"" ++ (code_name (Code.Kind kind) ++ (codes "\",\"count\":" ++ (decimal count ++ (codes ",\"at\":" ++ (place_text begin place ++ codes "}")))))
+    codes "{\"kind\":\"" ++ (code_name (Code.Kind kind) ++ (codes "\",\"count\":" ++ (decimal count
+    ++ (codes ",\"at\":" ++ (place_text begin place ++ codes "}")))))
 
 abbrev pub warning_if : ℕ → Kind → ℕ → Option ℕ → List (List ℕ)
 warning_if begin kind count (Some place) = warning_text begin kind count place ∷ []
@@ -117,11 +119,13 @@ counts_text tally = with_commas ((flat_map (rule_counts tally) RULES ++ flat_map
 
 unfoldable pub tally_text : Tally → List ℕ
 tally_text tally =
-    codes ",\"items\":" ++ (decimal tally.items ++ (codes ",\"items_broken\":" ++ (decimal tally.broken ++ (codes ",\"counts\":[" ++ (counts_text tally ++ codes "]")))))
+    codes ",\"items\":" ++ (decimal tally.items ++ (codes ",\"items_broken\":" ++ (decimal tally.broken
+    ++ (codes ",\"counts\":[" ++ (counts_text tally ++ codes "]")))))
 
 unfoldable pub note_text : ℕ → Note → List ℕ
 note_text begin note =
-    codes "{\"record\":" ++ (decimal (item_number note.item) ++ (codes ",\"code\":\"" ++ (code_name note.told.code ++ (codes "\",\"at\":" ++ (place_text begin note.told.place ++ codes "}")))))
+    codes "{\"record\":" ++ (decimal (item_number note.item) ++ (codes ",\"code\":\"" ++ (code_name note.told.code
+    ++ (codes "\",\"at\":" ++ (place_text begin note.told.place ++ codes "}")))))
 
 abbrev pub note_texts : ℕ → Note → List (List ℕ)
 note_texts begin note = note_text begin note ∷ []

@@ -11,8 +11,8 @@ ghost use Rattle.geolint_report.specs.Line.{Adds};
 ghost use Rattle.json.specs.Print.{quoted};
 ghost use Rattle.part_lines.specs.LineText.{line_text, file_text, settings_text, allowed_text, allowed_kind, code_string, place_text};
 ghost use Rattle.part_lines.specs.LineText.{verdict_text, valid_text, broken_text, record_text, fault_text, warnings_text, kind_texts, warning_text};
-ghost use Rattle.part_lines.specs.LineText.{listed_text, listed_text_of, tally_text, counts_text, rule_counts, kind_counts, cause_counts, count_texts, count_text};
-ghost use Rattle.part_lines.specs.LineText.{notes_text, note_texts, note_text};
+ghost use Rattle.part_lines.specs.LineText.{listed_text, listed_text_of, tally_text, counts_text, rule_counts, kind_counts};
+ghost use Rattle.part_lines.specs.LineText.{cause_counts, count_texts, count_text, notes_text, note_texts, note_text};
 ghost use Rattle.part_lines.specs.Lines.{every_word, framing_word};
 ghost use Rattle.report_forms.specs.Internal.WrittenCommas.{is_none_yet, next_items, comma_unless};
 

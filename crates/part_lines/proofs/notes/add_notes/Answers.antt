@@ -16,8 +16,10 @@ loop-note-preserved c = λ few.
     let before = c.loop-note.invariant few in
     elim c.if-len-room.branch [
       | then-len-room+in-Some+in-Ok w ↦ ap (λ (v : Vec Note Global). v.items) w.all-is
-          ∙ one-longer room i c.args.all.now.items c.loop-note.all.items _ more m _ c.loop-note-test.true before (omega (arith, c.len.ensures, w.if-len-room.true))
+          ∙ one-longer room i c.args.all.now.items c.loop-note.all.items _ more m _ c.loop-note-test.true before
+          (omega (arith, c.len.ensures, w.if-len-room.true))
           (w.in-Ok.ensures.items ∙ ap (λ (note : Note). c.loop-note.all.items ++ note ∷ []) w.in-Some.ensures)
       | else-len-room w ↦ ap (λ (v : Vec Note Global). v.items) w.all-is
-          ∙ none-longer room i c.args.all.now.items c.loop-note.all.items more m c.loop-note-test.true before (omega (arith, c.len.ensures, w.if-len-room.false))
+          ∙ none-longer room i c.args.all.now.items c.loop-note.all.items more m c.loop-note-test.true before
+          (omega (arith, c.len.ensures, w.if-len-room.false))
     ]

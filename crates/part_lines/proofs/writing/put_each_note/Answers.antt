@@ -1,11 +1,12 @@
 use Rattle.std.proofs.Common.{◌≡◌, ◌+◌, ◌++◌, ◌<◌, ℕ, Bool, List, true, false, length, take, get_or, arith, subst, sym}
 use Rattle.std.proofs.lemmas.List.{take_all}
+use Rattle.std.proofs.Math.Bool.{and-false}
 use Rattle.std.specs.List.{flat_map}
 use Rattle.geolint_report.proofs.ElementsInTurn.{parts-more}
 use Rattle.geolint_report.specs.declared.every.listing.Note.{Note}
 use Rattle.report_forms.specs.Internal.WrittenCommas.{next_items}
 use Rattle.part_lines.specs.LineText.{notes_text, note_texts}
-use Rattle.part_lines.proofs.WrittenItems.{Wrote, wrote-more, first-no-more}
+use Rattle.part_lines.proofs.WrittenItems.{Wrote, wrote-more}
 use Rattle.part_lines.proofs.writing.put_each_note.Goals as goal
 
 -- with one note more
@@ -14,7 +15,7 @@ one-note : (begin : ℕ) (notes : List Note) (i : ℕ) (d : Note) (start old new
     → Wrote start true new false (flat_map (note_texts begin) (take (i + 1) notes))
 one-note begin notes i d start old new was within before is =
     subst (λ (items : List (List ℕ)). Wrote start true new false items) (sym (parts-more (note_texts begin) notes i d within))
-    (wrote-more start true old was new false (flat_map (note_texts begin) (take i notes)) (note_texts begin (get_or notes i d)) before is (first-no-more was))
+    (wrote-more start true old was new false (flat_map (note_texts begin) (take i notes)) (note_texts begin (get_or notes i d)) before is (sym (and-false was)))
 
 pub loop-note-preserved : goal.loop-note-preserved
 loop-note-preserved c =
