@@ -1,9 +1,16 @@
--- What is put with commas between, some items at a time.
+-- What is put one after another, and with commas between, some items at a time.
 use Rattle.std.proofs.Common.{◌≡◌, ◌&&◌, ℕ, Bool, true, false, List, ◌∷◌, ◌++◌, ap, sym, ◌∙◌, append_assoc}
+use Rattle.std.specs.Prelude.{Result, Ok, Err, OnOk}
 use Rattle.std.proofs.lemmas.List.Concat.{flat_map-append}
 use Rattle.std.proofs.Math.Bool.{and_assoc}
 use Rattle.report_forms.specs.Internal.WrittenCommas.{is_none_yet, next_items}
 use Rattle.report_forms.proofs.CommasBetween.{commas-more, none-more}
+
+-- what a last call appends stands after what was appended before it
+pub after : {T E : Type 0} (r : Result T E) (start middle new first last : List ℕ) → middle ≡ start ++ first → OnOk r (new ≡ middle ++ last)
+    → OnOk r (new ≡ start ++ (first ++ last))
+after (Ok x) start middle new first last before is = is ∙ (ap (λ (ys : List ℕ). ys ++ last) before ∙ append_assoc start first last)
+after (Err x) start middle new first last before is = is
 
 next-more : (was : Bool) (xs ys : List (List ℕ)) → next_items was (xs ++ ys) ≡ next_items was xs ++ next_items (was && is_none_yet xs) ys
 next-more true xs ys = commas-more xs ys

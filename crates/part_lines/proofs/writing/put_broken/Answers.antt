@@ -1,7 +1,7 @@
 use Rattle.std.proofs.Common.{ℕ, List, ◌++◌, codes}
 use Rattle.part_lines.specs.LineText.{broken_text, record_text}
 use Rattle.std.specs.Fmt.{decimal}
-use Rattle.geolint_report.proofs.ElementsInTurn.{after}
+use Rattle.part_lines.proofs.WrittenItems.{after}
 use Rattle.part_lines.proofs.writing.put_broken.Goals as goal
 
 pub returns : goal.returns

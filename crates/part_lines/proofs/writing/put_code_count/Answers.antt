@@ -2,7 +2,7 @@ use Rattle.std.proofs.Common.{ℕ, List, ◌++◌, codes}
 use Rattle.geolint_report.specs.Texts.{code_name}
 use Rattle.part_lines.specs.LineText.{count_text}
 use Rattle.std.specs.Fmt.{decimal}
-use Rattle.geolint_report.proofs.ElementsInTurn.{after}
+use Rattle.part_lines.proofs.WrittenItems.{after}
 use Rattle.part_lines.proofs.writing.put_code_count.Goals as goal
 
 pub returns : goal.returns

@@ -3,7 +3,7 @@ use Rattle.json.specs.Print.{quoted}
 use Rattle.part_lines.specs.LineText.{file_text}
 use Rattle.std.specs.Fmt.{decimal}
 use Rattle.std.specs.Prelude.{string_bytes}
-use Rattle.geolint_report.proofs.ElementsInTurn.{after}
+use Rattle.part_lines.proofs.WrittenItems.{after}
 use Rattle.part_lines.proofs.writing.put_file.Goals as goal
 
 pub returns : goal.returns

@@ -2,7 +2,7 @@ use Rattle.std.proofs.Common.{ℕ, List, ◌++◌, codes}
 use Rattle.part_lines.specs.LineText.{listed_text, notes_text, tally_text}
 use Rattle.part_lines.specs.Lines.{every_word}
 use Rattle.std.specs.Fmt.{decimal}
-use Rattle.geolint_report.proofs.ElementsInTurn.{after}
+use Rattle.part_lines.proofs.WrittenItems.{after}
 use Rattle.part_lines.proofs.writing.put_listed.Goals as goal
 
 pub returns : goal.returns

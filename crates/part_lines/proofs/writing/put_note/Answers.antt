@@ -3,7 +3,7 @@ use Rattle.geolint_report.specs.Items.{item_number}
 use Rattle.geolint_report.specs.Texts.{code_name}
 use Rattle.part_lines.specs.LineText.{note_text, place_text}
 use Rattle.std.specs.Fmt.{decimal}
-use Rattle.geolint_report.proofs.ElementsInTurn.{after}
+use Rattle.part_lines.proofs.WrittenItems.{after}
 use Rattle.part_lines.proofs.writing.put_note.Goals as goal
 
 pub returns : goal.returns

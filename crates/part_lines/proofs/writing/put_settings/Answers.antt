@@ -3,7 +3,7 @@ use Rattle.geolint_report.specs.Line.{truth}
 use Rattle.part_lines.specs.LineText.{allowed_text, settings_text}
 use Rattle.part_lines.specs.Lines.{framing_word}
 use Rattle.std.specs.Fmt.{decimal}
-use Rattle.geolint_report.proofs.ElementsInTurn.{after}
+use Rattle.part_lines.proofs.WrittenItems.{after}
 use Rattle.part_lines.proofs.writing.put_settings.Goals as goal
 
 pub returns : goal.returns

@@ -3,7 +3,7 @@ use Rattle.geolint_report.specs.Texts.{code_name}
 use Rattle.geolint_report.specs.declared.texts.Code.{Code}
 use Rattle.part_lines.specs.LineText.{place_text, warning_text}
 use Rattle.std.specs.Fmt.{decimal}
-use Rattle.geolint_report.proofs.ElementsInTurn.{after}
+use Rattle.part_lines.proofs.WrittenItems.{after}
 use Rattle.part_lines.proofs.writing.put_warning.Goals as goal
 
 pub returns : goal.returns

@@ -1,6 +1,6 @@
 use Rattle.std.proofs.Common.{ℕ, List, ◌++◌, codes}
 use Rattle.report_forms.specs.Names.{shown_name, unread_line}
-use Rattle.geolint_report.proofs.ElementsInTurn.{after}
+use Rattle.report_forms.proofs.JoinedElements.{after}
 use Rattle.report_forms.proofs.formats.put_unread_line.Goals as goal
 
 pub returns : goal.returns

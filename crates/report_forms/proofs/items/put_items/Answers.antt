@@ -4,7 +4,7 @@ use Rattle.geolint_report.specs.declared.texts.Code.{Code}
 use Rattle.geolint_report.specs.Tallies.{total, count_of}
 use Rattle.report_forms.specs.CodeLines.{code_lines}
 use Rattle.report_forms.specs.Items.{items_line, items_summary}
-use Rattle.geolint_report.proofs.ElementsInTurn.{after}
+use Rattle.report_forms.proofs.JoinedElements.{after}
 use Rattle.report_forms.proofs.items.put_items.Goals as goal
 
 pub returns : goal.returns

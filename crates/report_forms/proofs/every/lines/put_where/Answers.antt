@@ -3,7 +3,7 @@ use Rattle.report_forms.specs.Forms.Features.{lines_where, spot_at}
 use Rattle.report_forms.specs.Forms.Lines.{and_spot, beginning, ending}
 use Rattle.report_forms.specs.Names.{shown_name}
 use Rattle.report_forms.specs.declared.formats.lines.Part.{Part}
-use Rattle.geolint_report.proofs.ElementsInTurn.{after}
+use Rattle.report_forms.proofs.JoinedElements.{after}
 use Rattle.report_forms.proofs.every.lines.put_where.Goals as goal
 
 pub returns : goal.returns

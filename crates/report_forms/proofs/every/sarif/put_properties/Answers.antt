@@ -1,6 +1,6 @@
 use Rattle.std.proofs.Common.{ℕ, List, ◌++◌, codes}
 use Rattle.report_forms.specs.Forms.Features.{item_members, sarif_properties}
-use Rattle.geolint_report.proofs.ElementsInTurn.{after}
+use Rattle.report_forms.proofs.JoinedElements.{after}
 use Rattle.report_forms.proofs.every.sarif.put_properties.Goals as goal
 
 pub returns : goal.returns

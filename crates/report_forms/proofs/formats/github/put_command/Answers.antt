@@ -4,7 +4,7 @@ use Rattle.geolint_report.specs.declared.sites.Spot.{Spot}
 use Rattle.geolint_report.specs.Report.{spot_of}
 use Rattle.geolint_report.specs.Texts.{code_name}
 use Rattle.report_forms.specs.Forms.Github.{github_file, github_spot, github_message, github_command}
-use Rattle.geolint_report.proofs.ElementsInTurn.{after}
+use Rattle.report_forms.proofs.JoinedElements.{after}
 use Rattle.report_forms.proofs.formats.github.put_command.Goals as goal
 
 pub returns : goal.returns

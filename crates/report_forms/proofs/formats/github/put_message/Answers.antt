@@ -7,7 +7,7 @@ use Rattle.geolint_report.specs.Report.{path_of}
 use Rattle.geolint_report.specs.Texts.{code_text}
 use Rattle.report_forms.specs.Forms.Github.{github_mark, github_message}
 use Rattle.report_forms.specs.Forms.Messages.{and_record, and_times, and_path}
-use Rattle.geolint_report.proofs.ElementsInTurn.{after}
+use Rattle.report_forms.proofs.JoinedElements.{after}
 use Rattle.report_forms.proofs.formats.github.put_message.Goals as goal
 
 pub returns : goal.returns

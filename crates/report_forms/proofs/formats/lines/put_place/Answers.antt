@@ -5,7 +5,7 @@ use Rattle.geolint_report.specs.Report.{spot_of}
 use Rattle.report_forms.specs.declared.formats.lines.Part.{Part}
 use Rattle.report_forms.specs.Forms.Lines.{beginning, ending, and_spot, lines_place}
 use Rattle.report_forms.specs.Names.{shown_name}
-use Rattle.geolint_report.proofs.ElementsInTurn.{after}
+use Rattle.report_forms.proofs.JoinedElements.{after}
 use Rattle.report_forms.proofs.formats.lines.put_place.Goals as goal
 
 pub returns : goal.returns

@@ -3,7 +3,7 @@ use Rattle.geolint_report.specs.Finding.{record_of}
 use Rattle.geolint_report.specs.Texts.{code_text}
 use Rattle.report_forms.specs.Forms.Messages.{and_record, and_times}
 use Rattle.report_forms.specs.Forms.Sarif.{sarif_message}
-use Rattle.geolint_report.proofs.ElementsInTurn.{after}
+use Rattle.report_forms.proofs.JoinedElements.{after}
 use Rattle.report_forms.proofs.formats.sarif.put_message.Goals as goal
 
 pub returns : goal.returns

@@ -4,7 +4,7 @@ use Rattle.std.specs.Fmt.{decimal}
 use Rattle.geolint_report.specs.declared.sites.Spot.{Spot}
 use Rattle.geolint_report.specs.Report.{spot_of}
 use Rattle.report_forms.specs.Forms.Sarif.{region_start_of, region}
-use Rattle.geolint_report.proofs.ElementsInTurn.{after}
+use Rattle.report_forms.proofs.JoinedElements.{after}
 use Rattle.report_forms.proofs.formats.sarif.put_region.Goals as goal
 
 pub returns : goal.returns

@@ -5,7 +5,7 @@ use Rattle.gj_json.specs.declared.path.Path.{Path}
 use Rattle.geolint_report.specs.Report.{path_of}
 use Rattle.geolint_report.specs.Texts.{code_text}
 use Rattle.report_forms.specs.Forms.Text.{broken_or_refused, path_line_of, text_fault}
-use Rattle.geolint_report.proofs.ElementsInTurn.{after}
+use Rattle.report_forms.proofs.JoinedElements.{after}
 use Rattle.report_forms.proofs.formats.text.put_fault.Goals as goal
 
 pub returns : goal.returns
