@@ -9,5 +9,6 @@ pub mod SixteenLanes
 pub mod NumberPrefixes
 pub mod OrdinaryNumbers
 pub mod WrittenExponents
+pub mod LongNumbers
 pub mod NumberPairs
 pub mod PointedNumbers

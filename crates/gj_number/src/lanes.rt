@@ -339,3 +339,16 @@ pub(crate) fn pointed_prefix(piece: &[u8]) -> Option<Pointed>
         digits: without_point(lanes, natural, fraction),
     })
 }
+
+/// The digits that a piece begins with, as far as its sixteenth byte: how many, and themselves, after zeros.
+#[inline(always)]
+pub(crate) fn digits_prefix(piece: &[u8]) -> (usize, u8x16)
+    requires { 16 ≤ length piece.now }
+    ensures few { result.0 ≤ 16 }
+    ensures digits { Each1 (λ digit. digit < 10) result.1 }
+    ensures spells { SpellsOn piece.now 0 result.0 (fold with_value 0 result.1) }
+{
+    let lanes = lanes_of(piece);
+    let count = leading_digits(lanes);
+    (count, moved_to_end(lanes, count))
+}

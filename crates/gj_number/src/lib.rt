@@ -6,7 +6,8 @@
 //! exponent of a magnitude of at most 1,000.
 //!
 //! A [`Short`] is an ordinary number, of at most eighteen digits and no exponent, which [`read_short`] reads whole from
-//! the start of a piece. What its methods say of it, they say of its decimal.
+//! the start of a piece. What its methods say of it, they say of its decimal. [`read_decimal`] reads longer numbers too,
+//! and gives their decimal.
 #![tactic(auto)]
 
 mod decimal;
@@ -16,6 +17,7 @@ mod join;
 mod lanes;
 pub mod laws;
 mod literal;
+mod prefix;
 mod run;
 mod short;
 mod state;
@@ -23,6 +25,7 @@ mod tens;
 
 pub use decimal::Decimal;
 pub use literal::{Literal, Step};
+pub use prefix::{NumberPrefix, read_decimal};
 pub use short::Short;
 pub use short::pair::{Pair, read_last_pair, read_pair};
 pub use short::prefix::read_short;

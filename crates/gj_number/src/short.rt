@@ -197,7 +197,7 @@ impl Short {
 }
 
 /// The digits without the zeros at their end, and how many those are.
-fn without_zeros(all: u64) -> (u64, u8)
+pub(crate) fn without_zeros(all: u64) -> (u64, u8)
     requires some { 0 < all }
     requires small { all < 10 ^ 18 }
     ensures all { all ≡ result.0 * 10 ^ result.1 }

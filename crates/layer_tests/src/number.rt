@@ -1,4 +1,5 @@
 //! Numbers.
 mod literal;
 mod pair;
+mod prefix;
 mod short;

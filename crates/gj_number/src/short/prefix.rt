@@ -86,7 +86,7 @@ fn read_copied(piece: &[u8], number: &mut Short) -> usize
 /// Reads the number, where it has no exponent, stands among the sixteen bytes after its sign, and one of the usual bytes
 /// stands after it.
 #[inline(always)]
-fn short_number(piece: &[u8], negative: bool, number: &mut Short) -> usize
+pub(crate) fn short_number(piece: &[u8], negative: bool, number: &mut Short) -> usize
     requires room { 40 ≤ length piece.now }
     requires sign { StartsSigned piece.now negative }
     ensures { 0 < result → StartsWithNumber piece.now (exact_of number.new) result }
@@ -230,7 +230,7 @@ fn is_natural(first: u8, count: usize) -> bool
 
 /// Whether this byte may be the first of `count` digits before a point, where `count` counts each of them.
 #[inline(always)]
-fn leads(first: u8, count: usize) -> bool
+pub(crate) fn leads(first: u8, count: usize) -> bool
     ensures some { IsTrue result → count ≡ 0 → IsDigit first }
     ensures one { IsTrue result → first ≡ zero_digit → count ≡ 1 }
 {

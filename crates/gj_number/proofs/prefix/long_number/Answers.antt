@@ -1,0 +1,80 @@
+use Rattle.std.proofs.Common.{◌+◌, ◌<◌, ◌≤◌, ◌^◌, List, ℕ, drop, subst, sym, arith}
+use Rattle.std.proofs.lemmas.Int.{ints}
+use Rattle.std.proofs.lemmas.List.{take_rest}
+use Rattle.std.specs.List.{fold}
+use mir.Val.{bool_byte}
+use Rattle.gj_number.specs.Exact.{Exact}
+use Rattle.gj_number.specs.Short.{StartsWithNumber}
+use Rattle.gj_number.specs.Internal.DigitLanes.{with_value}
+use Rattle.gj_number.specs.Internal.DigitRuns.{SpellsOn, SpellsUnsigned}
+use Rattle.gj_number.proofs.Shorts.NumberPrefixes.{sign_at, sign_length, one_of, below_power}
+use Rattle.gj_number.proofs.Shorts.LongNumbers.{upper_small, long_plain, long_front}
+use Rattle.gj_number.proofs.prefix.long_number.Goals as goal
+
+pub joined_digits-all-requires-clause-upper : goal.joined_digits-all-requires-clause-upper
+joined_digits-all-requires-clause-upper c =
+    let piece = c.args.piece.now in
+    let negative = c.args.negative in
+    let first = bool_byte negative in
+    let k : first ≤ 1 = sign_length negative in
+    let front = c.in-Some.front in
+    let is = c.in-Some.ensures in
+    let few = is.few in
+    let m = c.digits_prefix-more in
+    let P : List ℕ → Type 0 = λ xs. SpellsUnsigned xs front.natural front.fraction (front.natural + 1 + front.fraction) (fold with_value 0 front.digits) in
+    let R : List ℕ → Type 0 = λ xs. SpellsOn xs 0 m.result.0 (fold with_value 0 m.result.1) in
+    let one = one_of piece first front.natural (c.leads.ensures.one c.if-not-leads.false) in
+    let Q : ℕ → Type 0 = λ n. n < 10 ^ 15 in
+    subst Q (sym c.numbers_of-upper.ensures.first)
+    (upper_small piece negative first front.natural front.fraction m.result.0 _ _ (sign_at piece negative c.requires.sign (omega arith))
+    (subst P (take_rest piece first) is.spells) (subst R (take_rest piece (first + 16)) m.ensures.spells) is.some one
+    (omega (arith, c.if-front-lt-AT_ONCE.false)) (omega arith))
+
+pub joined_digits-all-requires-clause-lower : goal.joined_digits-all-requires-clause-lower
+joined_digits-all-requires-clause-lower c =
+    let piece = c.args.piece.now in
+    let first = bool_byte c.args.negative in
+    let m = c.digits_prefix-more in
+    let P : ℕ → Type 0 = λ n. n < 10 ^ m.result.0 in
+    let Q : List ℕ → Type 0 = λ xs. SpellsOn xs 0 m.result.0 (fold with_value 0 m.result.1) in
+    subst P (sym c.numbers_of-upper.ensures.second)
+    (below_power (drop (first + 16) piece) m.result.0 _ (subst Q (take_rest piece (first + 16)) m.ensures.spells))
+
+pub new-requires : goal.new-requires
+new-requires c =
+    let d = c.joined_digits-all in
+    let few = c.in-Some.ensures.few in
+    let more = c.digits_prefix-more.ensures.few in
+    record {
+      zero_is = (λ z. absurd (d.ensures.last (rw z (omega arith))));
+      stripped = (λ _. d.ensures.last);
+      digits = d.ensures.below;
+      power = omega (arith, ints);
+    }
+
+pub returns : goal.returns
+returns c =
+    let piece = c.args.piece.now in
+    let negative = c.args.negative in
+    let first = bool_byte negative in
+    let k : first ≤ 1 = sign_length negative in
+    let front = c.in-Some.front in
+    let is = c.in-Some.ensures in
+    let few = is.few in
+    let m = c.digits_prefix-more in
+    let P : List ℕ → Type 0 = λ xs. SpellsUnsigned xs front.natural front.fraction (front.natural + 1 + front.fraction) (fold with_value 0 front.digits) in
+    let R : List ℕ → Type 0 = λ xs. SpellsOn xs 0 m.result.0 (fold with_value 0 m.result.1) in
+    let one = one_of piece first front.natural (c.leads.ensures.one c.if-not-leads.false) in
+    let d = c.joined_digits-all in
+    let up = c.numbers_of-upper in
+    let Q : ℕ → Type 0 = λ n. SpellsUnsigned (drop first piece) front.natural front.fraction (front.natural + 1 + front.fraction) n in
+    let S : ℕ → Type 0 = λ n. SpellsOn (drop (first + 16) piece) 0 m.result.0 n in
+    let plain = long_plain piece negative first front.natural front.fraction m.result.0 up.result.0 up.result.1
+    (sign_at piece negative c.requires.sign (omega arith)) (subst Q (sym up.ensures.first) (subst P (take_rest piece first) is.spells))
+    (subst S (sym up.ensures.second) (subst R (take_rest piece (first + 16)) m.ensures.spells)) is.some one
+    (omega (arith, c.if-front-lt-AT_ONCE.false)) (omega arith) in
+    let T : Exact → Type 0 = λ e. StartsWithNumber piece e (first + 16 + m.result.0) in
+    let digits = m.ensures.few in
+    subst T (sym c.new.ensures)
+    (long_front piece negative _ _ (first + 16 + m.result.0) plain d.result.0 d.result.1 _ d.ensures.all d.ensures.last d.ensures.below (omega (arith, ints))
+    (omega (arith, ints)) (omega arith) (c.is_behind.ensures c.if-not-is_behind.false))
