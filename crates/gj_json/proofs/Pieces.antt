@@ -11,6 +11,7 @@ pub mod SkippedRuns
 pub mod PieceCuts
 pub mod TakenFlats
 pub mod TakenTokens
+pub mod NumberRows
 pub mod TakenHeads
 pub mod PassedTokens
 pub mod FlatsInTurn

@@ -1,15 +1,17 @@
 //! Whole tokens, from what the reader keeps: one after another, as long as each stands whole in the piece and is of the
 //! usual kind.
 
-ghost use Rattle.std.specs.Prelude.{◌≡◌, ◌+◌, ◌-◌, ◌^◌, ◌≤◌, ◌<◌, ◌++◌, ◌∷◌, [], true, List, length, take, get_or, None};
+ghost use Rattle.std.specs.Prelude.{◌≡◌, ◌+◌, ◌-◌, ◌^◌, ◌≤◌, ◌<◌, ◌++◌, ◌∷◌, [], true, List, length, take, get_or, None, Some, IsTrue};
 ghost use Rattle.gj_number.specs.Grammar.{IsNumber};
 ghost use Rattle.gj_number.specs.Value.{value_of};
 ghost use Rattle.gj_json.specs.Internal.QuietBytes.{Leads};
 ghost use Rattle.gj_json.specs.Bytes.{open_bracket, quote};
 ghost use Rattle.gj_json.specs.Internal.FlatParts.{awaits};
-ghost use Rattle.gj_json.specs.Internal.OpenLevels.{levels_in, outer_of};
+ghost use Rattle.gj_json.specs.Internal.OpenLevels.{levels_in, inner_of, outer_of};
+ghost use Rattle.gj_json.specs.Internal.ReaderStep.{opened};
 ghost use Rattle.gj_json.specs.Internal.ToldEvents.{event_at, closing_of};
 ghost use Rattle.gj_json.specs.Internal.WholeTokens.{bracket_of, may_begin, names};
+ghost use Rattle.gj_json.specs.declared.levels.Level.TheVariants.{Array};
 ghost use Rattle.gj_json.specs.declared.mode.Mode.TheVariants.{ValueDone, ValueDue, ColonDue};
 
 use super::Reader;
@@ -25,7 +27,7 @@ use crate::names::{name_of, type_of};
 use crate::sink::EventSink;
 use crate::tokens::{constant_run, plain_quoted_run};
 use crate::usual::{usual_name, usual_text};
-use gj_number::{Decimal, Literal, Short, read_short};
+use gj_number::{Decimal, Literal, read_decimal};
 
 /// A piece of fewer bytes is taken byte by byte.
 const SHORTEST: usize = 16;
@@ -67,31 +69,21 @@ const MANY: u8 = 4;
 /// A number of more bytes with the byte after it is hardly one that is reported at once.
 const LONG: usize = 20;
 
-/// Whether this byte is one of arrays of numbers that are not reported at once: the last of them has `numbers` so far.
+/// How many numbers an array has with one more, of `count` bytes. One that is not reported at once counts as many.
 #[inline(always)]
-fn goes_on(byte: u8, numbers: u8) -> bool {
-    match byte {
-        b'0'..=b'9' | b'-' | b',' | b']' => true,
-        b'[' => numbers >= MANY,
-        _ => false,
+fn numbers_with(count: usize, numbers: u8) -> u8 {
+    if count > LONG || numbers >= MANY {
+        MANY
+    } else {
+        numbers + 1
     }
 }
 
-/// How many numbers are in the array after a token that begins with this byte and has `count` bytes. One that is not reported at
-/// once counts as many.
-#[inline(always)]
-fn numbers_with(byte: u8, count: usize, numbers: u8) -> u8 {
-    match byte {
-        b'[' => 0,
-        b',' | b']' => numbers,
-        _ => {
-            if count > LONG || numbers >= MANY {
-                MANY
-            } else {
-                numbers + 1
-            }
-        }
-    }
+/// What was taken of an array of numbers: how many bytes, and whether it has closed and is none that is reported at once.
+#[derive(Clone, Copy)]
+struct Row {
+    count: usize,
+    goes_on: bool,
 }
 
 impl Reader {
@@ -237,6 +229,7 @@ impl Reader {
         requires room { self.old.offset + length piece.now ≤ self.old.limits.bytes }
         requires small { self.old.limits.bytes ≤ 2 ^ 60 }
         ensures within { result ≤ length piece.now }
+        ensures lands { 0 < result → Lands 1 (opened level) (level ∷ levels_in self.old.levels) self.old self.new }
         ensures feeds { FeedsAll (S.heard sink.old) (S.heard sink.new) self.old self.new (take result piece.now) }
     {
         if self.levels.len() >= self.limits.depth() {
@@ -337,12 +330,10 @@ impl Reader {
         if is_cut(piece) {
             return 0;
         }
-        let mut number = Short::zero();
-        let count = read_short(piece, &mut number);
-        if count == 0 {
-            return self.take_any_number(piece, sink);
+        match read_decimal(piece) {
+            Some(found) => self.end_number(found.count, Some(found.value), piece, sink),
+            None => self.take_any_number(piece, sink),
         }
-        self.end_number(count, Some(number.decimal()), piece, sink)
     }
 
     /// Takes the byte after a value, where it is a comma, a closing bracket or white space: 1, or 0.
@@ -401,55 +392,124 @@ impl Reader {
         }
     }
 
-    /// Takes a number and the byte after it, the bracket that opens an array, or the byte after a value: how many bytes, or 0.
+    /// Takes the numbers of an array that has just been opened, and its closing bracket.
     #[inline(always)]
-    fn take_part<S: EventSink>(&mut self, piece: &[u8], sink: &mut S) -> usize
-        requires some { 0 < length piece.now }
+    fn take_numbers<S: EventSink>(&mut self, piece: &[u8], sink: &mut S) -> Row
         requires live { self.old.fault ≡ None }
+        requires due { awaits self.old.mode ≡ true }
+        requires inner { inner_of (levels_in self.old.levels) ≡ Some Array }
         requires room { self.old.offset + length piece.now ≤ self.old.limits.bytes }
         requires small { self.old.limits.bytes ≤ 2 ^ 60 }
-        ensures within { result ≤ length piece.now }
-        ensures feeds { FeedsAll (S.heard sink.old) (S.heard sink.new) self.old self.new (take result piece.now) }
+        ensures within { result.count ≤ length piece.now }
+        ensures feeds { FeedsAll (S.heard sink.old) (S.heard sink.new) self.old self.new (take result.count piece.now) }
     {
-        match self.mode {
-            Mode::ValueDone => self.take_end(piece, sink),
-            Mode::ValueDue | Mode::ArrayOpened => {
-                if piece[0] == b'[' {
-                    self.take_open(Level::Array, piece, sink)
-                } else {
-                    self.take_number(piece, sink)
-                }
+        let mut at = 0;
+        let mut numbers = 0;
+        while let Some(found) = read_decimal(&piece[at..]) {
+            let end = piece[at + found.count];
+            if end != b',' && end != b']' {
+                return Row {
+                    count: at,
+                    goes_on: false,
+                };
             }
-            _ => 0,
+            numbers = numbers_with(found.count, numbers);
+            sink.tell(Event {
+                place: self.offset,
+                what: What::Number(Some(found.value)),
+            });
+            if end == b']' {
+                return Row {
+                    count: at + self.take_close(Level::Array, found.count + 1, sink),
+                    goes_on: numbers >= MANY,
+                };
+            }
+            at += self.skip(found.count + 1, Mode::ValueDue);
+        }
+        Row {
+            count: at,
+            goes_on: false,
         }
     }
 
-    /// Takes the bracket of an array, and the numbers in it: how many bytes. Where those are not such as are reported at once,
-    /// the arrays after it are taken so too, since they mostly are alike.
-    #[inline(never)]
-    fn take_rows<S: EventSink>(&mut self, piece: &[u8], sink: &mut S) -> usize
+    /// Takes an array of numbers.
+    #[inline(always)]
+    fn take_row<S: EventSink>(&mut self, piece: &[u8], sink: &mut S) -> Row
         requires some { 0 < length piece.now }
         requires begins { get_or piece.now 0 0 ≡ open_bracket }
         requires live { self.old.fault ≡ None }
         requires due { awaits self.old.mode ≡ true }
         requires room { self.old.offset + length piece.now ≤ self.old.limits.bytes }
         requires small { self.old.limits.bytes ≤ 2 ^ 60 }
+        ensures within { result.count ≤ length piece.now }
+        ensures feeds { FeedsAll (S.heard sink.old) (S.heard sink.new) self.old self.new (take result.count piece.now) }
+    {
+        let opened = self.take_open(Level::Array, piece, sink);
+        if opened == 0 || self.is_ignored(sink) || self.may_be_missed(sink) {
+            return Row {
+                count: opened,
+                goes_on: false,
+            };
+        }
+        let row = self.take_numbers(&piece[opened..], sink);
+        Row {
+            count: opened + row.count,
+            goes_on: row.goes_on,
+        }
+    }
+
+    /// Takes the byte after a value, where the piece begins with it: 1, or 0.
+    #[inline(always)]
+    fn take_next_end<S: EventSink>(&mut self, piece: &[u8], sink: &mut S) -> usize
+        requires live { self.old.fault ≡ None }
+        requires room { self.old.offset + length piece.now ≤ self.old.limits.bytes }
+        requires small { self.old.limits.bytes ≤ 2 ^ 60 }
         ensures within { result ≤ length piece.now }
         ensures feeds { FeedsAll (S.heard sink.old) (S.heard sink.new) self.old self.new (take result piece.now) }
     {
-        let mut at = self.take_open(Level::Array, piece, sink);
-        if self.is_ignored(sink) || self.may_be_missed(sink) {
-            return at;
+        if piece.is_empty() {
+            return 0;
         }
-        let mut numbers = 0;
-        while at < piece.len() && goes_on(piece[at], numbers) {
-            let byte = piece[at];
-            let count = self.take_part(&piece[at..], sink);
-            if count == 0 {
+        match self.mode {
+            Mode::ValueDone => self.take_end(piece, sink),
+            _ => 0,
+        }
+    }
+
+    /// Whether an array begins here.
+    #[inline(always)]
+    fn begins_row(&self, piece: &[u8]) -> bool
+        ensures some { IsTrue result → 0 < length piece.now }
+        ensures begins { IsTrue result → get_or piece.now 0 0 ≡ open_bracket }
+        ensures due { IsTrue result → awaits self.now.mode ≡ true }
+    {
+        if piece.is_empty() || piece[0] != b'[' {
+            return false;
+        }
+        match self.mode {
+            Mode::ValueDue | Mode::ArrayOpened => true,
+            _ => false,
+        }
+    }
+
+    /// Takes an array of numbers: how many bytes. Where it is not such as is reported at once, the arrays after it are taken
+    /// so too, since they mostly are alike.
+    #[inline(never)]
+    fn take_rows<S: EventSink>(&mut self, piece: &[u8], sink: &mut S) -> usize
+        requires live { self.old.fault ≡ None }
+        requires room { self.old.offset + length piece.now ≤ self.old.limits.bytes }
+        requires small { self.old.limits.bytes ≤ 2 ^ 60 }
+        ensures within { result ≤ length piece.now }
+        ensures feeds { FeedsAll (S.heard sink.old) (S.heard sink.new) self.old self.new (take result piece.now) }
+    {
+        let mut at = 0;
+        while self.begins_row(&piece[at..]) {
+            let row = self.take_row(&piece[at..], sink);
+            at += row.count;
+            if row.count == 0 || !row.goes_on {
                 return at;
             }
-            numbers = numbers_with(byte, count, numbers);
-            at += count;
+            at += self.take_next_end(&piece[at..], sink);
         }
         at
     }

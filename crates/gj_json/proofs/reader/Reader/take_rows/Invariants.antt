@@ -2,11 +2,11 @@ use Rattle.std.proofs.Common.{◌≤◌, ◌-◌, length, take}
 use Rattle.gj_json.specs.Internal.FedReader.{FeedsAll}
 use Rattle.gj_json.proofs.reader.Reader.take_rows.Given as goal
 
-abbrev pub invariant-loop-at : goal.invariant-loop-at
-invariant-loop-at g l = record {
+abbrev pub invariant-loop-self : goal.invariant-loop-self
+invariant-loop-self g l = record {
   within : l.at ≤ length l.piece;
   fed : FeedsAll (g.S.EventSink.heard l.fn.sink) (g.S.EventSink.heard l.sink) l.fn.self l.self (take l.at l.piece);
 }
 
-abbrev pub decreases-loop-at : goal.decreases-loop-at
-decreases-loop-at g l = length l.piece - l.at
+abbrev pub decreases-loop-self : goal.decreases-loop-self
+decreases-loop-self g l = length l.piece - l.at

@@ -1,0 +1,79 @@
+-- The numbers of an array, one after another: each with the comma or the bracket after it.
+use Rattle.std.proofs.Common.{◌≡◌, ℕ, ◌+◌, ◌-◌, ◌≤◌, ◌<◌, true, List, [], ◌∷◌, ◌++◌, get_or, length, take, drop, Some, refl, ap, ◌∙◌, arith}
+use Rattle.std.proofs.lemmas.List.{get_or-drop, length-drop, length-take-le}
+use Rattle.gj_number.specs.Exact.{Exact}
+use Rattle.gj_number.specs.Short.{StartsWithNumber}
+use Rattle.gj_json.specs.Bytes.{comma as comma_byte, close_bracket}
+use Rattle.gj_json.specs.Internal.ByteClasses.{class_of}
+use Rattle.gj_json.specs.Internal.FedReader.{Passed, FeedsAll}
+use Rattle.gj_json.specs.Internal.FlatParts.{awaits}
+use Rattle.gj_json.specs.Internal.OpenLevels.{levels_in, inner_of, outer_of}
+use Rattle.gj_json.specs.Internal.ToldEvents.{event_at, closing_of}
+use Rattle.gj_json.specs.Internal.Transitions.{after_move}
+use Rattle.gj_json.specs.Internal.WholeTokens.{Lands}
+use Rattle.gj_json.specs.declared.class.Class.TheVariants.{Comma, CloseArray}
+use Rattle.gj_json.specs.declared.event.Event.{Event}
+use Rattle.gj_json.specs.declared.event.What.{What}
+use Rattle.gj_json.specs.declared.levels.Level.TheVariants.{Array}
+use Rattle.gj_json.specs.declared.mode.Ending.TheVariants.{Item}
+use Rattle.gj_json.specs.declared.mode.Mode.TheVariants.{ValueDue, ValueDone}
+use Rattle.gj_json.specs.declared.mode.Move.TheVariants.{Go, Close}
+use Rattle.gj_json.specs.declared.reader.Reader.{Reader}
+use Rattle.gj_json.proofs.Pieces.PieceRests.{rest_of}
+use Rattle.gj_json.proofs.Pieces.TakenTokens.{number_then, number_closed}
+use Rattle.gj_json.proofs.Readers.CallsInTurn.{piece_all, rest_all}
+
+comma_class : class_of comma_byte ≡ Comma
+unfolding class_of
+comma_class = refl
+
+bracket_class : class_of close_bracket ≡ CloseArray
+unfolding class_of
+bracket_class = refl
+
+module _ (piece : List ℕ) (at n : ℕ) (e : Exact) (within : at ≤ length piece) (found : StartsWithNumber (take (length piece - at) (drop at piece)) e n) where
+  abbrev rest : List ℕ
+  rest = take (length piece - at) (drop at piece)
+
+  rest_length : length rest ≡ length piece - at
+  rest_length = ap length (rest_of piece at) ∙ length-drop at piece
+
+  byte_there : get_or rest n 0 ≡ get_or piece (at + n) 0
+  byte_there = ap (λ xs. get_or xs n 0) (rest_of piece at) ∙ get_or-drop at piece n 0
+
+  pub row_within : at + n < length piece
+  row_within = let w = found.within in omega (arith, rest_length)
+
+  rest_room : {before middle : List Event → Type 0} (old mid : Reader) → FeedsAll before middle old mid (take at piece)
+      → old.offset + length piece ≤ old.limits.bytes → mid.offset + length rest ≤ mid.limits.bytes
+  rest_room old mid fed room =
+      let b : mid.limits.bytes ≡ old.limits.bytes = ap (λ l. l.bytes) fed.feeds.limits in
+      let o = fed.offset in
+      omega (arith, rest_length, length-take-le at piece within)
+
+  module _ {before middle after : List Event → Type 0} (old mid new : Reader) (due : awaits mid.mode ≡ true)
+      (inner : inner_of (levels_in mid.levels) ≡ Some Array) (fed : FeedsAll before middle old mid (take at piece))
+      (room : old.offset + length piece ≤ old.limits.bytes) where
+    pub row_goes_on : get_or piece (at + n) 0 ≡ comma_byte → Passed (n + 1) ValueDue mid new
+        → ((events : List Event) → middle events → after (events ++ event_at mid.offset (What.Number (Some e)) ∷ []))
+        → FeedsAll before after old new (take (at + (n + 1)) piece)
+    row_goes_on comma passed heard =
+        let made : after_move (inner_of (levels_in mid.levels)) (class_of (get_or rest n 0)) ≡ Go ValueDue Item =
+        (λ i. after_move (inner i) (class_of (byte_there i))) ∙ ap (λ b. after_move (Some Array) (class_of b)) comma ∙ ap (after_move (Some Array)) comma_class in
+        piece_all {before = before} {middle = middle} {after = after} old mid new piece at (n + 1) fed
+        (rest_all {before = middle} {after = after} mid new piece at (n + 1)
+        (number_then mid new rest n (Some e) fed.live due (rest_room old mid fed room) found.within found.number found.value {before = middle} {after = after} ValueDue Item made
+        passed heard))
+
+    pub row_ends : get_or piece (at + n) 0 ≡ close_bracket → Lands (n + 1) ValueDone (outer_of (levels_in mid.levels)) mid new
+        → ((events : List Event) → middle events
+        → after (events ++ event_at mid.offset (What.Number (Some e)) ∷ event_at (mid.offset + (n + 1) - 1) (closing_of Array) ∷ []))
+        → FeedsAll before after old new (take (at + (n + 1)) piece)
+    row_ends bracket lands heard =
+        let made : after_move (inner_of (levels_in mid.levels)) (class_of (get_or rest n 0)) ≡ Close Array =
+        (λ i. after_move (inner i) (class_of (byte_there i))) ∙ ap (λ b. after_move (Some Array) (class_of b)) bracket
+        ∙ ap (after_move (Some Array)) bracket_class in
+        piece_all {before = before} {middle = middle} {after = after} old mid new piece at (n + 1) fed
+        (rest_all {before = middle} {after = after} mid new piece at (n + 1)
+        (number_closed mid new rest n (Some e) fed.live due (rest_room old mid fed room) found.within found.number found.value {before = middle} {after = after} Array made
+        lands heard))
