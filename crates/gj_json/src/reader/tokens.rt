@@ -79,6 +79,12 @@ fn numbers_with(count: usize, numbers: u8) -> u8 {
     }
 }
 
+/// Whether a number stands at the start of the piece, by its first byte.
+#[inline(always)]
+fn begins_number(piece: &[u8]) -> bool {
+    !piece.is_empty() && matches!(piece[0], b'0'..=b'9' | b'-')
+}
+
 /// What was taken of an array of numbers: how many bytes, and whether it has closed and is none that is reported at once.
 #[derive(Clone, Copy)]
 struct Row {
@@ -445,7 +451,13 @@ impl Reader {
         ensures feeds { FeedsAll (S.heard sink.old) (S.heard sink.new) self.old self.new (take result.count piece.now) }
     {
         let opened = self.take_open(Level::Array, piece, sink);
-        if opened == 0 || self.is_ignored(sink) || self.may_be_missed(sink) {
+        if opened == 0 || !begins_number(&piece[opened..]) {
+            return Row {
+                count: opened,
+                goes_on: false,
+            };
+        }
+        if self.is_ignored(sink) || self.may_be_missed(sink) {
             return Row {
                 count: opened,
                 goes_on: false,
