@@ -2,6 +2,7 @@
 use crate::element::Element;
 use crate::value_reader::{Gather, ValueReader};
 use gj_json::{Event, What};
+use gj_number::Decimal;
 
 /// How far an array has come.
 #[derive(Clone, Copy)]
@@ -80,6 +81,22 @@ impl<W: ValueReader, G: Gather<W>> ValueReader for Array<W, G> {
                 self.after_item();
             }
             Stage::Broken => self.other.close_array(place),
+            Stage::Done => {}
+        }
+    }
+
+    fn number(&mut self, place: u64, value: &Option<Decimal>) {
+        match self.stage {
+            Stage::Due => {
+                self.other.number(place, value);
+                self.stage = Stage::Broken;
+            }
+            Stage::Between => self.gather.add_number(place, value),
+            Stage::Within => {
+                self.item.number(place, value);
+                self.after_item();
+            }
+            Stage::Broken => self.other.number(place, value),
             Stage::Done => {}
         }
     }

@@ -11,6 +11,7 @@ use crate::walk::{Walk, all_warnings, least_fault};
 use crate::warned::Warned;
 use crate::warnings::Warnings;
 use gj_json::{Event, Flat};
+use gj_number::Decimal;
 use std::mem::size_of;
 
 /// Takes the events of one value of `coordinates`, and gives its least fault and its warnings for each of the six types.
@@ -34,7 +35,7 @@ const _: () = prove!(size_of::<Coordinates>() == 2912);
 impl Coordinates {
     ghost use Rattle.std.specs.Prelude.{◌≡◌, ◌↔◌, ◌<◌, ◌^◌, ◌++◌, ◌∷◌, List, [], length, IsTrue};
     ghost use Rattle.gj_json.specs.declared.event.Event.{Event};
-    ghost use Rattle.gj_json.specs.declared.event.What.TheVariants.{OpenArray, CloseArray};
+    ghost use Rattle.gj_json.specs.declared.event.What.TheVariants.{OpenArray, CloseArray, Number};
     ghost use Rattle.gj_json.specs.Tree.{Tree, depth};
     ghost use Rattle.gj_json.specs.Events.{value_events};
     ghost use Rattle.gj_json.specs.Flat.{flat_events};
@@ -83,6 +84,16 @@ impl Coordinates {
     {
         self.depth = Depth::Unknown;
         self.walk.event(event);
+    }
+
+    /// Takes a number, whatever it is.
+    #[inline]
+    pub fn number(&mut self, place: u64, value: &Option<Decimal>)
+        ensures stands { (events : List Event) → StandsFor self.old events →
+            StandsFor self.new (events ++ record { place = place; what = Number value.now } ∷ []) }
+    {
+        self.depth = Depth::Unknown;
+        self.walk.number(place, value);
     }
 
     /// Takes the opening bracket of an array.

@@ -190,7 +190,7 @@ fn is_precise(value: &Option<Decimal>) -> bool
 
 impl Numbers {
     ghost use Rattle.std.specs.Prelude.{◌≡◌};
-    ghost use Rattle.gj_json.specs.declared.event.What.TheVariants.{OpenArray};
+    ghost use Rattle.gj_json.specs.declared.event.What.TheVariants.{OpenArray, Number};
     ghost use Rattle.gj_coords.specs.Internal.SentEvents.{event_at};
     ghost use Rattle.gj_coords.specs.declared.kind.Kind.TheVariants.{W3, W4, W5};
     ghost use Rattle.gj_coords.specs.Internal.PositionGather.{number_added, first_judged, array_counted, numbers_start, position_least, position_noted};
@@ -237,17 +237,24 @@ impl Numbers {
         ensures { self.new ≡ number_added self.old element.now }
     {
         match &element.what {
-            What::Number(value) => {
-                if self.values.count < MOST_VALUES {
-                    self.judge_first(element.place, value);
-                }
-                self.values.push(value);
-            }
+            What::Number(value) => self.add_value(element.place, value),
             _ => {
                 join_fault(&mut self.fault, misshapen(element.place));
                 self.values.push(&None);
+                self.tally.add();
             }
         }
+    }
+
+    /// Adds an element that is a number.
+    #[inline]
+    pub fn add_value(&mut self, place: u64, value: &Option<Decimal>)
+        ensures { self.new ≡ number_added self.old (event_at place (Number value.now)) }
+    {
+        if self.values.count < MOST_VALUES {
+            self.judge_first(place, value);
+        }
+        self.values.push(value);
         self.tally.add();
     }
 
@@ -364,6 +371,10 @@ impl Gather<Element> for Numbers {
 
     fn add_single(&mut self, event: &Event) {
         self.add_element(event);
+    }
+
+    fn add_number(&mut self, place: u64, value: &Option<Decimal>) {
+        self.add_value(place, value);
     }
 
     fn close(&self) -> Position {

@@ -1,6 +1,6 @@
 //! What the readers of coordinates are made of.
 ghost use Rattle.std.specs.Prelude.{◌≡◌};
-ghost use Rattle.gj_json.specs.declared.event.What.TheVariants.{OpenArray, CloseArray};
+ghost use Rattle.gj_json.specs.declared.event.What.TheVariants.{OpenArray, CloseArray, Number};
 ghost use Rattle.gj_coords.specs.Internal.SentEvents.{event_at};
 ghost use Rattle.gj_coords.specs.Internal.ValueMachine.{Machine};
 ghost use Rattle.gj_coords.specs.Internal.Gathering.{Gathering};
@@ -9,6 +9,7 @@ ghost use Rattle.gj_coords.specs.Internal.Findings.{Judgement};
 use crate::fault::Fault;
 use crate::warned::Warned;
 use gj_json::{Event, What};
+use gj_number::Decimal;
 
 /// Reads one value event by event, and answers.
 pub trait ValueReader: Copy {
@@ -44,6 +45,17 @@ pub trait ValueReader: Copy {
         self.event(&Event {
             place,
             what: What::CloseArray,
+        });
+    }
+
+    /// Takes a number.
+    #[inline]
+    fn number(&mut self, place: u64, value: &Option<Decimal>)
+        ensures { self.new ≡ machine.after self.old (event_at place (Number value.now)) }
+    {
+        self.event(&Event {
+            place,
+            what: What::Number(*value),
         });
     }
 
@@ -90,6 +102,17 @@ pub trait Gather<W: ValueReader>: Copy {
     /// Adds an element of one event, which need not be read.
     fn add_single(&mut self, event: &Event)
         ensures { self.new ≡ gathering.added self.old (W.machine.single event.now) };
+
+    /// Adds an element that is a number.
+    #[inline]
+    fn add_number(&mut self, place: u64, value: &Option<Decimal>)
+        ensures { self.new ≡ gathering.added self.old (W.machine.single (event_at place (Number value.now))) }
+    {
+        self.add_single(&Event {
+            place,
+            what: What::Number(*value),
+        });
+    }
 
     /// The answer for the array that was gathered.
     fn close(&self) -> Self::Answer

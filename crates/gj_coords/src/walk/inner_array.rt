@@ -7,6 +7,7 @@ use crate::value_reader::Gather;
 use crate::warned::Warned;
 use crate::winding::Turn;
 use gj_json::{Event, Flat};
+use gj_number::Decimal;
 
 /// What is known of a value as a position and as a linear ring.
 #[derive(Clone, Copy)]
@@ -108,6 +109,11 @@ impl Gather<PositionReader> for InnerArray {
 
     fn add_single(&mut self, event: &Event) {
         self.add_other(event);
+    }
+
+    fn add_number(&mut self, place: u64, value: &Option<Decimal>) {
+        self.numbers.add_value(place, value);
+        self.positions.add_misshapen(place);
     }
 
     fn close(&self) -> InnerSummary {

@@ -10,6 +10,7 @@ use crate::walk::inner_array::{InnerArray, InnerReader};
 use crate::warned::Warned;
 use crate::winding::Turn;
 use gj_json::{Event, Flat};
+use gj_number::Decimal;
 
 /// What is known of a value as a position, a line, a linear ring and a polygon.
 #[derive(Clone, Copy)]
@@ -136,6 +137,12 @@ impl Gather<InnerReader> for MiddleArray {
 
     fn add_single(&mut self, event: &Event) {
         self.add_other(event);
+    }
+
+    fn add_number(&mut self, place: u64, value: &Option<Decimal>) {
+        self.numbers.add_value(place, value);
+        self.positions.add_misshapen(place);
+        join_fault(&mut self.rings, misshapen(place));
     }
 
     fn close(&self) -> MiddleSummary {
