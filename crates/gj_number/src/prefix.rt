@@ -1,6 +1,7 @@
 //! The number that a piece starts with, and its decimal: an ordinary number, or one of up to thirty digits.
-ghost use Rattle.std.specs.Prelude.{◌≡◌, ◌≢◌, ◌+◌, ◌*◌, ◌%◌, ◌^◌, ◌<◌, ◌≤◌, length, IfSome};
-ghost use Rattle.gj_number.specs.Short.{StartsWithNumber};
+ghost use Rattle.std.specs.Prelude.{◌≡◌, ◌≢◌, ℕ, ◌+◌, ◌*◌, ◌%◌, ◌^◌, ◌<◌, ◌≤◌, length, IfSome};
+ghost use Rattle.std.specs.Option.{IsSome};
+ghost use Rattle.gj_number.specs.Short.{StartsOrdinary, StartsWithNumber};
 ghost use Rattle.gj_number.specs.Internal.DigitRuns.{StartsSigned};
 
 use crate::decimal::Decimal;
@@ -25,11 +26,13 @@ pub struct NumberPrefix {
     pub value: Decimal,
 }
 
-/// Reads the number that the piece starts with, where no number has the byte after it. `None` says nothing: most numbers
-/// are found.
+/// Reads the number that the piece starts with, where no number has the byte after it.
+///
+/// An ordinary number is found in each piece of at least 40 bytes that starts with one. Of others, `None` says nothing.
 #[inline(always)]
 pub fn read_decimal(piece: &[u8]) -> Option<NumberPrefix>
-    ensures { IfSome result (λ found. StartsWithNumber piece.now found.value found.count) }
+    ensures number { IfSome result (λ found. StartsWithNumber piece.now found.value found.count) }
+    ensures taken { 40 ≤ length piece.now → (n : ℕ) → StartsOrdinary piece.now n → IsSome result }
 {
     if piece.len() < ROOM {
         return read_other(piece);
@@ -52,7 +55,8 @@ pub fn read_decimal(piece: &[u8]) -> Option<NumberPrefix>
 /// Reads an ordinary number in any style.
 #[inline(never)]
 fn read_other(piece: &[u8]) -> Option<NumberPrefix>
-    ensures { IfSome result (λ found. StartsWithNumber piece.now found.value found.count) }
+    ensures number { IfSome result (λ found. StartsWithNumber piece.now found.value found.count) }
+    ensures taken { 40 ≤ length piece.now → (n : ℕ) → StartsOrdinary piece.now n → IsSome result }
 {
     let mut number = Short::zero();
     let count = read_short(piece, &mut number);
@@ -74,10 +78,10 @@ fn long_number(piece: &[u8], negative: bool) -> Option<NumberPrefix>
     ensures { IfSome result (λ found. StartsWithNumber piece.now found.value found.count) }
 {
     let first = negative as usize;
-    let Some(front) = pointed_prefix(&piece[first..]) else {
+    let Some(pointed) = pointed_prefix(&piece[first..]) else {
         return None;
     };
-    if front.natural + 1 + front.fraction < AT_ONCE || !leads(piece[first], front.natural) {
+    if pointed.natural + 1 + pointed.fraction < AT_ONCE || !leads(piece[first], pointed.natural) {
         return None;
     }
     let (more, digits) = digits_prefix(&piece[first + AT_ONCE..]);
@@ -85,12 +89,12 @@ fn long_number(piece: &[u8], negative: bool) -> Option<NumberPrefix>
     if more == AT_ONCE || !is_behind(piece[end]) {
         return None;
     }
-    let (upper, lower) = numbers_of(front.digits, digits);
+    let (upper, lower) = numbers_of(pointed.digits, digits);
     if lower == 0 {
         return None;
     }
     let (all, zeros) = joined_digits(upper, lower, more);
-    let places = front.fraction + more - zeros;
+    let places = pointed.fraction + more - zeros;
     Some(NumberPrefix {
         count: end,
         value: Decimal::new(negative, all, -(places as i16)),

@@ -157,8 +157,8 @@ module _ (piece : List ℕ) (negative : Bool) (all places count : ℕ) (p : Spel
   scaled : power ≡ pos 0 -ℤ pos (length p.fraction) +ℤ pos tens
   scaled = let e = p.places_is in omega (arith, ints)
 
-  pub long_front : StartsWithNumber piece exact count
-  long_front =
+  pub long_start : StartsWithNumber piece exact count
+  long_start =
       let s = parts_spell in
       let reach = parts_reach parts (take count piece) s in
       let bounded = number_bounded (parts.natural ++ parts.fraction) (parts_digits parts (take count piece) s) in
