@@ -47,8 +47,8 @@ pub fn split_records<R: Ranges, V: Write + Drop, B: Write + Drop, L: BrokenList 
         AreAllFindings framing limits bytes found
         → AreHeld (split_records bytes found) (V.contents result.outputs.valid) (B.contents result.outputs.broken) result.counts) }
     ensures sequence { OnOk result.outcome ((bytes held : List ℕ) (found : List Record)
-        → AreKnown R.text (V.contents outputs.valid) (B.contents outputs.broken) bytes → AreAllFindings framing limits bytes found → V.contents result.outputs.valid ≡ Some held
-        → IsValidSequence limits.depth (length (split_records bytes found).valid) held) }
+        → AreKnown R.text (V.contents outputs.valid) (B.contents outputs.broken) bytes → AreAllFindings framing limits bytes found
+        → V.contents result.outputs.valid ≡ Some held → IsValidSequence limits.depth (length (split_records bytes found).valid) held) }
 {
     valid_records_apart();
     let mut records = Records::new(framing, limits);

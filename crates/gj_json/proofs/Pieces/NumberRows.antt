@@ -59,11 +59,12 @@ module _ (piece : List ℕ) (at n : ℕ) (e : Exact) (within : at ≤ length pie
         → FeedsAll before after old new (take (at + (n + 1)) piece)
     row_goes_on comma passed heard =
         let made : after_move (inner_of (levels_in mid.levels)) (class_of (get_or rest n 0)) ≡ Go ValueDue Item =
-        (λ i. after_move (inner i) (class_of (byte_there i))) ∙ ap (λ b. after_move (Some Array) (class_of b)) comma ∙ ap (after_move (Some Array)) comma_class in
+        (λ i. after_move (inner i) (class_of (byte_there i))) ∙ ap (λ b. after_move (Some Array) (class_of b)) comma
+        ∙ ap (after_move (Some Array)) comma_class in
         piece_all {before = before} {middle = middle} {after = after} old mid new piece at (n + 1) fed
         (rest_all {before = middle} {after = after} mid new piece at (n + 1)
-        (number_then mid new rest n (Some e) fed.live due (rest_room old mid fed room) found.within found.number found.value {before = middle} {after = after} ValueDue Item made
-        passed heard))
+        (number_then mid new rest n (Some e) fed.live due (rest_room old mid fed room) found.within found.number found.value {before = middle}
+        {after = after} ValueDue Item made passed heard))
 
     pub row_ends : get_or piece (at + n) 0 ≡ close_bracket → Lands (n + 1) ValueDone (outer_of (levels_in mid.levels)) mid new
         → ((events : List Event) → middle events
@@ -75,5 +76,5 @@ module _ (piece : List ℕ) (at n : ℕ) (e : Exact) (within : at ≤ length pie
         ∙ ap (after_move (Some Array)) bracket_class in
         piece_all {before = before} {middle = middle} {after = after} old mid new piece at (n + 1) fed
         (rest_all {before = middle} {after = after} mid new piece at (n + 1)
-        (number_closed mid new rest n (Some e) fed.live due (rest_room old mid fed room) found.within found.number found.value {before = middle} {after = after} Array made
-        lands heard))
+        (number_closed mid new rest n (Some e) fed.live due (rest_room old mid fed room) found.within found.number found.value {before = middle}
+        {after = after} Array made lands heard))

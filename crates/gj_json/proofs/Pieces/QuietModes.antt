@@ -68,8 +68,9 @@ quiet_white _ h b e = absurd h
 
 pub plain_run : (xs : List ℕ) → Reads Plain (take (prefix_len is_unescaped_ascii xs) xs) (take (prefix_len is_unescaped_ascii xs) xs) Plain
     × AllByRecursion IsAscii (take (prefix_len is_unescaped_ascii xs) xs)
-plain_run xs = let h =
-    all_run is_unescaped_ascii IsPlain plain_is xs in (plain_reads (take (prefix_len is_unescaped_ascii xs) xs) h, plain_ascii (take (prefix_len is_unescaped_ascii xs) xs) h)
+plain_run xs =
+    let h = all_run is_unescaped_ascii IsPlain plain_is xs in
+    (plain_reads (take (prefix_len is_unescaped_ascii xs) xs) h, plain_ascii (take (prefix_len is_unescaped_ascii xs) xs) h)
 
 pub white_run : (mode : Mode) → PassesWhite mode → (xs : List ℕ) → AllByRecursion (IsQuiet mode) (take (prefix_len is_white xs) xs)
 white_run mode h xs = all_run is_white (IsQuiet mode) (quiet_white mode h) xs

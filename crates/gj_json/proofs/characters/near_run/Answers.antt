@@ -13,5 +13,6 @@ returns-clause-within c = omega (arith, c.wide_run.ensures.within, length-take-l
 pub returns-clause-characters : goal.returns-clause-characters
 returns-clause-characters c =
     let P : List ℕ → Type 0 = λ ys. AreCharacters ys in
-    subst P (take-take c.wide_run.result 256 c.args.piece.now (omega (arith, c.wide_run.ensures.within, length-take-le 256 c.args.piece.now (omega (arith, c.requires)))))
+    let room = length-take-le 256 c.args.piece.now (omega (arith, c.requires)) in
+    subst P (take-take c.wide_run.result 256 c.args.piece.now (omega (arith, c.wide_run.ensures.within, room)))
     c.wide_run.ensures.characters
