@@ -9,7 +9,7 @@ returns-then-piece-lt-PAIR_ROOM c =
     let P : List ℕ → Type 0 =
     λ xs. IfSome c.read_last_pair.result
     (λ pair. StartsWithPair xs (exact_of c.read_last_pair.new.first) (exact_of c.read_last_pair.new.second) pair.comma pair.second pair.end) in
-    subst P (rest_of c.args.piece.now 1) c.read_last_pair.ensures
+    subst P (rest_of c.args.piece.now 1) c.read_last_pair.ensures.numbers
 
 pub returns : goal.returns
 returns c =
