@@ -2,6 +2,7 @@
 pub mod WarningsInTurn
 pub mod AskedShapes
 pub mod MemberSlots
+pub mod SlotsByPlace
 pub mod OneMember
 pub mod AllMembers
 pub mod SettledObjects

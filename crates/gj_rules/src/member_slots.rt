@@ -1,6 +1,5 @@
 //! What the members of an open object have shown of it.
 ghost use Rattle.std.specs.Prelude.{◌≡◌};
-ghost use Rattle.gj_rules.specs.Internal.FrameReading.{slot_in};
 
 mod lost;
 mod settle;
@@ -10,6 +9,9 @@ use crate::role::Role;
 use crate::shapes::{Shapes, simple_of};
 use gj_coords::{Coordinates, Fault, Simple, lesser_fault};
 use gj_json::{Known, Word};
+
+/// How many names have a slot: the known ones.
+const NAMES: usize = 8;
 
 /// The first member of a name.
 #[derive(Clone, Copy, PartialEq, Eq)]
@@ -26,40 +28,6 @@ pub struct TypeValue {
     pub word: Word,
 }
 
-/// Of which names an object has shown a member.
-#[derive(Clone, Copy, PartialEq, Eq)]
-pub struct Present {
-    pub type_name: bool,
-    pub coordinates: bool,
-    pub geometries: bool,
-    pub geometry: bool,
-    pub properties: bool,
-    pub features: bool,
-    pub bbox: bool,
-    pub id: bool,
-}
-
-impl Present {
-    ghost use Rattle.gj_rules.specs.Internal.FrameReading.{none_present};
-
-    /// Of none.
-    #[inline]
-    pub fn none() -> Self
-        ensures { result ≡ none_present }
-    {
-        Present {
-            type_name: false,
-            coordinates: false,
-            geometries: false,
-            geometry: false,
-            properties: false,
-            features: false,
-            bbox: false,
-            id: false,
-        }
-    }
-}
-
 /// For which types it is kept what is found in the first `coordinates`.
 #[derive(Clone, Copy, PartialEq, Eq)]
 pub enum Shaped {
@@ -69,14 +37,6 @@ pub enum Shaped {
     One,
     /// For each, since the type had not come.
     Each,
-}
-
-/// A slot that counts only where a member of its name is present.
-#[inline]
-fn slot_if(present: bool, slot: &Slot) -> Option<Slot>
-    ensures { result ≡ slot_in present slot.now }
-{
-    if present { Some(*slot) } else { None }
 }
 
 /// What an open object with a role has shown so far.
@@ -93,20 +53,15 @@ pub struct MemberSlots {
     pub shapes: Shapes,
     /// What of `shapes` was set: the rest does not count.
     pub shaped: Shaped,
-    /// Which of the slots count.
-    pub present: Present,
-    pub type_name: Slot,
-    pub coordinates: Slot,
-    pub geometries: Slot,
-    pub geometry: Slot,
-    pub properties: Slot,
-    pub features: Slot,
-    pub bbox: Slot,
-    pub id: Slot,
+    /// The names of which a member has come, a bit for each: the other slots do not count.
+    pub present: u8,
+    /// By the place of a name among the names.
+    pub slots: [Slot; NAMES],
 }
 
 impl MemberSlots {
-    ghost use Rattle.std.specs.Prelude.{◌≤◌};
+    ghost use Rattle.std.specs.Prelude.{◌≤◌, IsTrue};
+    ghost use Rattle.gj_rules.specs.Members.{is_known};
     ghost use Rattle.gj_json.specs.Tree.{Tree, depth};
     ghost use Rattle.gj_json.specs.Events.{value_events};
     ghost use Rattle.gj_rules.specs.Levels.{most_levels};
@@ -116,6 +71,7 @@ impl MemberSlots {
     ghost use Rattle.gj_rules.specs.Internal.OpenMembers.{type_set, shapes_set};
 
     /// Of an object that opens at this place.
+    #[tactic(auto, unfolding(crate::specs::Internal::FrameReading::slot_in))]
     pub fn new(role: Role, place: u64) -> Self
         ensures { slots_in result ≡ blank role place }
     {
@@ -130,19 +86,13 @@ impl MemberSlots {
             type_value: None,
             shapes: Shapes::none(),
             shaped: Shaped::No,
-            present: Present::none(),
-            type_name: slot,
-            coordinates: slot,
-            geometries: slot,
-            geometry: slot,
-            properties: slot,
-            features: slot,
-            bbox: slot,
-            id: slot,
+            present: 0,
+            slots: [slot; NAMES],
         }
     }
 
     /// Of another object that opens, whatever was shown: what is written is all that is looked at.
+    #[tactic(auto, unfolding(crate::specs::Internal::FrameReading::slot_in))]
     #[inline]
     pub fn again(&mut self, role: Role, place: u64)
         ensures { slots_in self.new ≡ blank role place }
@@ -152,7 +102,7 @@ impl MemberSlots {
         self.repeated = None;
         self.type_value = None;
         self.shaped = Shaped::No;
-        self.present = Present::none();
+        self.present = 0;
     }
 
     /// The first member of a name, where there is one.
@@ -160,58 +110,22 @@ impl MemberSlots {
     pub fn slot(&self, name: Known) -> Option<Slot>
         ensures { result ≡ slot_of name (slots_in self.now) }
     {
-        match name {
-            Known::TypeName => slot_if(self.present.type_name, &self.type_name),
-            Known::Coordinates => slot_if(self.present.coordinates, &self.coordinates),
-            Known::Geometries => slot_if(self.present.geometries, &self.geometries),
-            Known::Geometry => slot_if(self.present.geometry, &self.geometry),
-            Known::Properties => slot_if(self.present.properties, &self.properties),
-            Known::Features => slot_if(self.present.features, &self.features),
-            Known::Bbox => slot_if(self.present.bbox, &self.bbox),
-            Known::Id => slot_if(self.present.id, &self.id),
-            Known::Crs | Known::Other => None,
+        let index = name as usize;
+        if index < NAMES && self.present >> index & 1 == 1 {
+            Some(self.slots[index])
+        } else {
+            None
         }
     }
 
     #[inline(always)]
     fn set_slot(&mut self, name: Known, slot: Slot)
+        requires { IsTrue (is_known name) }
         ensures { slots_in self.new ≡ with_slot name slot (slots_in self.old) }
     {
-        match name {
-            Known::TypeName => {
-                self.present.type_name = true;
-                self.type_name = slot;
-            }
-            Known::Coordinates => {
-                self.present.coordinates = true;
-                self.coordinates = slot;
-            }
-            Known::Geometries => {
-                self.present.geometries = true;
-                self.geometries = slot;
-            }
-            Known::Geometry => {
-                self.present.geometry = true;
-                self.geometry = slot;
-            }
-            Known::Properties => {
-                self.present.properties = true;
-                self.properties = slot;
-            }
-            Known::Features => {
-                self.present.features = true;
-                self.features = slot;
-            }
-            Known::Bbox => {
-                self.present.bbox = true;
-                self.bbox = slot;
-            }
-            Known::Id => {
-                self.present.id = true;
-                self.id = slot;
-            }
-            Known::Crs | Known::Other => {}
-        }
+        let index = name as usize;
+        self.present |= 1 << index;
+        self.slots[index] = slot;
     }
 
     /// Adds a fault of the value of the first member `name`.
@@ -297,6 +211,7 @@ impl MemberSlots {
     /// Takes a name that an object should have once.
     #[inline(always)]
     fn known_name(&mut self, name: Known, place: u64) -> Known
+        requires { IsTrue (is_known name) }
         ensures slots { slots_in self.new ≡ named_known name place (slot_of name (slots_in self.old)) (slots_in self.old) }
         ensures due { result ≡ due_known name (slot_of name (slots_in self.old)) self.old.role }
     {
@@ -320,6 +235,7 @@ impl MemberSlots {
 
     #[inline(always)]
     fn first_name(&mut self, name: Known, place: u64) -> Known
+        requires { IsTrue (is_known name) }
         ensures slots { slots_in self.new ≡ with_slot name (record { name_at = place; fault = None }) (slots_in self.old) }
         ensures due { result ≡ used self.old.role name }
     {

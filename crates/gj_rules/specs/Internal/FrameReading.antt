@@ -1,6 +1,7 @@
 -- As what a frame is read. What was kept of an object that has closed is left in it, and does not show here: a
 -- member counts where it is present, what a coordinates value shows where it was set, warnings where there are some.
-use Rattle.std.specs.Prelude.{ℕ, Bool, true, false, Option, Some, None}
+use Rattle.std.specs.Prelude.{ℕ, Bool, true, false, if◌then◌else◌, nat_eq, List, slice_index_or, Option, Some, None}
+use Rattle.std.specs.Int.{bit_at}
 use Rattle.gj_coords.specs.declared.fault.Fault.{Fault}
 use Rattle.gj_coords.specs.declared.fault.Rule.TheVariants.{G10}
 use Rattle.gj_coords.specs.Fault.{fault_at}
@@ -16,9 +17,10 @@ use Rattle.gj_rules.specs.declared.member_warnings.MemberWarnings as DG
 use Rattle.gj_rules.specs.declared.lazy_warned.LazyWarned.{LazyWarned}
 use Rattle.gj_rules.specs.declared.shapes.Shapes as DS
 use Rattle.gj_rules.specs.declared.member_slots.MemberSlots as DW
-use Rattle.gj_rules.specs.declared.member_slots.Present.{Present}
 use Rattle.gj_rules.specs.declared.member_slots.Shaped.{Shaped}
 use Rattle.gj_rules.specs.declared.member_slots.Slot.{Slot}
+use Rattle.gj_rules.specs.declared.member_slots.TypeValue.{TypeValue}
+use Rattle.gj_rules.specs.declared.role.Role.{Role}
 use Rattle.gj_rules.specs.Internal.FrameMeaning.{Findings, Shapes, MemberSlots, MemberWarnings, Frame}
 use Rattle.gj_rules.specs.Internal.Summaries.{no_shapes, alike}
 
@@ -57,35 +59,39 @@ shapes_if Shaped.No shapes = no_shapes
 shapes_if Shaped.One shapes = alike (one_in shapes)
 shapes_if Shaped.Each shapes = shapes_in shapes
 
-abbrev pub none_present : Present
-none_present = record
-    { type_name = false; coordinates = false; geometries = false; geometry = false; properties = false; features = false; bbox = false; id = false }
+-- a slot that was not set
+abbrev pub no_slot : Slot
+no_slot = record { name_at = 0; fault = None }
 
-abbrev pub slot_in : Bool → Slot → Option Slot
-slot_in true slot = Some slot
-slot_in false slot = None
+-- the slot at a place, where a member of its name is present
+unfoldable pub slot_in : ℕ → List Slot → ℕ → Option Slot
+slot_in present slots index = if nat_eq (bit_at present index) 1 then Some (slice_index_or slots index no_slot) else None
 
 -- the fault of the least repeated name
 abbrev pub repeated_in : Option ℕ → Option Fault
 repeated_in None = None
 repeated_in (Some place) = Some (fault_at place G10)
 
-abbrev pub slots_in : DW.MemberSlots → MemberSlots
-slots_in x = record {
-  place = x.place;
-  role = x.role;
-  repeated = repeated_in x.repeated;
-  type_value = x.type_value;
-  shapes = shapes_if x.shaped x.shapes;
-  type_name = slot_in x.present.type_name x.type_name;
-  coordinates = slot_in x.present.coordinates x.coordinates;
-  geometries = slot_in x.present.geometries x.geometries;
-  geometry = slot_in x.present.geometry x.geometry;
-  properties = slot_in x.present.properties x.properties;
-  features = slot_in x.present.features x.features;
-  bbox = slot_in x.present.bbox x.bbox;
-  id = slot_in x.present.id x.id;
+-- what an object has shown, by the places of its slots
+abbrev pub by_place : ℕ → Role → Option Fault → Option TypeValue → Shapes → (ℕ → Option Slot) → MemberSlots
+by_place place role repeated type_value shapes at = record {
+  place = place;
+  role = role;
+  repeated = repeated;
+  type_value = type_value;
+  shapes = shapes;
+  type_name = at 0;
+  coordinates = at 1;
+  geometries = at 2;
+  geometry = at 3;
+  properties = at 4;
+  features = at 5;
+  bbox = at 6;
+  id = at 7;
 }
+
+abbrev pub slots_in : DW.MemberSlots → MemberSlots
+slots_in x = by_place x.place x.role (repeated_in x.repeated) x.type_value (shapes_if x.shaped x.shapes) (slot_in x.present x.slots)
 
 abbrev pub warnings_if : Bool → Warned → Warnings
 warnings_if true warned = all_in warned

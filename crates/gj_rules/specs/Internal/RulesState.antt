@@ -10,7 +10,7 @@ use Rattle.gj_coords.specs.declared.bbox.Bbox.{Bbox}
 use Rattle.gj_coords.specs.Internal.GatheredWarnings.{no_warned}
 use Rattle.gj_rules.specs.declared.frame.Frame as D
 use Rattle.gj_rules.specs.Internal.FrameMeaning.{Frame}
-use Rattle.gj_rules.specs.Internal.FrameReading.{frame_in, found_in, none_present}
+use Rattle.gj_rules.specs.Internal.FrameReading.{frame_in, found_in}
 use Rattle.gj_rules.specs.declared.mode.Mode.{Mode}
 use Rattle.gj_rules.specs.declared.mode.Mode.TheVariants.{RootDue, Due, Done}
 use Rattle.gj_rules.specs.declared.role.Role.{Role}
@@ -38,15 +38,8 @@ no_frame = record {
       multi_polygon = no_warned;
     };
     shaped = Shaped.No;
-    present = none_present;
-    type_name = record { name_at = 0; fault = None };
-    coordinates = record { name_at = 0; fault = None };
-    geometries = record { name_at = 0; fault = None };
-    geometry = record { name_at = 0; fault = None };
-    properties = record { name_at = 0; fault = None };
-    features = record { name_at = 0; fault = None };
-    bbox = record { name_at = 0; fault = None };
-    id = record { name_at = 0; fault = None };
+    present = 0;
+    slots = [];
   };
   gathered = record {
     own = record { warned = no_warned; counts = false };

@@ -13,14 +13,14 @@ impl MemberSlots {
     ghost use Rattle.gj_rules.specs.Internal.LostObjects.{features_forbid, features_fails, fails_as, all_fail, is_lost};
 
     /// It has a member of this name.
-    fn has(&self, name: Known) -> bool
+    pub(super) fn has(&self, name: Known) -> bool
         ensures { result ≡ is_some (slot_of name (slots_in self.now)) }
     {
         self.slot(name).is_some()
     }
 
     /// The value of the first member of this name has a fault.
-    fn value_fails(&self, name: Known) -> bool
+    pub(super) fn value_fails(&self, name: Known) -> bool
         ensures { result ≡ slot_fails (slot_of name (slots_in self.now)) }
     {
         match self.slot(name) {

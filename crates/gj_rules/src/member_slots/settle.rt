@@ -52,7 +52,7 @@ impl MemberSlots {
     fn due_shape(&self, simple: Simple) -> Option<Fault>
         ensures { result ≡ due_shape simple self.now.place (slots_in self.now).shapes (slots_in self.now).coordinates }
     {
-        if self.present.coordinates {
+        if self.slot(Known::Coordinates).is_some() {
             self.shape_fault(simple)
         } else {
             Some(Fault {

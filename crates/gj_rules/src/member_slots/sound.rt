@@ -4,7 +4,7 @@ ghost use Rattle.std.specs.Prelude.{◌≡◌, IsTrue, None};
 use super::{MemberSlots, Shaped};
 use crate::role::Role;
 use gj_coords::Simple;
-use gj_json::Word;
+use gj_json::{Known, Word};
 
 impl MemberSlots {
     ghost use Rattle.gj_rules.specs.Internal.FrameReading.{slots_in};
@@ -19,8 +19,11 @@ impl MemberSlots {
     fn is_sound_simple(&self, simple: Simple) -> bool
         ensures { IsTrue result → as_simple simple (slots_in self.now) ≡ None }
     {
-        let present = &self.present;
-        if present.geometry || present.properties || present.features || !present.coordinates {
+        if self.has(Known::Geometry)
+            || self.has(Known::Properties)
+            || self.has(Known::Features)
+            || !self.has(Known::Coordinates)
+        {
             return false;
         }
         self.shape_fault(simple).is_none()
@@ -30,28 +33,33 @@ impl MemberSlots {
     fn is_sound_collection(&self) -> bool
         ensures { IsTrue result → as_collection (slots_in self.now) ≡ None }
     {
-        let present = &self.present;
-        if present.geometry || present.properties || present.features || !present.geometries {
+        if self.has(Known::Geometry)
+            || self.has(Known::Properties)
+            || self.has(Known::Features)
+            || !self.has(Known::Geometries)
+        {
             return false;
         }
-        self.geometries.fault.is_none()
+        !self.value_fails(Known::Geometries)
     }
 
     /// Whether it has the members of a Feature, and nothing is wrong with any.
     fn is_sound_feature(&self) -> bool
         ensures { IsTrue result → as_feature (slots_in self.now) ≡ None }
     {
-        let present = &self.present;
-        if present.coordinates || present.geometries || present.features {
+        if self.has(Known::Coordinates)
+            || self.has(Known::Geometries)
+            || self.has(Known::Features)
+        {
             return false;
         }
-        if !present.geometry || !present.properties {
+        if !self.has(Known::Geometry) || !self.has(Known::Properties) {
             return false;
         }
-        if present.id && self.id.fault.is_some() {
+        if self.value_fails(Known::Id) {
             return false;
         }
-        self.geometry.fault.is_none() && self.properties.fault.is_none()
+        !self.value_fails(Known::Geometry) && !self.value_fails(Known::Properties)
     }
 
     fn is_sound_as(&self, word: Word) -> bool
@@ -74,7 +82,7 @@ impl MemberSlots {
     pub fn is_sound(&self) -> bool
         ensures { IsTrue result → settled (slots_in self.now) ≡ None }
     {
-        if self.repeated.is_some() || self.present.bbox {
+        if self.repeated.is_some() || self.has(Known::Bbox) {
             return false;
         }
         match self.type_value {
@@ -89,7 +97,7 @@ impl MemberSlots {
         ensures role { IsTrue result → self.now.role ≡ Role.Feature }
         ensures none { IsTrue result → settled (slots_in self.now) ≡ None }
     {
-        if self.repeated.is_some() || self.present.bbox {
+        if self.repeated.is_some() || self.has(Known::Bbox) {
             return false;
         }
         match (self.role, self.type_value) {
