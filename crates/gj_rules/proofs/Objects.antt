@@ -3,8 +3,10 @@ pub mod WarningsInTurn
 pub mod AskedShapes
 pub mod MemberSlots
 pub mod SlotsByPlace
+pub mod MetRules
 pub mod OneMember
 pub mod AllMembers
+pub mod FaultsInAnyOrder
 pub mod SettledObjects
 pub mod JoinedFindings
 pub mod CleanFrames

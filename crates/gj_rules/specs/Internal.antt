@@ -3,6 +3,7 @@ pub mod FrameMeaning
 pub mod Summaries
 pub mod FrameReading
 pub mod TextKept
+pub mod MemberRules
 pub mod OpenMembers
 pub mod GatheredWarnings
 pub mod FrameCalls

@@ -2,6 +2,7 @@
 ghost use Rattle.std.specs.Prelude.{◌≡◌};
 
 mod lost;
+mod member_rules;
 mod settle;
 mod sound;
 
@@ -55,17 +56,19 @@ pub struct MemberSlots {
     pub shaped: Shaped,
     /// The names of which a member has come, a bit for each: the other slots do not count.
     pub present: u8,
+    /// Those whose first member may have a fault in its value: the faults of the others do not count.
+    pub faulty: u8,
     /// By the place of a name among the names.
     pub slots: [Slot; NAMES],
 }
 
 impl MemberSlots {
-    ghost use Rattle.std.specs.Prelude.{◌≤◌, IsTrue};
+    ghost use Rattle.std.specs.Prelude.{◌<◌, ◌≤◌, IsTrue};
     ghost use Rattle.gj_rules.specs.Members.{is_known};
     ghost use Rattle.gj_json.specs.Tree.{Tree, depth};
     ghost use Rattle.gj_json.specs.Events.{value_events};
     ghost use Rattle.gj_rules.specs.Levels.{most_levels};
-    ghost use Rattle.gj_rules.specs.Internal.FrameReading.{slots_in};
+    ghost use Rattle.gj_rules.specs.Internal.FrameReading.{counted_slot, slots_in};
     ghost use Rattle.gj_rules.specs.Internal.Summaries.{StandsForCoordinates, shapes_of, asked, asked_as};
     ghost use Rattle.gj_rules.specs.Internal.OpenMembers.{blank, slot_of, with_slot, joined, named, named_known, due_after, due_known, repeated_at, used};
     ghost use Rattle.gj_rules.specs.Internal.OpenMembers.{type_set, shapes_set};
@@ -87,6 +90,7 @@ impl MemberSlots {
             shapes: Shapes::none(),
             shaped: Shaped::No,
             present: 0,
+            faulty: 0,
             slots: [slot; NAMES],
         }
     }
@@ -103,6 +107,7 @@ impl MemberSlots {
         self.type_value = None;
         self.shaped = Shaped::No;
         self.present = 0;
+        self.faulty = 0;
     }
 
     /// The first member of a name, where there is one.
@@ -112,9 +117,26 @@ impl MemberSlots {
     {
         let index = name as usize;
         if index < NAMES && self.present >> index & 1 == 1 {
-            Some(self.slots[index])
+            Some(self.counted_slot(index))
         } else {
             None
+        }
+    }
+
+    /// The slot at this place, with its fault where one counts.
+    #[inline(always)]
+    fn counted_slot(&self, index: usize) -> Slot
+        requires { index < NAMES }
+        ensures { result ≡ counted_slot self.now.faulty self.now.slots index }
+    {
+        let slot = self.slots[index];
+        Slot {
+            name_at: slot.name_at,
+            fault: if self.faulty >> index & 1 == 1 {
+                slot.fault
+            } else {
+                None
+            },
         }
     }
 
@@ -126,6 +148,9 @@ impl MemberSlots {
         let index = name as usize;
         self.present |= 1 << index;
         self.slots[index] = slot;
+        if slot.fault.is_some() {
+            self.faulty |= 1 << index;
+        }
     }
 
     /// Adds a fault of the value of the first member `name`.

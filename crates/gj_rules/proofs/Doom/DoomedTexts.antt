@@ -1,14 +1,13 @@
 -- What the first events of a text show of it, and what the rules keep of them.
 use Rattle.std.proofs.Common.{◌≡◌, ℕ, zero, suc, ◌+◌, ◌≤◌, Bool, true, false, ◌||◌, if◌then◌else◌, List, [], ◌∷◌, ◌++◌, map, inl, inr, Option, Some, None}
 use Rattle.std.proofs.Common.{is_some, refl, sym, ap, subst, ◌∙◌}
-use Rattle.std.specs.List.{list_any}
 use Rattle.std.proofs.lemmas.Bool.{or_left, or_right, or_cases}
 use Rattle.gj_json.specs.declared.constant.Constant.TheVariants.{Null, True, False}
 use Rattle.gj_json.specs.declared.event.Event.{Event}
 use Rattle.gj_json.specs.declared.event.What.{What}
 use Rattle.gj_json.specs.declared.event.What.TheVariants as W
 use Rattle.gj_json.specs.declared.names.Known.{Known}
-use Rattle.gj_json.specs.declared.names.Known.TheVariants.{Coordinates, Geometries, Geometry, Properties, Features}
+use Rattle.gj_json.specs.declared.names.Known.TheVariants.{Coordinates, Geometries, Geometry, Properties, Features, Bbox}
 use Rattle.gj_json.specs.declared.names.Word.{Word}
 use Rattle.gj_json.specs.Events as E
 use Rattle.gj_json.specs.Events.{events_by, by}
@@ -17,13 +16,11 @@ use Rattle.gj_number.specs.Value.{value_of}
 use Rattle.gj_json.specs.Text.{IsText}
 use Rattle.gj_json.specs.Tree.{Tree, constant, number, string, array, object, Members, Text, depth}
 use Rattle.gj_coords.specs.declared.fault.Fault.{Fault}
-use Rattle.gj_coords.specs.declared.fault.Rule.{Rule}
-use Rattle.gj_coords.specs.declared.fault.Rule.TheVariants.{G1, G3, G5, G6, G7, G8}
-use Rattle.gj_coords.specs.declared.simple.Simple.{Simple}
+use Rattle.gj_coords.specs.declared.fault.Rule.TheVariants.{G1, G2, G3}
 use Rattle.gj_coords.specs.declared.warnings.Warnings.{Warnings}
 use Rattle.gj_coords.specs.Fault.{lesser, least, fault_at}
 use Rattle.gj_rules.specs.Levels.{levels_within}
-use Rattle.gj_rules.specs.Internal.FrameMeaning.{Findings, Frame, Shapes, MemberSlots}
+use Rattle.gj_rules.specs.Internal.FrameMeaning.{Findings, Frame, MemberSlots}
 use Rattle.gj_rules.specs.declared.role.Role.{Role}
 use Rattle.gj_rules.specs.declared.mode.Mode.TheVariants.{Names, Done}
 use Rattle.gj_rules.specs.declared.rules.FramedRules.{FramedRules}
@@ -33,19 +30,19 @@ use Rattle.gj_rules.specs.Doomed.{names, first_type, repeats, type_fails, member
 use Rattle.gj_rules.specs.Faults.{faults, text_faults}
 use Rattle.gj_rules.specs.Internal.FrameCalls as F
 use Rattle.gj_rules.specs.Internal.RulesState.{core_of}
-use Rattle.gj_rules.specs.Internal.LostObjects.{slot_fails, geometry_forbids, feature_forbids, features_forbid, simple_fails, feature_fails, fails_as}
-use Rattle.gj_rules.specs.Internal.LostObjects.{type_lost, is_lost, core_lost}
-use Rattle.gj_rules.specs.Members.{mentions}
+use Rattle.gj_rules.specs.declared.member_slots.member_rules.MemberRules.{MemberRules}
+use Rattle.gj_rules.specs.Internal.MemberRules.{is_among, rules_of, rules_of_any, without_due, missing, asked_fault}
+use Rattle.gj_rules.specs.Internal.LostObjects.{fails_by, fails_as, type_lost, is_lost, core_lost}
+use Rattle.gj_rules.specs.Members.{is_known, mentions}
 use Rattle.gj_rules.specs.Role.{is_allowed}
 use Rattle.gj_rules.specs.Rules.{StandsFor}
 use Rattle.gj_rules.specs.Internal.OpenMembers as S
 use Rattle.gj_rules.specs.Internal.EventSteps.{State, step, run, start, skip}
-use Rattle.gj_rules.specs.Internal.Summaries.{shape_for}
 use Rattle.gj_rules.specs.Internal.TextKept.{marked_kept}
 use Rattle.gj_rules.specs.Internal.LabelledEvents.{Told, plain, event_of, told, members_told, mark_told}
 use Rattle.gj_rules.proofs.Objects.ClosedFrames.{all_closed}
 use Rattle.gj_rules.proofs.Texts.FramesInUse.{front_text}
-use Rattle.gj_rules.proofs.Objects.GrowingFaults.{Keeps, lesser_first, lesser_second}
+use Rattle.gj_rules.proofs.Objects.GrowingFaults.{Keeps, lesser_first, lesser_second, not_due, members_keep}
 use Rattle.gj_rules.proofs.Texts.ValuesByEvents.{st, due_root, had_found, frame_role}
 use Rattle.gj_rules.proofs.Doom.InsideValues.{root}
 use Rattle.gj_rules.proofs.Doom.OutermostMembers.{own}
@@ -60,68 +57,31 @@ lesser_or : (p q : Bool) (x y : Option Fault) → Keeps p (is_some x) → Keeps 
 lesser_or true q x y f g e = lesser_first x y (f refl)
 lesser_or false q x y f g e = lesser_second x y (g e)
 
-forbidden_kept : (o : Option Slot) → Keeps (is_some o) (is_some (S.forbidden_slot o))
-forbidden_kept None e = e
-forbidden_kept (Some slot) e = refl
+member_kept : (d u b : Bool) (x : Fault) (o : Option Slot) → Keeps (is_some (asked_fault false u b x o)) (is_some (asked_fault d u b x o))
+member_kept d u b x None e = let l : false ≡ true = e in cc
+member_kept d u b x (Some slot) e = e
 
-due_kept : (place : ℕ) (rule : Rule) (o : Option Slot) → Keeps (slot_fails o) (is_some (S.due_slot place rule o))
-due_kept place rule None e = refl
-due_kept place rule (Some slot) e = e
+members_kept : (r : MemberRules) (f : MemberSlots) → Keeps (is_some (S.members_fault (without_due r) f)) (is_some (S.members_fault r f))
+members_kept r f = members_keep (without_due r) r f f (λ n.
+    rw (not_due n) (member_kept (is_among r.due n) (is_among r.used n) (is_among r.forbidden n) (fault_at f.place (missing n)) (S.slot_of n f)))
 
-fault_kept : (o : Option Slot) → Keeps (slot_fails o) (is_some (S.slot_fault o))
-fault_kept None e = e
-fault_kept (Some slot) e = e
+type_kept : (word : Word) (f : MemberSlots) → Keeps (fails_by word f) (is_some (S.as_type word f))
+type_kept word f =
+    lesser_or (is_some (S.members_fault (without_due (rules_of word)) f)) _ (S.members_fault (rules_of word) f) _ (members_kept (rules_of word) f) (λ e. e)
 
-shape_kept : (simple : Simple) (place : ℕ) (shapes : Shapes) (o : Option Slot)
-    → Keeps (is_some (shape_for simple shapes)) (is_some (S.due_shape simple place shapes o))
-shape_kept simple place shapes None e = refl
-shape_kept simple place shapes (Some slot) e = e
-
-geometry_kept : (f : MemberSlots) → Keeps (geometry_forbids f) (is_some (S.geometry_forbids f))
-geometry_kept f =
-    lesser_or (is_some f.geometry) _ (S.forbidden_slot f.geometry) _ (forbidden_kept f.geometry)
-    (lesser_or (is_some f.properties) _ (S.forbidden_slot f.properties) _ (forbidden_kept f.properties) (forbidden_kept f.features))
-
-simple_kept : (simple : Simple) (f : MemberSlots) → Keeps (simple_fails simple f) (is_some (S.as_simple simple f))
-simple_kept simple f = lesser_or (geometry_forbids f) _ (S.geometry_forbids f) _ (geometry_kept f) (shape_kept simple f.place f.shapes f.coordinates)
-
-feature_kept : (f : MemberSlots) → Keeps (feature_fails f) (is_some (S.as_feature f))
-feature_kept f =
-    lesser_or (feature_forbids f) _ (S.feature_forbids f) _
-    (lesser_or (is_some f.coordinates) _ (S.forbidden_slot f.coordinates) _ (forbidden_kept f.coordinates)
-    (lesser_or (is_some f.geometries) _ (S.forbidden_slot f.geometries) _ (forbidden_kept f.geometries) (forbidden_kept f.features)))
-    (lesser_or (slot_fails f.geometry) _ (S.due_slot f.place G6 f.geometry) _ (due_kept f.place G6 f.geometry)
-    (lesser_or (slot_fails f.properties) _ (S.due_slot f.place G7 f.properties) _ (due_kept f.place G7 f.properties) (fault_kept f.id)))
-
-features_kept : (f : MemberSlots) → Keeps (features_forbid f) (is_some (S.features_forbid f))
-features_kept f =
-    lesser_or (is_some f.coordinates || is_some f.geometries) _ (lesser (S.forbidden_slot f.coordinates) (S.forbidden_slot f.geometries)) _
-    (lesser_or (is_some f.coordinates) _ (S.forbidden_slot f.coordinates) _ (forbidden_kept f.coordinates) (forbidden_kept f.geometries))
-    (lesser_or (is_some f.geometry) _ (S.forbidden_slot f.geometry) _ (forbidden_kept f.geometry) (forbidden_kept f.properties))
-
-typed_kept : (word : Word) (place : ℕ) (f : MemberSlots)
-    → Keeps (fails_as word f) (is_some (if is_allowed Role.Root word then S.as_type word f else Some (fault_at place G3)))
-typed_kept Word.Point place f = simple_kept Simple.Point f
-typed_kept Word.MultiPoint place f = simple_kept Simple.MultiPoint f
-typed_kept Word.LineString place f = simple_kept Simple.LineString f
-typed_kept Word.MultiLineString place f = simple_kept Simple.MultiLineString f
-typed_kept Word.Polygon place f = simple_kept Simple.Polygon f
-typed_kept Word.MultiPolygon place f = simple_kept Simple.MultiPolygon f
-typed_kept Word.GeometryCollection place f = lesser_or (geometry_forbids f) _ (S.geometry_forbids f) _ (geometry_kept f) (due_kept f.place G5 f.geometries)
-typed_kept Word.Feature place f = feature_kept f
-typed_kept Word.FeatureCollection place f = lesser_or (features_forbid f) _ (S.features_forbid f) _ (features_kept f) (due_kept f.place G8 f.features)
-typed_kept Word.Other place f = λ e. refl
+typed_kept : (word : Word) (x : Fault) (f : MemberSlots)
+    → Keeps (fails_as word f) (is_some (if is_allowed Role.Root word then S.as_type word f else S.as_none x f))
+typed_kept Word.Other x f e = lesser_second (S.members_fault rules_of_any f) (Some x) refl
+typed_kept word x f e = type_kept word f e
 
 rest_kept : (o : Option TypeValue) (f : MemberSlots) → f.role ≡ Role.Root → Keeps (type_lost o f) (is_some (S.rest_by o f))
-rest_kept None f r e = refl
+rest_kept None f r e = lesser_second (S.members_fault rules_of_any f) (Some (fault_at f.place G2)) refl
 rest_kept (Some value) f r e =
-    subst (λ (role : Role). is_some (if is_allowed role value.word then S.as_type value.word f else Some (fault_at value.place G3)) ≡ true) (sym r)
-    (typed_kept value.word value.place f e)
+    subst (λ (role : Role). is_some (if is_allowed role value.word then S.as_type value.word f else S.as_none (fault_at value.place G3) f) ≡ true) (sym r)
+    (typed_kept value.word (fault_at value.place G3) f e)
 
 settled_lost : (f : MemberSlots) → f.role ≡ Role.Root → Keeps (is_lost f) (is_some (S.settled f))
-settled_lost f r =
-    lesser_or (is_some f.repeated) _ f.repeated _ (λ e. e)
-    (lesser_or (slot_fails f.bbox) _ (S.slot_fault f.bbox) _ (fault_kept f.bbox) (rest_kept f.type_value f r))
+settled_lost f r = lesser_or (is_some f.repeated) _ f.repeated _ (λ e. e) (rest_kept f.type_value f r)
 
 -- ---- the members
 
@@ -151,58 +111,84 @@ closed_faults place close ms some none =
     let nothing : is_some (F.settled last).fault ≡ false = ap is_some same ∙ ap (λ xs. is_some (least xs)) none in
     cc
 
+-- ---- a member that is forbidden
+
+forbids : (u : Bool) (x : Fault) (o : Option Slot) → is_some o ≡ true → is_some (asked_fault false u true x o) ≡ true
+forbids u x None e = cc
+forbids u x (Some slot) e = refl
+
+-- the names that some type forbids
+abbrev CanBeForbidden : Known → Type 0
+CanBeForbidden Coordinates = Unit {0}
+CanBeForbidden Geometries = Unit {0}
+CanBeForbidden Geometry = Unit {0}
+CanBeForbidden Properties = Unit {0}
+CanBeForbidden Features = Unit {0}
+CanBeForbidden _ = ⊥
+
+among_members : (n : Known) → CanBeForbidden n → (r : MemberRules) (g : MemberSlots) → Keeps (is_some (S.fault_of n r g)) (is_some (S.members_fault r g))
+unfolding S.members_fault
+among_members Coordinates i r g e = lesser_second (S.fault_of Bbox r g) _ (lesser_first (S.fault_of Coordinates r g) _ e)
+among_members Geometries i r g e =
+    lesser_second (S.fault_of Bbox r g) _ (lesser_second (S.fault_of Coordinates r g) _ (lesser_first (S.fault_of Geometries r g) _ e))
+among_members Geometry i r g e =
+    lesser_second (S.fault_of Bbox r g) _ (lesser_second (S.fault_of Coordinates r g) _ (lesser_second (S.fault_of Geometries r g) _
+    (lesser_first (S.fault_of Geometry r g) _ e)))
+among_members Properties i r g e =
+    lesser_second (S.fault_of Bbox r g) _ (lesser_second (S.fault_of Coordinates r g) _ (lesser_second (S.fault_of Geometries r g) _
+    (lesser_second (S.fault_of Geometry r g) _ (lesser_first (S.fault_of Properties r g) _ e))))
+among_members Features i r g e =
+    lesser_second (S.fault_of Bbox r g) _ (lesser_second (S.fault_of Coordinates r g) _ (lesser_second (S.fault_of Geometries r g) _
+    (lesser_second (S.fault_of Geometry r g) _ (lesser_second (S.fault_of Properties r g) _ (lesser_first (S.fault_of Features r g) _ e)))))
+among_members _ i r g e = absurd i
+
 -- the names that are there
-three : (x y z : Known) (a b c : Bool) (found : List Known) → a ≡ mentions found x → b ≡ mentions found y → c ≡ mentions found z
-    → list_any (mentions found) (x ∷ y ∷ z ∷ []) ≡ true → (a || (b || c)) ≡ true
-three x y z a b c found p q r e = go (mentions found x) (mentions found y) (mentions found z) p q r e
-  where
-    go : (l m n : Bool) → a ≡ l → b ≡ m → c ≡ n → (l || (m || (n || false))) ≡ true → (a || (b || c)) ≡ true
-    go true m n p q r e = or_left a (b || c) p
-    go false true n p q r e = or_right a (b || c) (or_left b c q)
-    go false false true p q r e = or_right a (b || c) (or_right b c r)
-    go false false false p q r e = cc
+abbrev Shown : List Known → MemberSlots → Type 0
+Shown found g = (n : Known) → is_known n ≡ true → is_some (S.slot_of n g) ≡ mentions found n
 
-four : (x y z w : Known) (a b c d : Bool) (found : List Known) → a ≡ mentions found x → b ≡ mentions found y → c ≡ mentions found z → d ≡ mentions found w
-    → list_any (mentions found) (x ∷ y ∷ z ∷ w ∷ []) ≡ true → ((a || b) || (c || d)) ≡ true
-four x y z w a b c d found p q r s e = go (mentions found x) (mentions found y) (mentions found z) (mentions found w) p q r s e
-  where
-    go : (l m n o : Bool) → a ≡ l → b ≡ m → c ≡ n → d ≡ o → (l || (m || (n || (o || false)))) ≡ true → ((a || b) || (c || d)) ≡ true
-    go true m n o p q r s e = or_left (a || b) (c || d) (or_left a b p)
-    go false true n o p q r s e = or_left (a || b) (c || d) (or_right a b q)
-    go false false true o p q r s e = or_right (a || b) (c || d) (or_left c d r)
-    go false false false true p q r s e = or_right (a || b) (c || d) (or_right c d s)
-    go false false false false p q r s e = cc
+forbidden_there : (n : Known) → CanBeForbidden n → (r : MemberRules) (g : MemberSlots) (found : List Known) → Shown found g → is_known n ≡ true
+    → is_among r.forbidden n ≡ true → Keeps (mentions found n) (is_some (S.members_fault (without_due r) g))
+forbidden_there n i r g found h k b e =
+    among_members n i (without_due r) g
+    (rw (not_due n, b) (forbids (is_among r.used n) (fault_at g.place (missing n)) (S.slot_of n g) (h n k ∙ e)))
 
-forbidden_lost : (word : Word) (g : MemberSlots) (found : List Known) → is_some g.coordinates ≡ mentions found Coordinates
-    → is_some g.geometries ≡ mentions found Geometries → is_some g.geometry ≡ mentions found Geometry
-    → is_some g.properties ≡ mentions found Properties → is_some g.features ≡ mentions found Features → type_fails (Some word) found ≡ true
-    → fails_as word g ≡ true
-forbidden_lost Word.Other g found a b c d h e = refl
-forbidden_lost Word.Feature g found a b c d h e =
-    or_left (feature_forbids g) _ (three Coordinates Geometries Features (is_some g.coordinates) (is_some g.geometries) (is_some g.features) found a b h e)
-forbidden_lost Word.FeatureCollection g found a b c d h e =
-    or_left (features_forbid g) _
-    (four Coordinates Geometries Geometry Properties (is_some g.coordinates) (is_some g.geometries) (is_some g.geometry)
-    (is_some g.properties) found a b c d e)
-forbidden_lost _ g found a b c d h e =
-    or_left (geometry_forbids g) _ (three Geometry Properties Features (is_some g.geometry) (is_some g.properties) (is_some g.features) found c d h e)
+either : (a b r : Bool) → Keeps a r → Keeps b r → Keeps (a || b) r
+either true b r p q e = p refl
+either false b r p q e = q e
 
-type_is_lost : (o : Option TypeValue) (g : MemberSlots) (found : List Known) → is_some g.coordinates ≡ mentions found Coordinates
-    → is_some g.geometries ≡ mentions found Geometries → is_some g.geometry ≡ mentions found Geometry
-    → is_some g.properties ≡ mentions found Properties → is_some g.features ≡ mentions found Features → type_fails (word_in o) found ≡ true
-    → type_lost o g ≡ true
-type_is_lost None g found a b c d h e = cc
-type_is_lost (Some value) g found a b c d h e = forbidden_lost value.word g found a b c d h e
+forbidden_lost : (word : Word) (g : MemberSlots) (found : List Known) → Shown found g → type_fails (Some word) found ≡ true → fails_as word g ≡ true
+forbidden_lost Word.Other g found h e = refl
+forbidden_lost Word.Feature g found h e =
+    let r : MemberRules = rules_of Word.Feature in
+    or_left (is_some (S.members_fault (without_due r) g)) _
+    (either (mentions found Coordinates) _ _ (forbidden_there Coordinates tt r g found h refl refl)
+    (either (mentions found Geometries) _ _ (forbidden_there Geometries tt r g found h refl refl)
+    (either (mentions found Features) _ _ (forbidden_there Features tt r g found h refl refl) (λ x. cc))) e)
+forbidden_lost Word.FeatureCollection g found h e =
+    let r : MemberRules = rules_of Word.FeatureCollection in
+    or_left (is_some (S.members_fault (without_due r) g)) _
+    (either (mentions found Coordinates) _ _ (forbidden_there Coordinates tt r g found h refl refl)
+    (either (mentions found Geometries) _ _ (forbidden_there Geometries tt r g found h refl refl)
+    (either (mentions found Geometry) _ _ (forbidden_there Geometry tt r g found h refl refl)
+    (either (mentions found Properties) _ _ (forbidden_there Properties tt r g found h refl refl) (λ x. cc)))) e)
+forbidden_lost word g found h e =
+    let r : MemberRules = rules_of word in
+    or_left (is_some (S.members_fault (without_due r) g)) _
+    (either (mentions found Geometry) _ _ (forbidden_there Geometry tt r g found h refl refl)
+    (either (mentions found Properties) _ _ (forbidden_there Properties tt r g found h refl refl)
+    (either (mentions found Features) _ _ (forbidden_there Features tt r g found h refl refl) (λ x. cc))) e)
+
+type_is_lost : (o : Option TypeValue) (g : MemberSlots) (found : List Known) → Shown found g → type_fails (word_in o) found ≡ true → type_lost o g ≡ true
+type_is_lost None g found h e = cc
+type_is_lost (Some value) g found h e = forbidden_lost value.word g found h e
 
 -- where the names and the first type show a fault, what was shown is lost
 shown_lost : (place : ℕ) (g : MemberSlots) (shown : List What) → Here [] (blank place).slots g shown → members_fail shown ≡ true → is_lost g ≡ true
 shown_lost place g shown h e = elim (or_cases (repeats [] (names shown)) (type_fails (first_type shown) (names shown)) e) [
   | inl again ↦ or_left (is_some g.repeated) _ (h.repeated ∙ again)
   | inr typed ↦
-      or_right (is_some g.repeated) _ (or_right (slot_fails g.bbox) _
-      (type_is_lost g.type_value g (names shown) (h.slots Coordinates refl) (h.slots Geometries refl) (h.slots Geometry refl) (h.slots Properties refl)
-      (h.slots Features refl)
-      (ap (λ (o : Option Word). type_fails o (names shown)) h.type_word ∙ typed)))
+      or_right (is_some g.repeated) _
+      (type_is_lost g.type_value g (names shown) h.slots (ap (λ (o : Option Word). type_fails o (names shown)) h.type_word ∙ typed))
 ]
 
 -- ---- the text's value
@@ -225,9 +211,21 @@ no_object v xs place k g events w some = record {
   early = λ e. or_left _ _ (ap (λ (x : Findings). is_some x.fault) (done_answer xs k g (record { fault = Some (fault_at place G1); warned = w })));
 }
 
+-- nothing is lost before an event has come
+not_both : (b : Bool) → b ≡ false → b ≡ true → ⊥
+not_both b e h = cc
+
+root_sound : (had : Warnings) → core_lost (due_root had).core ≡ false
+unfolding S.members_fault
+root_sound had = refl
+
+start_sound : core_lost start.core ≡ false
+unfolding S.members_fault
+start_sound = refl
+
 -- no event of the value has come
 before_value : (v : Tree) (had : Warnings) → Answers v [] (due_root had)
-before_value v had = record { sound = λ e. cc; early = λ e. cc }
+before_value v had = record { sound = λ e n. not_both (core_lost (due_root had).core) (root_sound had) e; early = λ e. cc }
 
 abbrev object_st : ℕ → Warnings → State
 object_st place had = st 0 Names (blank place) [] (had_found had)
@@ -334,7 +332,7 @@ unmarked (object place ms close) (x ∷ d) rest e h =
 
 marked_answers : (marked : Bool) (v : Tree) (done rest : List Told) → mark_told marked ++ told v ≡ done ++ rest → Answers v (map event_of done) (run done start)
 marked_answers false v done rest e = value_answers v (marked_kept false) done rest e
-marked_answers true v [] rest e = record { sound = λ l. cc; early = λ l. cc }
+marked_answers true v [] rest e = record { sound = λ l n. not_both (core_lost start.core) start_sound l; early = λ l. cc }
 marked_answers true v (x ∷ d) rest e =
     let f : plain 3 0 W.Mark ≡ x = cc in
     let g : told v ≡ d ++ rest = cc in

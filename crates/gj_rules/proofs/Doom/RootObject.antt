@@ -5,7 +5,7 @@ use Rattle.std.proofs.Math.Bool.{or_assoc}
 use Rattle.gj_json.specs.declared.event.What.{What}
 use Rattle.gj_json.specs.declared.event.What.TheVariants as W
 use Rattle.gj_json.specs.declared.names.Known.{Known}
-use Rattle.gj_json.specs.declared.names.Known.TheVariants.{TypeName, Coordinates, Geometries, Geometry, Properties, Features, Bbox, Id, Crs, Other}
+use Rattle.gj_json.specs.declared.names.Known.TheVariants.{TypeName, Coordinates, Other}
 use Rattle.gj_json.specs.declared.names.Word.{Word}
 use Rattle.gj_json.specs.Names.{known_of}
 use Rattle.gj_json.specs.Tree.{Tree, constant, number, string, array, object, Members, end_of_object, member}
@@ -21,14 +21,14 @@ use Rattle.gj_rules.specs.Doomed.{names, first_type, repeats}
 use Rattle.gj_rules.specs.Faults.{First}
 use Rattle.gj_rules.specs.Internal.OpenMembers.{judge}
 use Rattle.gj_rules.specs.Internal.FrameCalls as F
-use Rattle.gj_rules.specs.Internal.LostObjects.{slot_fails, is_lost}
+use Rattle.gj_rules.specs.Internal.LostObjects.{is_lost}
 use Rattle.gj_rules.specs.Members.{is_known, same, mentions, again, type_of}
 use Rattle.gj_rules.specs.Internal.OpenMembers.{slot_of, uses, named, due_known, due_after, filled, member_taken, members_taken, type_set}
 use Rattle.gj_rules.specs.Internal.EventSteps.{State, step, run}
 use Rattle.gj_rules.specs.Internal.Summaries.{no_shapes, shapes_of, asked}
 use Rattle.gj_rules.specs.Internal.LabelledEvents.{Told, plain, told, members_told}
 use Rattle.gj_json.specs.declared.constant.Constant.TheVariants.{Null, True, False}
-use Rattle.gj_rules.proofs.Objects.GrowingFaults.{Keeps, lesser_first, Worse, worse_same, worse_twice, worse_named, lost_worse, type_same, Grows}
+use Rattle.gj_rules.proofs.Objects.GrowingFaults.{Keeps, lesser_first, slot_fails, Worse, worse_twice, worse_named, lost_worse, type_same, Grows}
 use Rattle.gj_rules.proofs.Objects.GrowingFaults.{grows_same, grows_joined, grows_shapes}
 use Rattle.gj_rules.proofs.Texts.ValuesByEvents.{st, due_st}
 use Rattle.gj_rules.proofs.Objects.OneMember.{same_is}
@@ -88,14 +88,7 @@ shows_more before name place end v f h = record {
 filled_grows : (m : Known) (v : Tree) (f : MemberSlots) → (m ≡ TypeName → ⊥) → (m ≡ Coordinates → f.shapes ≡ no_shapes) → Grows f (filled m v f)
 filled_grows TypeName v f t c = absurd (t refl)
 filled_grows Coordinates v f t c = grows_shapes (asked f.type_value (shapes_of v)) f (c refl)
-filled_grows Geometries v f t c = grows_joined Geometries (least (judge Geometries v)) f
-filled_grows Geometry v f t c = grows_joined Geometry (least (judge Geometry v)) f
-filled_grows Properties v f t c = grows_joined Properties (least (judge Properties v)) f
-filled_grows Features v f t c = grows_joined Features (least (judge Features v)) f
-filled_grows Bbox v f t c = grows_joined Bbox (least (judge Bbox v)) f
-filled_grows Id v f t c = grows_joined Id (least (judge Id v)) f
-filled_grows Crs v f t c = grows_same f
-filled_grows Other v f t c = grows_same f
+filled_grows m v f t c = grows_joined m (least (judge m v)) f
 
 slot_typed : (n : Known) (place : ℕ) (word : Word) (f : MemberSlots) → slot_of n (type_set place word f) ≡ slot_of n f
 slot_typed TypeName place word f = refl
@@ -130,14 +123,7 @@ due_shapes before n place f h e =
 filled_worse : (m : Known) (v : Tree) (f : MemberSlots) (b : Bool) → same TypeName m ≡ b → (m ≡ Coordinates → f.shapes ≡ no_shapes) → Worse f (filled m v f)
 filled_worse TypeName v f b e c = typed_worse (place_of v) (type_of v) f
 filled_worse Coordinates v f b e c = (grows_shapes (asked f.type_value (shapes_of v)) f (c refl)).worse
-filled_worse Geometries v f b e c = (grows_joined Geometries (least (judge Geometries v)) f).worse
-filled_worse Geometry v f b e c = (grows_joined Geometry (least (judge Geometry v)) f).worse
-filled_worse Properties v f b e c = (grows_joined Properties (least (judge Properties v)) f).worse
-filled_worse Features v f b e c = (grows_joined Features (least (judge Features v)) f).worse
-filled_worse Bbox v f b e c = (grows_joined Bbox (least (judge Bbox v)) f).worse
-filled_worse Id v f b e c = (grows_joined Id (least (judge Id v)) f).worse
-filled_worse Crs v f b e c = worse_same f
-filled_worse Other v f b e c = worse_same f
+filled_worse m v f b e c = (grows_joined m (least (judge m v)) f).worse
 
 lost_member : (before : List Known) (name : List ℕ) (place end : ℕ) (v : Tree) (f : MemberSlots) → Shows before f
     → Keeps (is_lost f) (is_lost (member_taken place (known_of name) v f))

@@ -1,7 +1,7 @@
 -- What all members do to what an object has shown.
 use Rattle.std.proofs.Common.{◌≡◌, ℕ, Bool, true, false, if◌then◌else◌, List, ◌∷◌, Option, Some, None, is_some, refl, sym, ap, subst, ◌∙◌}
 use Rattle.gj_json.specs.declared.names.Known.{Known}
-use Rattle.gj_json.specs.declared.names.Known.TheVariants.{TypeName, Coordinates, Geometries, Geometry, Properties, Features, Bbox, Id, Crs, Other}
+use Rattle.gj_json.specs.declared.names.Known.TheVariants.{TypeName, Coordinates, Other}
 use Rattle.gj_coords.specs.declared.fault.Fault.{Fault}
 use Rattle.gj_rules.specs.declared.role.Role.{Role}
 use Rattle.gj_rules.specs.declared.member_slots.Slot.{Slot}
@@ -39,15 +39,8 @@ joined_object m x (Some slot) f = with_slot_object m (record { name_at = slot.na
 
 pub filled_object : (m : Known) (v : Tree) (f : MemberSlots) → IsSameObject f (filled m v f)
 filled_object TypeName v f = record { place = refl; role = refl }
-filled_object Other v f = record { place = refl; role = refl }
-filled_object Crs v f = record { place = refl; role = refl }
 filled_object Coordinates v f = record { place = refl; role = refl }
-filled_object Geometries v f = joined_object Geometries (least (judge Geometries v)) f.geometries f
-filled_object Geometry v f = joined_object Geometry (least (judge Geometry v)) f.geometry f
-filled_object Properties v f = joined_object Properties (least (judge Properties v)) f.properties f
-filled_object Features v f = joined_object Features (least (judge Features v)) f.features f
-filled_object Bbox v f = joined_object Bbox (least (judge Bbox v)) f.bbox f
-filled_object Id v f = joined_object Id (least (judge Id v)) f.id f
+filled_object m v f = joined_object m (least (judge m v)) (slot_of m f) f
 
 pub named_object : (m : Known) (place : ℕ) (f : MemberSlots) (k : Bool) (o : Option Slot) → IsSameObject f (if k then named_known m place o f else f)
 named_object m place f true (Some slot) = record { place = refl; role = refl }
@@ -110,15 +103,8 @@ joined_type m x (Some slot) f = kept_type m (record { name_at = slot.name_at; fa
 
 filled_type : (m : Known) (v : Tree) (f : MemberSlots) → same TypeName m ≡ false → (filled m v f).type_value ≡ f.type_value
 filled_type TypeName v f e = cc
-filled_type Other v f e = refl
-filled_type Crs v f e = refl
 filled_type Coordinates v f e = refl
-filled_type Geometries v f e = joined_type Geometries (least (judge Geometries v)) f.geometries f
-filled_type Geometry v f e = joined_type Geometry (least (judge Geometry v)) f.geometry f
-filled_type Properties v f e = joined_type Properties (least (judge Properties v)) f.properties f
-filled_type Features v f e = joined_type Features (least (judge Features v)) f.features f
-filled_type Bbox v f e = joined_type Bbox (least (judge Bbox v)) f.bbox f
-filled_type Id v f e = joined_type Id (least (judge Id v)) f.id f
+filled_type m v f e = joined_type m (least (judge m v)) (slot_of m f) f
 
 pub named_type : (m : Known) (place : ℕ) (f : MemberSlots) (k : Bool) (o : Option Slot) → (if k then named_known m place o f else f).type_value ≡ f.type_value
 named_type m place f true (Some slot) = refl
@@ -210,14 +196,7 @@ joined_shapes m x (Some slot) f = kept_shapes m (record { name_at = slot.name_at
 filled_shapes : (m : Known) (v : Tree) (f : MemberSlots) → same Coordinates m ≡ false → (filled m v f).shapes ≡ f.shapes
 filled_shapes Coordinates v f e = cc
 filled_shapes TypeName v f e = refl
-filled_shapes Other v f e = refl
-filled_shapes Crs v f e = refl
-filled_shapes Geometries v f e = joined_shapes Geometries (least (judge Geometries v)) f.geometries f
-filled_shapes Geometry v f e = joined_shapes Geometry (least (judge Geometry v)) f.geometry f
-filled_shapes Properties v f e = joined_shapes Properties (least (judge Properties v)) f.properties f
-filled_shapes Features v f e = joined_shapes Features (least (judge Features v)) f.features f
-filled_shapes Bbox v f e = joined_shapes Bbox (least (judge Bbox v)) f.bbox f
-filled_shapes Id v f e = joined_shapes Id (least (judge Id v)) f.id f
+filled_shapes m v f e = joined_shapes m (least (judge m v)) (slot_of m f) f
 
 pub named_shapes : (m : Known) (place : ℕ) (f : MemberSlots) (k : Bool) (o : Option Slot) → (if k then named_known m place o f else f).shapes ≡ f.shapes
 named_shapes m place f true (Some slot) = refl
@@ -295,15 +274,8 @@ joined_repeated m x (Some slot) f = kept_repeated m (record { name_at = slot.nam
 
 filled_repeated : (m : Known) (v : Tree) (f : MemberSlots) → (filled m v f).repeated ≡ f.repeated
 filled_repeated TypeName v f = refl
-filled_repeated Other v f = refl
-filled_repeated Crs v f = refl
 filled_repeated Coordinates v f = refl
-filled_repeated Geometries v f = joined_repeated Geometries (least (judge Geometries v)) f.geometries f
-filled_repeated Geometry v f = joined_repeated Geometry (least (judge Geometry v)) f.geometry f
-filled_repeated Properties v f = joined_repeated Properties (least (judge Properties v)) f.properties f
-filled_repeated Features v f = joined_repeated Features (least (judge Features v)) f.features f
-filled_repeated Bbox v f = joined_repeated Bbox (least (judge Bbox v)) f.bbox f
-filled_repeated Id v f = joined_repeated Id (least (judge Id v)) f.id f
+filled_repeated m v f = joined_repeated m (least (judge m v)) (slot_of m f) f
 
 named_repeated : (m : Known) (place : ℕ) (f : MemberSlots) (k : Bool) (o : Option Slot)
     → (if k then named_known m place o f else f).repeated ≡ lesser f.repeated (least (again k (is_some o) place))

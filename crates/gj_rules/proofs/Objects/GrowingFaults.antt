@@ -11,11 +11,13 @@ use Rattle.gj_coords.specs.Fault.{lesser, fault_at, comes_first}
 use Rattle.gj_rules.specs.Internal.FrameMeaning.{Shapes, MemberSlots}
 use Rattle.gj_rules.specs.declared.member_slots.Slot.{Slot}
 use Rattle.gj_rules.specs.declared.member_slots.TypeValue.{TypeValue}
-use Rattle.gj_rules.specs.Internal.LostObjects.{slot_fails, geometry_forbids, simple_fails, feature_forbids, feature_fails, features_forbid, fails_as, all_fail}
-use Rattle.gj_rules.specs.Internal.LostObjects.{is_lost, type_lost}
+use Rattle.gj_rules.specs.declared.member_slots.member_rules.MemberRules.{MemberRules}
+use Rattle.gj_rules.specs.Internal.MemberRules.{index_of, is_among, rules_of, without_due, missing, asked_fault}
+use Rattle.gj_rules.specs.Internal.LostObjects.{fails_by, fails_as, all_fail, is_lost, type_lost}
+use Rattle.std.proofs.lemmas.Nat.Bits.{bit_at-zero}
 use Rattle.gj_rules.specs.Members.{is_known, same}
-use Rattle.gj_rules.specs.Internal.OpenMembers.{slot_of, with_slot, joined, joined_to, shapes_set, named_known, repeated_at}
-use Rattle.gj_rules.specs.Internal.Summaries.{no_shapes, shape_for}
+use Rattle.gj_rules.specs.Internal.OpenMembers.{slot_of, with_slot, joined, joined_to, shapes_set, named_known, repeated_at, fault_of, members_fault, shape_as}
+use Rattle.gj_rules.specs.Internal.Summaries.{no_shapes, shape_for, simple_of}
 use Rattle.gj_rules.proofs.Objects.OneMember.{same_is, slot_of-other}
 use Rattle.gj_rules.proofs.Objects.MemberSlots.{slot_of-with, kept_shapes, kept_repeated, kept_type}
 use Rattle.gj_rules.proofs.Objects.AskedShapes.{TypeStays, no_fault}
@@ -53,6 +55,11 @@ lesser_second (Some a) b e = some_kept a b
 
 -- ---- what fails in the one fails in the other
 
+-- the value of a first member has a fault
+abbrev pub slot_fails : Option Slot → Bool
+slot_fails None = false
+slot_fails (Some slot) = is_some slot.fault
+
 pub record Worse (f g : MemberSlots) : Type 0 where
   pub repeated : Keeps (is_some f.repeated) (is_some g.repeated)
   pub slots : (n : Known) → Keeps (is_some (slot_of n f)) (is_some (slot_of n g))
@@ -70,39 +77,58 @@ worse_twice f g h a b = record {
   shapes = λ s e. b.shapes s (a.shapes s e);
 }
 
-geometry_worse : (f g : MemberSlots) → Worse f g → Keeps (geometry_forbids f) (geometry_forbids g)
-geometry_worse f g w =
-    or_keeps (is_some f.geometry) _ (is_some g.geometry) _ (w.slots Geometry)
-    (or_keeps (is_some f.properties) _ (is_some g.properties) _ (w.slots Properties) (w.slots Features))
+-- ---- of the members
 
-simple_worse : (s : Simple) (f g : MemberSlots) → Worse f g → Keeps (simple_fails s f) (simple_fails s g)
-simple_worse s f g w = or_keeps (geometry_forbids f) _ (geometry_forbids g) _ (geometry_worse f g w) (w.shapes s)
+some_lesser : (a b : Option Fault) → is_some (lesser a b) ≡ (is_some a || is_some b)
+some_lesser None b = refl
+some_lesser (Some a) b = some_kept a b
 
-feature_worse : (f g : MemberSlots) → Worse f g → Keeps (feature_fails f) (feature_fails g)
-feature_worse f g w =
-    or_keeps (feature_forbids f) _ (feature_forbids g) _
-    (or_keeps (is_some f.coordinates) _ (is_some g.coordinates) _ (w.slots Coordinates)
-    (or_keeps (is_some f.geometries) _ (is_some g.geometries) _ (w.slots Geometries) (w.slots Features)))
-    (or_keeps (slot_fails f.geometry) _ (slot_fails g.geometry) _ (w.values Geometry)
-    (or_keeps (slot_fails f.properties) _ (slot_fails g.properties) _ (w.values Properties) (w.values Id)))
+lesser_keeps : (a b c d : Option Fault) → Keeps (is_some a) (is_some c) → Keeps (is_some b) (is_some d) → Keeps (is_some (lesser a b)) (is_some (lesser c d))
+lesser_keeps a b c d f g e = some_lesser c d ∙ or_keeps (is_some a) (is_some b) (is_some c) (is_some d) f g (sym (some_lesser a b) ∙ e)
 
-features_worse : (f g : MemberSlots) → Worse f g → Keeps (features_forbid f) (features_forbid g)
-features_worse f g w =
-    or_keeps (is_some f.coordinates || is_some f.geometries) _ (is_some g.coordinates || is_some g.geometries) _
-    (or_keeps (is_some f.coordinates) _ (is_some g.coordinates) _ (w.slots Coordinates) (w.slots Geometries))
-    (or_keeps (is_some f.geometry) _ (is_some g.geometry) _ (w.slots Geometry) (w.slots Properties))
+-- where one member after the other is wrong by the other rules too
+pub members_keep : (r q : MemberRules) (f g : MemberSlots) → ((n : Known) → Keeps (is_some (fault_of n r f)) (is_some (fault_of n q g)))
+    → Keeps (is_some (members_fault r f)) (is_some (members_fault q g))
+unfolding members_fault
+members_keep r q f g h =
+    lesser_keeps (fault_of Bbox r f) _ (fault_of Bbox q g) _ (h Bbox)
+    (lesser_keeps (fault_of Coordinates r f) _ (fault_of Coordinates q g) _ (h Coordinates)
+    (lesser_keeps (fault_of Geometries r f) _ (fault_of Geometries q g) _ (h Geometries)
+    (lesser_keeps (fault_of Geometry r f) _ (fault_of Geometry q g) _ (h Geometry)
+    (lesser_keeps (fault_of Properties r f) _ (fault_of Properties q g) _ (h Properties)
+    (lesser_keeps (fault_of Features r f) _ (fault_of Features q g) _ (h Features) (h Id))))))
+
+-- nothing is due where each member may still come
+pub not_due : (n : Known) → is_among 0 n ≡ false
+not_due n = rw (bit_at-zero (index_of n)) refl
+
+member_worse : (u b : Bool) (x y : Fault) (o p : Option Slot) → Keeps (is_some o) (is_some p) → Keeps (slot_fails o) (slot_fails p)
+    → Keeps (is_some (asked_fault false u b x o)) (is_some (asked_fault false u b y p))
+member_worse u b x y None p h k e = let l : false ≡ true = e in cc
+member_worse u b x y (Some s) None h k e = let l : false ≡ true = h refl in cc
+member_worse u true x y (Some s) (Some t) h k e = refl
+member_worse true false x y (Some s) (Some t) h k e = k e
+member_worse false false x y (Some s) (Some t) h k e = let l : false ≡ true = e in cc
+
+fault_worse : (r : MemberRules) (f g : MemberSlots) → Worse f g → (n : Known)
+    → Keeps (is_some (fault_of n (without_due r) f)) (is_some (fault_of n (without_due r) g))
+fault_worse r f g w n =
+    rw (not_due n)
+    (member_worse (is_among r.used n) (is_among r.forbidden n) (fault_at f.place (missing n)) (fault_at g.place (missing n)) (slot_of n f) (slot_of n g)
+    (w.slots n) (w.values n))
+
+shape_worse : (o : Option Simple) (f g : MemberSlots) → Worse f g → Keeps (is_some (shape_as o f.shapes)) (is_some (shape_as o g.shapes))
+shape_worse None f g w e = e
+shape_worse (Some simple) f g w e = w.shapes simple e
+
+type_worse : (word : Word) (f g : MemberSlots) → Worse f g → Keeps (fails_by word f) (fails_by word g)
+type_worse word f g w =
+    or_keeps (is_some (members_fault (without_due (rules_of word)) f)) _ (is_some (members_fault (without_due (rules_of word)) g)) _
+    (members_keep (without_due (rules_of word)) (without_due (rules_of word)) f g (fault_worse (rules_of word) f g w)) (shape_worse (simple_of word) f g w)
 
 pub fails_worse : (word : Word) (f g : MemberSlots) → Worse f g → Keeps (fails_as word f) (fails_as word g)
-fails_worse Word.Point f g w = simple_worse Simple.Point f g w
-fails_worse Word.MultiPoint f g w = simple_worse Simple.MultiPoint f g w
-fails_worse Word.LineString f g w = simple_worse Simple.LineString f g w
-fails_worse Word.MultiLineString f g w = simple_worse Simple.MultiLineString f g w
-fails_worse Word.Polygon f g w = simple_worse Simple.Polygon f g w
-fails_worse Word.MultiPolygon f g w = simple_worse Simple.MultiPolygon f g w
-fails_worse Word.GeometryCollection f g w = or_keeps (geometry_forbids f) _ (geometry_forbids g) _ (geometry_worse f g w) (w.values Geometries)
-fails_worse Word.Feature f g w = feature_worse f g w
-fails_worse Word.FeatureCollection f g w = or_keeps (features_forbid f) _ (features_forbid g) _ (features_worse f g w) (w.values Features)
 fails_worse Word.Other f g w = λ e. e
+fails_worse word f g w = type_worse word f g w
 
 -- where all types fail, each does
 pub each_fails : (word : Word) (f : MemberSlots) → all_fail f ≡ true → fails_as word f ≡ true
@@ -146,15 +172,13 @@ all_worse f g w =
     (and_keeps (fails_as Word.GeometryCollection f) _ (fails_as Word.GeometryCollection g) _ (fails_worse Word.GeometryCollection f g w)
     (and_keeps (fails_as Word.Feature f) _ (fails_as Word.Feature g) _ (fails_worse Word.Feature f g w) (fails_worse Word.FeatureCollection f g w))))))))
 
-type_worse : (f g : MemberSlots) (old new : Option TypeValue) → Worse f g → TypeStays old new → Keeps (type_lost old f) (type_lost new g)
-type_worse f g None None w t = all_worse f g w
-type_worse f g None (Some value) w t = λ e. fails_worse value.word f g w (each_fails value.word f e)
-type_worse f g (Some value) new w t = subst (λ (o : Option TypeValue). Keeps (fails_as value.word f) (type_lost o g)) (sym t) (fails_worse value.word f g w)
+lost_type : (f g : MemberSlots) (old new : Option TypeValue) → Worse f g → TypeStays old new → Keeps (type_lost old f) (type_lost new g)
+lost_type f g None None w t = all_worse f g w
+lost_type f g None (Some value) w t = λ e. fails_worse value.word f g w (each_fails value.word f e)
+lost_type f g (Some value) new w t = subst (λ (o : Option TypeValue). Keeps (fails_as value.word f) (type_lost o g)) (sym t) (fails_worse value.word f g w)
 
 pub lost_worse : (f g : MemberSlots) → Worse f g → TypeStays f.type_value g.type_value → Keeps (is_lost f) (is_lost g)
-lost_worse f g w t =
-    or_keeps (is_some f.repeated) _ (is_some g.repeated) _ w.repeated
-    (or_keeps (slot_fails f.bbox) _ (slot_fails g.bbox) _ (w.values Bbox) (type_worse f g f.type_value g.type_value w t))
+lost_worse f g w t = or_keeps (is_some f.repeated) _ (is_some g.repeated) _ w.repeated (lost_type f g f.type_value g.type_value w t)
 
 pub type_same : (o p : Option TypeValue) → p ≡ o → TypeStays o p
 type_same None p e = tt

@@ -1,7 +1,9 @@
 -- What one member does to what an object has shown.
-use Rattle.std.proofs.Common.{◌≡◌, ℕ, Bool, true, false, if◌then◌else◌, Option, Some, None, refl, ◌∙◌}
+use denote.Enum.Bare.{same_true}
+use Rattle.std.proofs.Common.{rules, ◌≡◌, ℕ, Bool, true, false, if◌then◌else◌, Option, Some, None, refl, ◌∙◌}
 use Rattle.gj_json.specs.declared.names.Known.{Known}
 use Rattle.gj_json.specs.declared.names.Known.TheVariants.{TypeName, Coordinates, Geometries, Geometry, Properties, Features, Bbox, Id, Crs, Other}
+use Rattle.gj_json.specs.contracts.names.Known.{the_type}
 use Rattle.gj_coords.specs.declared.fault.Fault.{Fault}
 use Rattle.gj_coords.specs.declared.fault.Rule.TheVariants.{G10}
 use Rattle.gj_rules.specs.declared.role.Role.{Role}
@@ -19,17 +21,7 @@ use Rattle.gj_rules.proofs.Objects.MemberSlots.{slot_of-with}
 -- ---- names
 
 pub same_is : (a b : Known) → same a b ≡ true → a ≡ b
-same_is TypeName TypeName e = refl
-same_is Coordinates Coordinates e = refl
-same_is Geometries Geometries e = refl
-same_is Geometry Geometry e = refl
-same_is Properties Properties e = refl
-same_is Features Features e = refl
-same_is Bbox Bbox e = refl
-same_is Id Id e = refl
-same_is Other Other e = refl
-same_is Crs Crs e = refl
-same_is _ _ e = cc
+same_is a b e = same_true the_type (search rules) a b e
 
 other_same : (n : Known) → is_known n ≡ true → same n Other ≡ false
 other_same Other k = cc
@@ -68,14 +60,7 @@ repeated_kept _ x f = refl
 filled_other : (n m : Known) (v : Tree) (f : MemberSlots) → same n m ≡ false → slot_of n (filled m v f) ≡ slot_of n f
 filled_other n TypeName v f e = type_kept n v f
 filled_other n Coordinates v f e = shapes_kept n v f
-filled_other n Geometries v f e = joined_other n Geometries (least (judge Geometries v)) f.geometries f e
-filled_other n Geometry v f e = joined_other n Geometry (least (judge Geometry v)) f.geometry f e
-filled_other n Properties v f e = joined_other n Properties (least (judge Properties v)) f.properties f e
-filled_other n Features v f e = joined_other n Features (least (judge Features v)) f.features f e
-filled_other n Bbox v f e = joined_other n Bbox (least (judge Bbox v)) f.bbox f e
-filled_other n Id v f e = joined_other n Id (least (judge Id v)) f.id f e
-filled_other n Other v f e = refl
-filled_other n Crs v f e = refl
+filled_other n m v f e = joined_other n m (least (judge m v)) (slot_of m f) f e
 
 named_other : (n m : Known) (place : ℕ) (f : MemberSlots) (k : Bool) (o : Option Slot) → same n m ≡ false
     → slot_of n (if k then named_known m place o f else f) ≡ slot_of n f

@@ -1,12 +1,12 @@
 -- At its close an object has shown its least fault.
-use Rattle.std.proofs.Common.{◌≡◌, ℕ, Bool, true, false, if◌then◌else◌, List, [], ◌∷◌, ◌++◌, Option, Some, None, is_some, refl, sym, ap, subst, ◌∙◌, append-nil}
+use Rattle.std.proofs.Common.{◌≡◌, ℕ, Bool, true, false, if◌then◌else◌, List, [], ◌∷◌, ◌++◌, Option, Some, None, is_some, refl, sym, ap, subst, ◌∙◌, append-nil, append_assoc}
 use Rattle.std.specs.List.{flat_map}
 use Rattle.gj_json.specs.declared.names.Known.{Known}
 use Rattle.gj_json.specs.declared.names.Known.TheVariants.{TypeName, Coordinates, Geometries, Geometry, Properties, Features, Bbox, Id}
 use Rattle.gj_json.specs.declared.names.Word.{Word}
 use Rattle.gj_coords.specs.declared.fault.Fault.{Fault}
 use Rattle.gj_coords.specs.declared.fault.Rule.{Rule}
-use Rattle.gj_coords.specs.declared.fault.Rule.TheVariants.{G3, G5, G6, G7, G8}
+use Rattle.gj_coords.specs.declared.fault.Rule.TheVariants.{G2, G3, G4, G5, G6, G7, G8}
 use Rattle.gj_rules.specs.declared.role.Role.{Role}
 use Rattle.gj_rules.specs.declared.member_slots.Slot.{Slot}
 use Rattle.gj_rules.specs.declared.member_slots.TypeValue.{TypeValue}
@@ -20,12 +20,14 @@ use Rattle.gj_rules.specs.Role.{is_allowed}
 use Rattle.gj_coords.specs.declared.simple.Simple.{Simple}
 use Rattle.gj_rules.specs.Faults.{First, faults}
 use Rattle.gj_rules.specs.Internal.OpenMembers.{members_taken}
-use Rattle.gj_coords.specs.Internal.LeastLaws.{least-append, lesser_assoc}
+use Rattle.gj_coords.specs.Internal.LeastLaws.{lesser-none, least-append, lesser_assoc}
+use Rattle.gj_rules.proofs.Objects.FaultsInAnyOrder.{lesser_comm, least_after, least_swap}
+use Rattle.gj_rules.specs.Internal.MemberRules.{rules_of, asked_fault}
 use Rattle.gj_rules.proofs.Objects.OneMember.{slot_from}
 use Rattle.gj_rules.proofs.Objects.AllMembers.{members_object, slots_after, type_from, type_after, shapes_from, shapes_after, repeated_after}
 use Rattle.gj_rules.specs.Internal.FrameMeaning.{Shapes}
-use Rattle.gj_rules.specs.Internal.Summaries.{no_shapes, shape_for, shape_found, alike, simple_of, asked_as, asked}
-use Rattle.gj_rules.proofs.Objects.AskedShapes.{one_fault}
+use Rattle.gj_rules.specs.Internal.Summaries.{no_shapes, shape_for, shape_found, simple_of, asked_as, asked}
+use Rattle.gj_rules.proofs.Objects.AskedShapes.{no_fault, one_fault}
 use Rattle.gj_coords.specs.Shape.{coordinates_faults}
 use Rattle.gj_rules.specs.Internal.Summaries.{shapes_of}
 
@@ -57,44 +59,71 @@ shown_with role place type_name shapes p = record {
 abbrev pub shown_for : Role → ℕ → Option Slot → ObjectMembers → MemberSlots
 shown_for role place type_name p = shown_with role place type_name (shapes_from (F.uses role Coordinates) None None no_shapes (p.of Coordinates)) p
 
-forbidden_is : (u : Bool) (o : Option First) → F.forbidden_slot (slot_from u o) ≡ least (R.forbidden o)
-forbidden_is u None = refl
-forbidden_is u (Some first) = refl
+-- ---- of one name
 
-due_is : (place : ℕ) (rule : Rule) (o : Option First) → F.due_slot place rule (slot_from true o) ≡ least (R.due place rule o)
-due_is place rule None = refl
-due_is place rule (Some first) = refl
+forbidden_is : (used : Bool) (x : Fault) (o : Option First) → asked_fault false false true x (slot_from used o) ≡ least (R.forbidden o)
+forbidden_is used x None = refl
+forbidden_is used x (Some first) = refl
 
-optional_is : (o : Option First) → F.slot_fault (slot_from true o) ≡ least (R.optional o)
-optional_is None = refl
-optional_is (Some first) = refl
+free_is : (used : Bool) (x : Fault) (o : Option First) → asked_fault false false false x (slot_from used o) ≡ None
+free_is used x None = refl
+free_is used x (Some first) = refl
+
+due_is : (used : Bool) (place : ℕ) (rule : Rule) (o : Option First) → used ≡ true
+    → asked_fault true true false (fault_at place rule) (slot_from used o) ≡ least (R.due place rule o)
+due_is used place rule None e = refl
+due_is used place rule (Some first) e = rw e refl
+
+optional_is : (used : Bool) (x : Fault) (o : Option First) → used ≡ true → asked_fault false true false x (slot_from used o) ≡ least (R.optional o)
+optional_is used x None e = refl
+optional_is used x (Some first) e = rw e refl
+
+-- of `coordinates`, whose faults depend on the type
+abbrev lacking : ℕ → Option First → List Fault
+lacking place None = one place G4
+lacking place (Some first) = []
+
+lacking_is : (used : Bool) (place : ℕ) (o : Option First) → asked_fault true false false (fault_at place G4) (slot_from used o) ≡ least (lacking place o)
+lacking_is used place None = refl
+lacking_is used place (Some first) = refl
+
+-- ---- of some names
 
 -- joined before what is known of the rest
 also : (x : Option Fault) (xs : List Fault) (y : Option Fault) (ys : List Fault) → x ≡ least xs → y ≡ least ys → lesser x y ≡ least (xs ++ ys)
 also x xs y ys e f = ap (λ z. lesser z y) e ∙ (ap (λ z. lesser (least xs) z) f ∙ sym (least-append xs ys))
 
-lasts : (x : Option Fault) (xs : List Fault) → x ≡ least xs → x ≡ least (xs ++ [])
-lasts x xs e = e ∙ ap least (sym (append-nil xs))
-
 abbrev forbidden_members : List Known → ObjectMembers → List Fault
 forbidden_members names p = flat_map (λ name. R.forbidden (p.of name)) names
 
--- u, v, w and x say which of the values the role looks at
-three_forbidden : (u v w : Bool) (a b c : Known) (p : ObjectMembers)
-    → lesser (F.forbidden_slot (slot_from u (p.of a))) (lesser (F.forbidden_slot (slot_from v (p.of b))) (F.forbidden_slot (slot_from w (p.of c))))
-    ≡ least (forbidden_members (a ∷ b ∷ c ∷ []) p)
-three_forbidden u v w a b c p =
-    also _ (R.forbidden (p.of a)) _ _ (forbidden_is u (p.of a))
-    (also _ (R.forbidden (p.of b)) _ _ (forbidden_is v (p.of b)) (lasts _ (R.forbidden (p.of c)) (forbidden_is w (p.of c))))
+-- of all seven
+all_of : (b c d g q f i : List Fault) (o u v w x y z : Option Fault) → o ≡ least b → u ≡ least c → v ≡ least d → w ≡ least g → x ≡ least q → y ≡ least f
+    → z ≡ least i → lesser o (lesser u (lesser v (lesser w (lesser x (lesser y z))))) ≡ least (b ++ (c ++ (d ++ (g ++ (q ++ (f ++ i))))))
+all_of b c d g q f i o u v w x y z k l m n r s t =
+    also o b _ _ k (also u c _ _ l (also v d _ _ m (also w g _ _ n (also x q _ _ r (also y f z i s t)))))
 
-four_forbidden : (u v w x : Bool) (a b c d : Known) (p : ObjectMembers)
-    → lesser (lesser (F.forbidden_slot (slot_from u (p.of a))) (F.forbidden_slot (slot_from v (p.of b))))
-    (lesser (F.forbidden_slot (slot_from w (p.of c))) (F.forbidden_slot (slot_from x (p.of d))))
-    ≡ least (forbidden_members (a ∷ b ∷ c ∷ d ∷ []) p)
-four_forbidden u v w x a b c d p =
-    lesser_assoc (F.forbidden_slot (slot_from u (p.of a))) (F.forbidden_slot (slot_from v (p.of b)))
-    (lesser (F.forbidden_slot (slot_from w (p.of c))) (F.forbidden_slot (slot_from x (p.of d))))
-    ∙ also _ (R.forbidden (p.of a)) _ (forbidden_members (b ∷ c ∷ d ∷ []) p) (forbidden_is u (p.of a)) (three_forbidden v w x b c d p)
+-- the bounding box, then others and the forbidden ones, then the coordinates
+turned : (b c r d : List Fault) (x : Option Fault) → lesser (least c) x ≡ least d → lesser (least (b ++ (c ++ r))) x ≡ least (b ++ (r ++ d))
+turned b c r d x e =
+    rw (least-append b (c ++ r), least-append c r, least-append b (r ++ d), least-append r d, ← e)
+    (lesser_assoc (least b) (lesser (least c) (least r)) x
+    ∙ ap (lesser (least b)) (ap (λ (y : Option Fault). lesser y x) (lesser_comm (least c) (least r)) ∙ lesser_assoc (least r) (least c) x))
+
+three_first : (a b c x : List Fault) → a ++ (b ++ (c ++ x)) ≡ (a ++ (b ++ (c ++ []))) ++ x
+three_first a b c x = simp append_assoc
+
+four_first : (a b c d x : List Fault) → a ++ (b ++ (c ++ (d ++ (x ++ [])))) ≡ (a ++ (b ++ (c ++ (d ++ [])))) ++ x
+four_first a b c d x = simp (append_assoc, append-nil)
+
+-- a forbidden one behind two that are due
+passed : (b c d g q f i : List Fault) → least (b ++ (c ++ (d ++ (g ++ (q ++ (f ++ i)))))) ≡ least (b ++ ((c ++ (d ++ (f ++ []))) ++ (g ++ (q ++ i))))
+passed b c d g q f i =
+    least_after b _ _ (least_after c _ _ (least_after d _ _ (least_after g _ _ (least_swap q f i) ∙ least_swap g f (q ++ i))))
+    ∙ ap (λ (xs : List Fault). least (b ++ xs)) (three_first c d f (g ++ (q ++ i)))
+
+uses_bbox : (role : Role) → F.uses role Bbox ≡ true
+uses_bbox Role.Root = refl
+uses_bbox _ = refl
 
 -- ---- of each type
 
@@ -106,91 +135,117 @@ shape_is Simple.MultiLineString v = refl
 shape_is Simple.Polygon v = refl
 shape_is Simple.MultiPolygon v = refl
 
-due_shape_is : (simple : Simple) (place : ℕ) (o : Option First)
-    → F.due_shape simple place (shapes_from true None None no_shapes o) (slot_from true o) ≡ least (R.due_coordinates simple place o)
-due_shape_is simple place None = refl
-due_shape_is simple place (Some first) = shape_is simple first.value
+coordinates_is : (simple : Simple) (used : Bool) (place : ℕ) (o : Option First) → used ≡ true
+    → lesser (least (lacking place o)) (shape_for simple (shapes_from used None None no_shapes o)) ≡ least (R.due_coordinates simple place o)
+coordinates_is simple used place None e = rw (no_fault simple) refl
+coordinates_is simple used place (Some first) e = rw e (shape_is simple first.value)
 
-simple_is : (simple : Simple) (u v w : Bool) (place : ℕ) (p : ObjectMembers)
-    → lesser (lesser (F.forbidden_slot (slot_from u (p.of Geometry)))
-    (lesser (F.forbidden_slot (slot_from v (p.of Properties))) (F.forbidden_slot (slot_from w (p.of Features)))))
-    (F.due_shape simple place (shapes_from true None None no_shapes (p.of Coordinates)) (slot_from true (p.of Coordinates)))
-    ≡ least (forbidden_members (Geometry ∷ Properties ∷ Features ∷ []) p ++ R.due_coordinates simple place (p.of Coordinates))
-simple_is simple u v w place p =
-    also _ (forbidden_members (Geometry ∷ Properties ∷ Features ∷ []) p) _ _ (three_forbidden u v w Geometry Properties Features p)
-    (due_shape_is simple place (p.of Coordinates))
+simple_is : (simple : Simple) (role : Role) (place : ℕ) (t : Option Slot) (p : ObjectMembers) → F.uses role Coordinates ≡ true
+    → lesser (F.members_fault (rules_of Word.Point) (shown_for role place t p)) (shape_for simple (shown_for role place t p).shapes)
+    ≡ least (R.optional (p.of Bbox) ++ (forbidden_members (Geometry ∷ Properties ∷ Features ∷ []) p ++ R.due_coordinates simple place (p.of Coordinates)))
+unfolding F.members_fault
+simple_is simple role place t p e =
+    ap (λ (x : Option Fault). lesser x (shape_for simple (shown_for role place t p).shapes))
+    (all_of (R.optional (p.of Bbox)) (lacking place (p.of Coordinates)) [] (R.forbidden (p.of Geometry)) (R.forbidden (p.of Properties))
+    (R.forbidden (p.of Features)) [] _ _ _ _ _ _ _ (optional_is (F.uses role Bbox) (fault_at place G4) (p.of Bbox) (uses_bbox role))
+    (lacking_is (F.uses role Coordinates) place (p.of Coordinates)) (free_is (F.uses role Geometries) (fault_at place G5) (p.of Geometries))
+    (forbidden_is (F.uses role Geometry) (fault_at place G6) (p.of Geometry))
+    (forbidden_is (F.uses role Properties) (fault_at place G7) (p.of Properties))
+    (forbidden_is (F.uses role Features) (fault_at place G8) (p.of Features)) (free_is (F.uses role Id) (fault_at place G4) (p.of Id)))
+    ∙ turned (R.optional (p.of Bbox)) (lacking place (p.of Coordinates)) (forbidden_members (Geometry ∷ Properties ∷ Features ∷ []) p)
+    (R.due_coordinates simple place (p.of Coordinates)) _ (coordinates_is simple (F.uses role Coordinates) place (p.of Coordinates) e)
 
-collection_is : (u v w : Bool) (place : ℕ) (p : ObjectMembers)
-    → lesser (lesser (F.forbidden_slot (slot_from u (p.of Geometry)))
-    (lesser (F.forbidden_slot (slot_from v (p.of Properties))) (F.forbidden_slot (slot_from w (p.of Features)))))
-    (F.due_slot place G5 (slot_from true (p.of Geometries)))
-    ≡ least (forbidden_members (Geometry ∷ Properties ∷ Features ∷ []) p ++ R.due place G5 (p.of Geometries))
-collection_is u v w place p =
-    also _ (forbidden_members (Geometry ∷ Properties ∷ Features ∷ []) p) _ _ (three_forbidden u v w Geometry Properties Features p)
-    (due_is place G5 (p.of Geometries))
+collection_is : (role : Role) (place : ℕ) (t : Option Slot) (p : ObjectMembers) → F.uses role Geometries ≡ true
+    → F.as_type Word.GeometryCollection (shown_for role place t p)
+    ≡ least (R.optional (p.of Bbox) ++ (forbidden_members (Geometry ∷ Properties ∷ Features ∷ []) p ++ R.due place G5 (p.of Geometries)))
+unfolding F.members_fault
+collection_is role place t p e =
+    ap (λ (x : Option Fault). lesser x None)
+    (all_of (R.optional (p.of Bbox)) [] (R.due place G5 (p.of Geometries)) (R.forbidden (p.of Geometry)) (R.forbidden (p.of Properties))
+    (R.forbidden (p.of Features)) [] _ _ _ _ _ _ _ (optional_is (F.uses role Bbox) (fault_at place G4) (p.of Bbox) (uses_bbox role))
+    (free_is (F.uses role Coordinates) (fault_at place G4) (p.of Coordinates)) (due_is (F.uses role Geometries) place G5 (p.of Geometries) e)
+    (forbidden_is (F.uses role Geometry) (fault_at place G6) (p.of Geometry))
+    (forbidden_is (F.uses role Properties) (fault_at place G7) (p.of Properties))
+    (forbidden_is (F.uses role Features) (fault_at place G8) (p.of Features)) (free_is (F.uses role Id) (fault_at place G4) (p.of Id)))
+    ∙ turned (R.optional (p.of Bbox)) (R.due place G5 (p.of Geometries)) (forbidden_members (Geometry ∷ Properties ∷ Features ∷ []) p)
+    (R.due place G5 (p.of Geometries)) None (lesser-none (least (R.due place G5 (p.of Geometries))))
 
-feature_is : (u v w : Bool) (place : ℕ) (p : ObjectMembers)
-    → lesser (lesser (F.forbidden_slot (slot_from u (p.of Coordinates)))
-    (lesser (F.forbidden_slot (slot_from v (p.of Geometries))) (F.forbidden_slot (slot_from w (p.of Features)))))
-    (lesser (F.due_slot place G6 (slot_from true (p.of Geometry)))
-    (lesser (F.due_slot place G7 (slot_from true (p.of Properties))) (F.slot_fault (slot_from true (p.of Id)))))
-    ≡ least (forbidden_members (Coordinates ∷ Geometries ∷ Features ∷ []) p ++ R.as_type Word.Feature place p.of)
-feature_is u v w place p =
-    also _ (forbidden_members (Coordinates ∷ Geometries ∷ Features ∷ []) p) _ _ (three_forbidden u v w Coordinates Geometries Features p)
-    (also _ (R.due place G6 (p.of Geometry)) _ _ (due_is place G6 (p.of Geometry))
-    (also _ (R.due place G7 (p.of Properties)) _ _ (due_is place G7 (p.of Properties)) (optional_is (p.of Id))))
+feature_is : (role : Role) (place : ℕ) (t : Option Slot) (p : ObjectMembers) → F.uses role Geometry ≡ true → F.uses role Properties ≡ true
+    → F.uses role Id ≡ true
+    → F.as_type Word.Feature (shown_for role place t p)
+    ≡ least (R.optional (p.of Bbox) ++ (forbidden_members (Coordinates ∷ Geometries ∷ Features ∷ []) p ++ R.as_type Word.Feature place p.of))
+unfolding F.members_fault
+feature_is role place t p g q i =
+    lesser-none (F.members_fault (rules_of Word.Feature) (shown_for role place t p))
+    ∙ (all_of (R.optional (p.of Bbox)) (R.forbidden (p.of Coordinates)) (R.forbidden (p.of Geometries)) (R.due place G6 (p.of Geometry))
+    (R.due place G7 (p.of Properties)) (R.forbidden (p.of Features)) (R.optional (p.of Id)) _ _ _ _ _ _ _
+    (optional_is (F.uses role Bbox) (fault_at place G4) (p.of Bbox) (uses_bbox role))
+    (forbidden_is (F.uses role Coordinates) (fault_at place G4) (p.of Coordinates))
+    (forbidden_is (F.uses role Geometries) (fault_at place G5) (p.of Geometries)) (due_is (F.uses role Geometry) place G6 (p.of Geometry) g)
+    (due_is (F.uses role Properties) place G7 (p.of Properties) q) (forbidden_is (F.uses role Features) (fault_at place G8) (p.of Features))
+    (optional_is (F.uses role Id) (fault_at place G4) (p.of Id) i)
+    ∙ passed (R.optional (p.of Bbox)) (R.forbidden (p.of Coordinates)) (R.forbidden (p.of Geometries)) (R.due place G6 (p.of Geometry))
+    (R.due place G7 (p.of Properties)) (R.forbidden (p.of Features)) (R.optional (p.of Id)))
 
-features_is : (u v w x : Bool) (place : ℕ) (p : ObjectMembers)
-    → lesser (lesser (lesser (F.forbidden_slot (slot_from u (p.of Coordinates))) (F.forbidden_slot (slot_from v (p.of Geometries))))
-    (lesser (F.forbidden_slot (slot_from w (p.of Geometry))) (F.forbidden_slot (slot_from x (p.of Properties)))))
-    (F.due_slot place G8 (slot_from true (p.of Features)))
-    ≡ least (forbidden_members (Coordinates ∷ Geometries ∷ Geometry ∷ Properties ∷ []) p ++ R.due place G8 (p.of Features))
-features_is u v w x place p =
-    also _ (forbidden_members (Coordinates ∷ Geometries ∷ Geometry ∷ Properties ∷ []) p) _ _
-    (four_forbidden u v w x Coordinates Geometries Geometry Properties p) (due_is place G8 (p.of Features))
+features_is : (role : Role) (place : ℕ) (t : Option Slot) (p : ObjectMembers) → F.uses role Features ≡ true
+    → F.as_type Word.FeatureCollection (shown_for role place t p)
+    ≡ least (R.optional (p.of Bbox) ++ (forbidden_members (Coordinates ∷ Geometries ∷ Geometry ∷ Properties ∷ []) p ++ R.due place G8 (p.of Features)))
+unfolding F.members_fault
+features_is role place t p e =
+    lesser-none (F.members_fault (rules_of Word.FeatureCollection) (shown_for role place t p))
+    ∙ (all_of (R.optional (p.of Bbox)) (R.forbidden (p.of Coordinates)) (R.forbidden (p.of Geometries)) (R.forbidden (p.of Geometry))
+    (R.forbidden (p.of Properties)) (R.due place G8 (p.of Features)) [] _ _ _ _ _ _ _
+    (optional_is (F.uses role Bbox) (fault_at place G4) (p.of Bbox) (uses_bbox role))
+    (forbidden_is (F.uses role Coordinates) (fault_at place G4) (p.of Coordinates))
+    (forbidden_is (F.uses role Geometries) (fault_at place G5) (p.of Geometries))
+    (forbidden_is (F.uses role Geometry) (fault_at place G6) (p.of Geometry))
+    (forbidden_is (F.uses role Properties) (fault_at place G7) (p.of Properties)) (due_is (F.uses role Features) place G8 (p.of Features) e)
+    (free_is (F.uses role Id) (fault_at place G4) (p.of Id))
+    ∙ ap (λ (xs : List Fault). least (R.optional (p.of Bbox) ++ xs))
+    (four_first (R.forbidden (p.of Coordinates)) (R.forbidden (p.of Geometries)) (R.forbidden (p.of Geometry)) (R.forbidden (p.of Properties))
+    (R.due place G8 (p.of Features))))
+
+-- where the type is missing or wrong
+none_is : (role : Role) (x : Fault) (place : ℕ) (t : Option Slot) (p : ObjectMembers)
+    → F.as_none x (shown_for role place t p) ≡ least (R.optional (p.of Bbox) ++ x ∷ [])
+unfolding F.members_fault
+none_is role x place t p =
+    ap (λ (y : Option Fault). lesser y (Some x))
+    (all_of (R.optional (p.of Bbox)) [] [] [] [] [] [] _ _ _ _ _ _ _
+    (optional_is (F.uses role Bbox) (fault_at place G4) (p.of Bbox) (uses_bbox role))
+    (free_is (F.uses role Coordinates) (fault_at place G4) (p.of Coordinates)) (free_is (F.uses role Geometries) (fault_at place G5) (p.of Geometries))
+    (free_is (F.uses role Geometry) (fault_at place G6) (p.of Geometry)) (free_is (F.uses role Properties) (fault_at place G7) (p.of Properties))
+    (free_is (F.uses role Features) (fault_at place G8) (p.of Features)) (free_is (F.uses role Id) (fault_at place G4) (p.of Id))
+    ∙ ap least (append-nil (R.optional (p.of Bbox))))
+    ∙ sym (least-append (R.optional (p.of Bbox)) (x ∷ []))
 
 -- at each role, for each type that is allowed there
 typed_is : (role : Role) (word : Word) (at : ℕ) (place : ℕ) (t : Option Slot) (p : ObjectMembers)
-    → (if is_allowed role word then F.as_type word (shown_for role place t p) else Some (fault_at at G3))
-    ≡ least (if is_allowed role word then forbidden_members (forbidden_by word) p ++ R.as_type word place p.of else one at G3)
-typed_is role Word.Other at place t p = refl
-typed_is Role.Root Word.Feature at place t p = feature_is true true true place p
-typed_is Role.Feature Word.Feature at place t p = feature_is false false false place p
-typed_is Role.Root Word.FeatureCollection at place t p = features_is true true true true place p
-typed_is Role.Root Word.GeometryCollection at place t p = collection_is true true true place p
-typed_is Role.Geometry Word.GeometryCollection at place t p = collection_is false false false place p
-typed_is Role.Part Word.GeometryCollection at place t p = collection_is false false false place p
-typed_is role Word.Feature at place t p = refl
-typed_is role Word.FeatureCollection at place t p = refl
-typed_is Role.Feature word at place t p = refl
-typed_is Role.Root Word.Point at place t p = simple_is Simple.Point true true true place p
-typed_is role Word.Point at place t p = simple_is Simple.Point false false false place p
-typed_is Role.Root Word.MultiPoint at place t p = simple_is Simple.MultiPoint true true true place p
-typed_is role Word.MultiPoint at place t p = simple_is Simple.MultiPoint false false false place p
-typed_is Role.Root Word.LineString at place t p = simple_is Simple.LineString true true true place p
-typed_is role Word.LineString at place t p = simple_is Simple.LineString false false false place p
-typed_is Role.Root Word.MultiLineString at place t p = simple_is Simple.MultiLineString true true true place p
-typed_is role Word.MultiLineString at place t p = simple_is Simple.MultiLineString false false false place p
-typed_is Role.Root Word.Polygon at place t p = simple_is Simple.Polygon true true true place p
-typed_is role Word.Polygon at place t p = simple_is Simple.Polygon false false false place p
-typed_is Role.Root Word.MultiPolygon at place t p = simple_is Simple.MultiPolygon true true true place p
-typed_is role Word.MultiPolygon at place t p = simple_is Simple.MultiPolygon false false false place p
+    → (if is_allowed role word then F.as_type word (shown_for role place t p) else F.as_none (fault_at at G3) (shown_for role place t p))
+    ≡ least (R.optional (p.of Bbox) ++ (if is_allowed role word then forbidden_members (forbidden_by word) p ++ R.as_type word place p.of else one at G3))
+typed_is role Word.Other at place t p = none_is role (fault_at at G3) place t p
+typed_is Role.Root Word.Feature at place t p = feature_is Role.Root place t p refl refl refl
+typed_is Role.Feature Word.Feature at place t p = feature_is Role.Feature place t p refl refl refl
+typed_is role Word.Feature at place t p = none_is role (fault_at at G3) place t p
+typed_is Role.Root Word.FeatureCollection at place t p = features_is Role.Root place t p refl
+typed_is role Word.FeatureCollection at place t p = none_is role (fault_at at G3) place t p
+typed_is Role.Feature word at place t p = none_is Role.Feature (fault_at at G3) place t p
+typed_is role Word.GeometryCollection at place t p = collection_is role place t p refl
+typed_is role Word.Point at place t p = simple_is Simple.Point role place t p refl
+typed_is role Word.MultiPoint at place t p = simple_is Simple.MultiPoint role place t p refl
+typed_is role Word.LineString at place t p = simple_is Simple.LineString role place t p refl
+typed_is role Word.MultiLineString at place t p = simple_is Simple.MultiLineString role place t p refl
+typed_is role Word.Polygon at place t p = simple_is Simple.Polygon role place t p refl
+typed_is role Word.MultiPolygon at place t p = simple_is Simple.MultiPolygon role place t p refl
 
 rest_is : (role : Role) (place : ℕ) (t : Option Slot) (p : ObjectMembers) (o : Option TypeValue)
-    → F.rest_by o (shown_for role place t p) ≡ least (R.by_type o role place p.of)
-rest_is role place t p None = refl
+    → F.rest_by o (shown_for role place t p) ≡ least (R.optional (p.of Bbox) ++ R.by_type o role place p.of)
+rest_is role place t p None = none_is role (fault_at place G2) place t p
 rest_is role place t p (Some value) = typed_is role value.word value.place place t p
-
-uses_bbox : (role : Role) → F.uses role Bbox ≡ true
-uses_bbox Role.Root = refl
-uses_bbox _ = refl
 
 pub settled_is : (role : Role) (place : ℕ) (t : Option Slot) (p : ObjectMembers)
     → F.settled (shown_for role place t p) ≡ least (R.object_faults role place p.repeated p.type_value p.of)
-settled_is role place t p =
-    also _ p.repeated _ _ refl
-    (also _ (R.optional (p.of Bbox)) _ _ (ap (λ u. F.slot_fault (slot_from u (p.of Bbox))) (uses_bbox role) ∙ optional_is (p.of Bbox))
-    (rest_is role place t p p.type_value))
+settled_is role place t p = also _ p.repeated _ _ refl (rest_is role place t p p.type_value)
 
 abbrev pub parts_of : Members → ObjectMembers
 parts_of members = record {
@@ -264,38 +319,26 @@ asked_after role place members =
 
 -- ---- only what its type asks for counts
 
-due_asked : (simple : Simple) (place : ℕ) (x : Shapes) (o : Option Slot)
-    → F.due_shape simple place x o ≡ F.due_shape simple place (alike (shape_found simple x)) o
-due_asked simple place x None = refl
-due_asked simple place x (Some slot) = sym (one_fault simple (shape_found simple x))
-
-simple_asked : (simple : Simple) (role : Role) (place : ℕ) (t : Option Slot) (x : Shapes) (p : ObjectMembers)
-    → F.as_simple simple (shown_with role place t x p) ≡ F.as_simple simple (shown_with role place t (alike (shape_found simple x)) p)
-simple_asked simple role place t x p =
-    ap (λ (o : Option Fault). lesser (F.geometry_forbids (shown_with role place t x p)) o)
-    (due_asked simple place x (slot_from (F.uses role Coordinates) (p.of Coordinates)))
+shape_asked : (o : Option Simple) (x : Shapes) → F.shape_as o x ≡ F.shape_as o (asked_as o x)
+shape_asked None x = refl
+shape_asked (Some simple) x = sym (one_fault simple (shape_found simple x))
 
 word_asked : (word : Word) (role : Role) (place : ℕ) (t : Option Slot) (x : Shapes) (p : ObjectMembers)
     → F.as_type word (shown_with role place t x p) ≡ F.as_type word (shown_with role place t (asked_as (simple_of word) x) p)
-word_asked Word.Point role place t x p = simple_asked Simple.Point role place t x p
-word_asked Word.MultiPoint role place t x p = simple_asked Simple.MultiPoint role place t x p
-word_asked Word.LineString role place t x p = simple_asked Simple.LineString role place t x p
-word_asked Word.MultiLineString role place t x p = simple_asked Simple.MultiLineString role place t x p
-word_asked Word.Polygon role place t x p = simple_asked Simple.Polygon role place t x p
-word_asked Word.MultiPolygon role place t x p = simple_asked Simple.MultiPolygon role place t x p
-word_asked _ role place t x p = refl
+unfolding F.members_fault
+word_asked word role place t x p = ap (lesser (F.members_fault (rules_of word) (shown_with role place t x p))) (shape_asked (simple_of word) x)
 
 rest_asked : (o : Option TypeValue) (role : Role) (place : ℕ) (t : Option Slot) (x : Shapes) (p : ObjectMembers)
     → F.rest_by o (shown_with role place t x p) ≡ F.rest_by o (shown_with role place t (asked o x) p)
+unfolding F.members_fault
 rest_asked None role place t x p = refl
 rest_asked (Some value) role place t x p =
-    ap (λ (o : Option Fault). if is_allowed role value.word then o else Some (fault_at value.place G3)) (word_asked value.word role place t x p)
+    ap (λ (o : Option Fault). if is_allowed role value.word then o else F.as_none (fault_at value.place G3) (shown_with role place t x p))
+    (word_asked value.word role place t x p)
 
 settled_asked : (role : Role) (place : ℕ) (t : Option Slot) (x : Shapes) (p : ObjectMembers)
     → F.settled (shown_with role place t x p) ≡ F.settled (shown_with role place t (asked p.type_value x) p)
-settled_asked role place t x p =
-    ap (λ (o : Option Fault). lesser (least p.repeated) (lesser (F.slot_fault (slot_from (F.uses role Bbox) (p.of Bbox))) o))
-    (rest_asked p.type_value role place t x p)
+settled_asked role place t x p = ap (lesser (least p.repeated)) (rest_asked p.type_value role place t x p)
 
 pub closed : (role : Role) (place close : ℕ) (members : Members)
     → F.settled (members_taken members (F.blank role place)) ≡ least (faults role (object place members close))

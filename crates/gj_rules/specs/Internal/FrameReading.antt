@@ -63,9 +63,21 @@ shapes_if Shaped.Each shapes = shapes_in shapes
 abbrev pub no_slot : Slot
 no_slot = record { name_at = 0; fault = None }
 
--- the slot at a place, where a member of its name is present
-unfoldable pub slot_in : ℕ → List Slot → ℕ → Option Slot
-slot_in present slots index = if nat_eq (bit_at present index) 1 then Some (slice_index_or slots index no_slot) else None
+-- where a bit says that it counts
+abbrev pub fault_if : Bool → Option Fault → Option Fault
+fault_if true fault = fault
+fault_if false fault = None
+
+-- the slot at a place, with its fault where one counts
+abbrev pub counted_slot : ℕ → List Slot → ℕ → Slot
+counted_slot faulty slots index = record {
+  name_at = (slice_index_or slots index no_slot).name_at;
+  fault = fault_if (nat_eq (bit_at faulty index) 1) (slice_index_or slots index no_slot).fault;
+}
+
+-- where a member of its name is present
+unfoldable pub slot_in : ℕ → ℕ → List Slot → ℕ → Option Slot
+slot_in present faulty slots index = if nat_eq (bit_at present index) 1 then Some (counted_slot faulty slots index) else None
 
 -- the fault of the least repeated name
 abbrev pub repeated_in : Option ℕ → Option Fault
@@ -91,7 +103,7 @@ by_place place role repeated type_value shapes at = record {
 }
 
 abbrev pub slots_in : DW.MemberSlots → MemberSlots
-slots_in x = by_place x.place x.role (repeated_in x.repeated) x.type_value (shapes_if x.shaped x.shapes) (slot_in x.present x.slots)
+slots_in x = by_place x.place x.role (repeated_in x.repeated) x.type_value (shapes_if x.shaped x.shapes) (slot_in x.present x.faulty x.slots)
 
 abbrev pub warnings_if : Bool → Warned → Warnings
 warnings_if true warned = all_in warned

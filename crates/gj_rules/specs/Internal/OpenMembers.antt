@@ -6,20 +6,21 @@ use Rattle.gj_json.specs.declared.names.Word.{Word}
 use Rattle.gj_json.specs.Tree.{Tree, Members, end_of_object, member}
 use Rattle.gj_json.specs.Names.{known_of}
 use Rattle.gj_coords.specs.declared.fault.Fault.{Fault}
-use Rattle.gj_coords.specs.declared.fault.Rule.{Rule}
-use Rattle.gj_coords.specs.declared.fault.Rule.TheVariants.{G2, G3, G4, G5, G6, G7, G8, G9, G10}
+use Rattle.gj_coords.specs.declared.fault.Rule.TheVariants.{G2, G3, G10}
 use Rattle.gj_coords.specs.declared.simple.Simple.{Simple}
 use Rattle.gj_coords.specs.Fault.{fault_at, lesser, least}
 use Rattle.gj_rules.specs.declared.role.Role.{Role}
 use Rattle.gj_rules.specs.declared.member_slots.Slot.{Slot}
 use Rattle.gj_rules.specs.declared.member_slots.TypeValue.{TypeValue}
+use Rattle.gj_rules.specs.declared.member_slots.member_rules.MemberRules.{MemberRules}
 use Rattle.gj_rules.specs.Internal.FrameMeaning.{MemberSlots}
 use Rattle.gj_rules.specs.Internal.FrameMeaning.{Shapes}
 use Rattle.gj_coords.specs.Items.{place_of}
 use Rattle.gj_rules.specs.Members.{is_known, type_of}
 use Rattle.gj_rules.specs.Role.{is_allowed}
 use Rattle.gj_rules.specs.Faults.{selected, faults, listed}
-use Rattle.gj_rules.specs.Internal.Summaries.{no_shapes, shape_for, shapes_of, asked}
+use Rattle.gj_rules.specs.Internal.MemberRules.{rules_of, rules_of_any, member_fault}
+use Rattle.gj_rules.specs.Internal.Summaries.{no_shapes, shape_for, shapes_of, simple_of, asked}
 
 -- the faults of the value of a first member
 abbrev pub judge : Known → Tree → List Fault
@@ -143,65 +144,30 @@ members_taken (member place name end value more) slots = members_taken more (mem
 
 -- ---- at the close
 
-abbrev pub due_slot : ℕ → Rule → Option Slot → Option Fault
-due_slot place rule (Some slot) = slot.fault
-due_slot place rule None = Some (fault_at place rule)
+abbrev pub fault_of : Known → MemberRules → MemberSlots → Option Fault
+fault_of name rules f = member_fault rules f.place name (slot_of name f)
 
-abbrev pub forbidden_slot : Option Slot → Option Fault
-forbidden_slot (Some slot) = Some (fault_at slot.name_at G9)
-forbidden_slot None = None
+-- what is wrong with the members
+unfoldable pub members_fault : MemberRules → MemberSlots → Option Fault
+members_fault rules f =
+    lesser (fault_of Bbox rules f) (lesser (fault_of Coordinates rules f) (lesser (fault_of Geometries rules f) (lesser (fault_of Geometry rules f)
+    (lesser (fault_of Properties rules f) (lesser (fault_of Features rules f) (fault_of Id rules f))))))
 
-abbrev pub slot_fault : Option Slot → Option Fault
-slot_fault (Some slot) = slot.fault
-slot_fault None = None
-
-abbrev pub due_shape : Simple → ℕ → Shapes → Option Slot → Option Fault
-due_shape simple place shapes (Some slot) = shape_for simple shapes
-due_shape simple place shapes None = Some (fault_at place G4)
-
-abbrev pub geometry_forbids : MemberSlots → Option Fault
-geometry_forbids f = lesser (forbidden_slot f.geometry) (lesser (forbidden_slot f.properties) (forbidden_slot f.features))
-
-abbrev pub as_simple : Simple → MemberSlots → Option Fault
-as_simple simple f = lesser (geometry_forbids f) (due_shape simple f.place f.shapes f.coordinates)
-
-abbrev pub as_collection : MemberSlots → Option Fault
-as_collection f = lesser (geometry_forbids f) (due_slot f.place G5 f.geometries)
-
-abbrev pub feature_forbids : MemberSlots → Option Fault
-feature_forbids f = lesser (forbidden_slot f.coordinates) (lesser (forbidden_slot f.geometries) (forbidden_slot f.features))
-
-abbrev pub feature_dues : MemberSlots → Option Fault
-feature_dues f = lesser (due_slot f.place G6 f.geometry) (lesser (due_slot f.place G7 f.properties) (slot_fault f.id))
-
-abbrev pub as_feature : MemberSlots → Option Fault
-as_feature f = lesser (feature_forbids f) (feature_dues f)
-
-abbrev pub features_forbid : MemberSlots → Option Fault
-features_forbid f =
-    lesser (lesser (forbidden_slot f.coordinates) (forbidden_slot f.geometries)) (lesser (forbidden_slot f.geometry) (forbidden_slot f.properties))
-
-abbrev pub as_features : MemberSlots → Option Fault
-as_features f = lesser (features_forbid f) (due_slot f.place G8 f.features)
+-- in the coordinates, where the type has some
+abbrev pub shape_as : Option Simple → Shapes → Option Fault
+shape_as None shapes = None
+shape_as (Some simple) shapes = shape_for simple shapes
 
 abbrev pub as_type : Word → MemberSlots → Option Fault
-as_type Word.Point f = as_simple Simple.Point f
-as_type Word.MultiPoint f = as_simple Simple.MultiPoint f
-as_type Word.LineString f = as_simple Simple.LineString f
-as_type Word.MultiLineString f = as_simple Simple.MultiLineString f
-as_type Word.Polygon f = as_simple Simple.Polygon f
-as_type Word.MultiPolygon f = as_simple Simple.MultiPolygon f
-as_type Word.GeometryCollection f = as_collection f
-as_type Word.Feature f = as_feature f
-as_type Word.FeatureCollection f = as_features f
-as_type Word.Other f = None
+as_type word f = lesser (members_fault (rules_of word) f) (shape_as (simple_of word) f.shapes)
+
+-- where the type is missing or wrong
+abbrev pub as_none : Fault → MemberSlots → Option Fault
+as_none fault f = lesser (members_fault rules_of_any f) (Some fault)
 
 abbrev pub rest_by : Option TypeValue → MemberSlots → Option Fault
-rest_by None f = Some (fault_at f.place G2)
-rest_by (Some value) f = if is_allowed f.role value.word then as_type value.word f else Some (fault_at value.place G3)
-
-abbrev pub rest_of : MemberSlots → Option Fault
-rest_of f = rest_by f.type_value f
+rest_by None f = as_none (fault_at f.place G2) f
+rest_by (Some value) f = if is_allowed f.role value.word then as_type value.word f else as_none (fault_at value.place G3) f
 
 abbrev pub settled : MemberSlots → Option Fault
-settled f = lesser f.repeated (lesser (slot_fault f.bbox) (rest_of f))
+settled f = lesser f.repeated (rest_by f.type_value f)

@@ -39,6 +39,7 @@ no_frame = record {
     };
     shaped = Shaped.No;
     present = 0;
+    faulty = 0;
     slots = [];
   };
   gathered = record {

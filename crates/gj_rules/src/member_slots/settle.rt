@@ -1,7 +1,9 @@
 //! What an object with a role comes to at its close.
-ghost use Rattle.std.specs.Prelude.{◌≡◌};
+ghost use Rattle.std.specs.Prelude.{◌≡◌, IsTrue};
 
-use super::{MemberSlots, Shaped, Slot};
+use super::member_rules::{MemberRules, is_among, missing};
+use super::{MemberSlots, Shaped};
+use crate::shapes::simple_of;
 use gj_coords::{Fault, Rule, Simple, Warned, lesser_fault};
 use gj_json::{Known, Word};
 
@@ -9,21 +11,9 @@ impl MemberSlots {
     ghost use Rattle.gj_rules.specs.Internal.FrameReading.{slots_in, repeated_in};
     ghost use Rattle.gj_coords.specs.Internal.KeptWarnings.{joined};
     ghost use Rattle.gj_coords.specs.Internal.GatheredWarnings.{all_in};
-    ghost use Rattle.gj_rules.specs.Internal.Summaries.{shape_for, warned_for};
-    ghost use Rattle.gj_rules.specs.Internal.OpenMembers.{due_shape, settled, rest_of, as_type, as_simple, geometry_forbids, feature_forbids, feature_dues};
-    ghost use Rattle.gj_rules.specs.Internal.OpenMembers.{features_forbid, due_slot, forbidden_slot, slot_fault};
-
-    fn due(&self, slot: Option<Slot>, rule: Rule) -> Option<Fault>
-        ensures { result ≡ due_slot self.now.place rule slot }
-    {
-        match slot {
-            Some(slot) => slot.fault,
-            None => Some(Fault {
-                place: self.place,
-                rule,
-            }),
-        }
-    }
+    ghost use Rattle.gj_rules.specs.Members.{is_known};
+    ghost use Rattle.gj_rules.specs.Internal.Summaries.{shape_for, simple_of, warned_for};
+    ghost use Rattle.gj_rules.specs.Internal.OpenMembers.{fault_of, members_fault, shape_as, as_type, as_none, rest_by, settled};
 
     /// The fault of the first `coordinates` for one type.
     #[tactic(auto, using(crate::proofs::Objects::AskedShapes::no_fault, crate::proofs::Objects::AskedShapes::one_fault))]
@@ -37,7 +27,18 @@ impl MemberSlots {
         }
     }
 
-    /// Adds its warnings for one type.
+    /// The same for an object's type, where it has coordinates.
+    #[inline(always)]
+    pub(super) fn word_fault(&self, word: Word) -> Option<Fault>
+        ensures { result ≡ shape_as (simple_of word) (slots_in self.now).shapes }
+    {
+        match simple_of(word) {
+            Some(simple) => self.shape_fault(simple),
+            None => None,
+        }
+    }
+
+    /// Adds the warnings of the first `coordinates` for one type.
     #[tactic(auto, using(crate::proofs::Objects::AskedShapes::no_warnings_more, crate::proofs::Objects::AskedShapes::one_warned))]
     pub fn warn_shape(&self, simple: Simple, warned: &mut Warned)
         ensures { all_in warned.new ≡ joined (all_in warned.old) (warned_for simple (slots_in self.now).shapes) }
@@ -49,129 +50,75 @@ impl MemberSlots {
         }
     }
 
-    fn due_shape(&self, simple: Simple) -> Option<Fault>
-        ensures { result ≡ due_shape simple self.now.place (slots_in self.now).shapes (slots_in self.now).coordinates }
+    /// What is wrong with the first member of a name, or that there is none.
+    fn fault_of(&self, name: Known, rules: MemberRules) -> Option<Fault>
+        requires { IsTrue (is_known name) }
+        ensures { result ≡ fault_of name rules (slots_in self.now) }
     {
-        if self.slot(Known::Coordinates).is_some() {
-            self.shape_fault(simple)
-        } else {
-            Some(Fault {
-                place: self.place,
-                rule: Rule::G4,
-            })
+        match self.slot(name) {
+            None => if is_among(rules.due, name) {
+                Some(Fault {
+                    place: self.place,
+                    rule: missing(name),
+                })
+            } else {
+                None
+            },
+            Some(slot) => if is_among(rules.forbidden, name) {
+                Some(Fault {
+                    place: slot.name_at,
+                    rule: Rule::G9,
+                })
+            } else if is_among(rules.used, name) {
+                slot.fault
+            } else {
+                None
+            },
         }
     }
 
-    fn forbidden(slot: Option<Slot>) -> Option<Fault>
-        ensures { result ≡ forbidden_slot slot }
+    /// The least that is wrong with the members.
+    #[tactic(auto, unfolding(crate::specs::Internal::OpenMembers::members_fault))]
+    pub(super) fn members_fault(&self, rules: MemberRules) -> Option<Fault>
+        ensures { result ≡ members_fault rules (slots_in self.now) }
     {
-        match slot {
-            Some(slot) => Some(Fault {
-                place: slot.name_at,
-                rule: Rule::G9,
-            }),
-            None => None,
-        }
-    }
-
-    fn allowed(slot: Option<Slot>) -> Option<Fault>
-        ensures { result ≡ slot_fault slot }
-    {
-        match slot {
-            Some(slot) => slot.fault,
-            None => None,
-        }
-    }
-
-    /// The least of the members that a geometry must not have (RFC 7946, section 7.1).
-    fn geometry_forbids(&self) -> Option<Fault>
-        ensures { result ≡ geometry_forbids (slots_in self.now) }
-    {
-        let rest = lesser_fault(
-            MemberSlots::forbidden(self.slot(Known::Properties)),
-            MemberSlots::forbidden(self.slot(Known::Features)),
-        );
-        lesser_fault(MemberSlots::forbidden(self.slot(Known::Geometry)), rest)
-    }
-
-    /// The least of the members that a Feature must not have.
-    fn feature_forbids(&self) -> Option<Fault>
-        ensures { result ≡ feature_forbids (slots_in self.now) }
-    {
-        let rest = lesser_fault(
-            MemberSlots::forbidden(self.slot(Known::Geometries)),
-            MemberSlots::forbidden(self.slot(Known::Features)),
-        );
-        lesser_fault(MemberSlots::forbidden(self.slot(Known::Coordinates)), rest)
-    }
-
-    /// The least fault of the members that a Feature uses.
-    fn feature_dues(&self) -> Option<Fault>
-        ensures { result ≡ feature_dues (slots_in self.now) }
-    {
-        let rest = lesser_fault(
-            self.due(self.slot(Known::Properties), Rule::G7),
-            MemberSlots::allowed(self.slot(Known::Id)),
-        );
-        lesser_fault(self.due(self.slot(Known::Geometry), Rule::G6), rest)
-    }
-
-    /// The least of the members that a FeatureCollection must not have.
-    fn features_forbid(&self) -> Option<Fault>
-        ensures { result ≡ features_forbid (slots_in self.now) }
-    {
-        let first = lesser_fault(
-            MemberSlots::forbidden(self.slot(Known::Coordinates)),
-            MemberSlots::forbidden(self.slot(Known::Geometries)),
-        );
-        let rest = lesser_fault(
-            MemberSlots::forbidden(self.slot(Known::Geometry)),
-            MemberSlots::forbidden(self.slot(Known::Properties)),
-        );
-        lesser_fault(first, rest)
-    }
-
-    fn as_simple(&self, simple: Simple) -> Option<Fault>
-        ensures { result ≡ as_simple simple (slots_in self.now) }
-    {
-        lesser_fault(self.geometry_forbids(), self.due_shape(simple))
+        let least = self.fault_of(Known::Id, rules);
+        let least = lesser_fault(self.fault_of(Known::Features, rules), least);
+        let least = lesser_fault(self.fault_of(Known::Properties, rules), least);
+        let least = lesser_fault(self.fault_of(Known::Geometry, rules), least);
+        let least = lesser_fault(self.fault_of(Known::Geometries, rules), least);
+        let least = lesser_fault(self.fault_of(Known::Coordinates, rules), least);
+        lesser_fault(self.fault_of(Known::Bbox, rules), least)
     }
 
     fn as_type(&self, word: Word) -> Option<Fault>
         ensures { result ≡ as_type word (slots_in self.now) }
     {
-        match word {
-            Word::Point => self.as_simple(Simple::Point),
-            Word::MultiPoint => self.as_simple(Simple::MultiPoint),
-            Word::LineString => self.as_simple(Simple::LineString),
-            Word::MultiLineString => self.as_simple(Simple::MultiLineString),
-            Word::Polygon => self.as_simple(Simple::Polygon),
-            Word::MultiPolygon => self.as_simple(Simple::MultiPolygon),
-            Word::GeometryCollection => lesser_fault(
-                self.geometry_forbids(),
-                self.due(self.slot(Known::Geometries), Rule::G5),
-            ),
-            Word::Feature => lesser_fault(self.feature_forbids(), self.feature_dues()),
-            Word::FeatureCollection => lesser_fault(
-                self.features_forbid(),
-                self.due(self.slot(Known::Features), Rule::G8),
-            ),
-            Word::Other => None,
-        }
+        lesser_fault(
+            self.members_fault(MemberRules::of(word)),
+            self.word_fault(word),
+        )
+    }
+
+    /// Where the type is missing or wrong, which is this fault.
+    fn as_none(&self, fault: Fault) -> Option<Fault>
+        ensures { result ≡ as_none fault (slots_in self.now) }
+    {
+        lesser_fault(self.members_fault(MemberRules::of_any()), Some(fault))
     }
 
     fn rest(&self) -> Option<Fault>
-        ensures { result ≡ rest_of (slots_in self.now) }
+        ensures { result ≡ rest_by self.now.type_value (slots_in self.now) }
     {
         match self.type_value {
-            None => Some(Fault {
+            None => self.as_none(Fault {
                 place: self.place,
                 rule: Rule::G2,
             }),
             Some(value) => if self.role.allows(value.word) {
                 self.as_type(value.word)
             } else {
-                Some(Fault {
+                self.as_none(Fault {
                     place: value.place,
                     rule: Rule::G3,
                 })
@@ -206,9 +153,6 @@ impl MemberSlots {
     fn least_fault(&self) -> Option<Fault>
         ensures { result ≡ settled (slots_in self.now) }
     {
-        lesser_fault(
-            self.repeated(),
-            lesser_fault(MemberSlots::allowed(self.slot(Known::Bbox)), self.rest()),
-        )
+        lesser_fault(self.repeated(), self.rest())
     }
 }

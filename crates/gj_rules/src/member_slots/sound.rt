@@ -1,92 +1,45 @@
 //! Whether a few looks show that nothing is wrong with an object with a role, as mostly nothing is.
 ghost use Rattle.std.specs.Prelude.{◌≡◌, IsTrue, None};
 
+use super::member_rules::MemberRules;
 use super::{MemberSlots, Shaped};
 use crate::role::Role;
-use gj_coords::Simple;
-use gj_json::{Known, Word};
+use gj_json::Word;
 
 impl MemberSlots {
     ghost use Rattle.gj_rules.specs.Internal.FrameReading.{slots_in};
-    ghost use Rattle.gj_rules.specs.Internal.OpenMembers.{settled, as_type, as_simple, as_collection, as_feature};
+    ghost use Rattle.gj_rules.specs.Internal.OpenMembers.{members_fault, as_type, settled};
     ghost use Rattle.gj_coords.specs.declared.simple.Simple.{Simple};
     ghost use Rattle.gj_coords.specs.Internal.KeptWarnings.{no_warnings};
     ghost use Rattle.gj_rules.specs.Internal.Summaries.{warned_for};
     ghost use Rattle.gj_rules.specs.Internal.FrameCalls.{is_nested};
     ghost use Rattle.gj_rules.specs.declared.role.Role.{Role};
 
-    /// Whether it has the members of a geometry with coordinates, and nothing is wrong with any.
-    fn is_sound_simple(&self, simple: Simple) -> bool
-        ensures { IsTrue result → as_simple simple (slots_in self.now) ≡ None }
+    /// Whether the members are those that are asked for, and nothing is wrong with any.
+    #[inline(always)]
+    fn meets(&self, rules: MemberRules) -> bool
+        ensures { IsTrue result → members_fault rules (slots_in self.now) ≡ None }
     {
-        if self.has(Known::Geometry)
-            || self.has(Known::Properties)
-            || self.has(Known::Features)
-            || !self.has(Known::Coordinates)
-        {
-            return false;
-        }
-        self.shape_fault(simple).is_none()
+        self.present & rules.due == rules.due
+            && (self.present & rules.forbidden == 0 && self.faulty & rules.used == 0)
     }
 
-    /// Whether it has the members of a GeometryCollection, and nothing is wrong with any.
-    fn is_sound_collection(&self) -> bool
-        ensures { IsTrue result → as_collection (slots_in self.now) ≡ None }
-    {
-        if self.has(Known::Geometry)
-            || self.has(Known::Properties)
-            || self.has(Known::Features)
-            || !self.has(Known::Geometries)
-        {
-            return false;
-        }
-        !self.value_fails(Known::Geometries)
-    }
-
-    /// Whether it has the members of a Feature, and nothing is wrong with any.
-    fn is_sound_feature(&self) -> bool
-        ensures { IsTrue result → as_feature (slots_in self.now) ≡ None }
-    {
-        if self.has(Known::Coordinates)
-            || self.has(Known::Geometries)
-            || self.has(Known::Features)
-        {
-            return false;
-        }
-        if !self.has(Known::Geometry) || !self.has(Known::Properties) {
-            return false;
-        }
-        if self.value_fails(Known::Id) {
-            return false;
-        }
-        !self.value_fails(Known::Geometry) && !self.value_fails(Known::Properties)
-    }
-
+    #[inline(always)]
     fn is_sound_as(&self, word: Word) -> bool
         ensures { IsTrue result → as_type word (slots_in self.now) ≡ None }
     {
-        match word {
-            Word::Point => self.is_sound_simple(Simple::Point),
-            Word::MultiPoint => self.is_sound_simple(Simple::MultiPoint),
-            Word::LineString => self.is_sound_simple(Simple::LineString),
-            Word::MultiLineString => self.is_sound_simple(Simple::MultiLineString),
-            Word::Polygon => self.is_sound_simple(Simple::Polygon),
-            Word::MultiPolygon => self.is_sound_simple(Simple::MultiPolygon),
-            Word::GeometryCollection => self.is_sound_collection(),
-            Word::Feature => self.is_sound_feature(),
-            Word::FeatureCollection | Word::Other => false,
-        }
+        self.meets(MemberRules::of(word)) && self.word_fault(word).is_none()
     }
 
     /// Whether a few looks show that nothing is wrong with the object, as mostly nothing is.
     pub fn is_sound(&self) -> bool
         ensures { IsTrue result → settled (slots_in self.now) ≡ None }
     {
-        if self.repeated.is_some() || self.has(Known::Bbox) {
-            return false;
-        }
         match self.type_value {
-            Some(value) => self.role.allows(value.word) && self.is_sound_as(value.word),
+            Some(value) => {
+                self.repeated.is_none()
+                    && (self.role.allows(value.word) && self.is_sound_as(value.word))
+            }
             None => false,
         }
     }
@@ -97,11 +50,11 @@ impl MemberSlots {
         ensures role { IsTrue result → self.now.role ≡ Role.Feature }
         ensures none { IsTrue result → settled (slots_in self.now) ≡ None }
     {
-        if self.repeated.is_some() || self.has(Known::Bbox) {
-            return false;
-        }
         match (self.role, self.type_value) {
-            (Role::Feature, Some(value)) => value.word == Word::Feature && self.is_sound_feature(),
+            (Role::Feature, Some(value)) => {
+                value.word == Word::Feature
+                    && (self.repeated.is_none() && self.is_sound_as(Word::Feature))
+            }
             _ => false,
         }
     }

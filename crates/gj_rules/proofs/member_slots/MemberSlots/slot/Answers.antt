@@ -5,7 +5,8 @@ use Rattle.gj_rules.proofs.member_slots.MemberSlots.slot.Goals.{else-index-lt-NA
 use Rattle.gj_rules.proofs.member_slots.MemberSlots.slot.Goals.{else-index-lt-NAMES-via-else-index-lt-NAMES}
 
 pub returns-then-self-index-eq1 : goal.returns-then-self-index-eq1
-returns-then-self-index-eq1 c = slot_there c.args.name c.args.self.now c.if-index-lt-NAMES.true c.if-self-index-eq1.true
+returns-then-self-index-eq1 c =
+    rw c.counted_slot.ensures (slot_there c.args.name c.args.self.now c.if-index-lt-NAMES.true c.if-self-index-eq1.true)
 
 pub returns-else-index-lt-NAMES : goal.returns-else-index-lt-NAMES
 returns-else-index-lt-NAMES c = elim c.else-index-lt-NAMES.branch [
