@@ -1,5 +1,5 @@
 -- Lemmas on the paths that a second reading finds.
-use Rattle.std.proofs.Common.{arith, refl, ◌≡◌, ◌<◌, ◌≤◌, ℕ, suc, ◌+◌, ◌++◌, ◌∷◌, ◌||◌, [], List, Bool, length, take, drop, get_or, set, ap, sym, ◌∙◌}
+use Rattle.std.proofs.Common.{arith, refl, ◌≡◌, ◌<◌, ◌≤◌, ℕ, suc, ◌+◌, ◌++◌, ◌∷◌, ◌||◌, [], List, Bool, length, take, drop, get_or, ap, sym, ◌∙◌}
 use Rattle.std.proofs.Common.{subst, true, false, append_assoc, append-nil, length-append, length-drop, length-take-le, if◌then◌else◌, Option, Some, None}
 use Rattle.std.proofs.Common.{IfSome}
 use Rattle.std.specs.Io.KnownBytes.{Consumes}
@@ -13,7 +13,6 @@ use Rattle.geolint_report.specs.declared.sites.Finder.{Finder}
 use Rattle.geolint_report.specs.declared.sites.Sites.{Sites}
 use Rattle.geolint_report.specs.Sites.{is_separator, has_separator, last_record, text_of, IsPathOf, LeadsTo, ArePaths, PathsBy}
 use Rattle.geolint_report.specs.Internal.SecondReading.{Follows, StandsIn}
-use Rattle.geolint_report.proofs.FoundSites.{each-set}
 
 module _ (framing : Framing) where
   -- ---- records, byte by byte
@@ -97,10 +96,6 @@ pub text_of-more : (framing : Option Framing) (text bytes : List ℕ) → framin
 text_of-more framing text bytes plain =
     ap (λ (f : Option Framing). text_of f (text ++ bytes)) plain ∙ ap (λ (f : Option Framing). text_of f text ++ bytes) (sym plain)
 
-pub text_of-nil : (framing : Option Framing) → text_of framing [] ≡ []
-text_of-nil None = refl
-text_of-nil (Some framing) = refl
-
 -- ---- a path in a longer file
 
 LeadsTo-longer : (framing : Option Framing) (text more : List ℕ) (place : ℕ) (path : Option Path) → LeadsTo framing text place path
@@ -136,12 +131,6 @@ LeadsTo-here framing text piece at place (Some path) within here is =
     (omega (arith, sum, within, here), subst (λ (bytes : List ℕ). IsPathOf (text_of framing bytes) path) (sym (take-here text piece at place within here)) is)
 
 -- ---- the sites
-
-pub paths-set : (framing : Option Framing) (text : List ℕ) (sites : List Site) (i : ℕ) (site : Site) → ArePaths framing text sites
-    → LeadsTo framing text site.place site.path
-    → ArePaths framing text (set sites i site)
-paths-set framing text sites i site are leads =
-    each-set (λ (s : Site). s.is_found ≡ true → LeadsTo framing text s.place s.path) sites i site are (λ found. leads)
 
 -- before the first of a piece
 pub Follows-piece : (framing : Option Framing) (finder : Finder) (sites : Sites) (text piece : List ℕ) → Follows framing finder sites text []

@@ -23,10 +23,6 @@ each-set P (s ∷ ss) (suc i) site all is zero other within = all zero other (om
 each-set P (s ∷ ss) (suc i) site all is (suc k) other within =
     each-set P ss i site (λ j o w. all (suc j) o (omega (arith, w))) is k other (omega (arith, within))
 
-pub right-set : (text : List ℕ) (sites : List Site) (i : ℕ) (site : Site) → AreRight text sites → IsSpot text site.place site.spot
-    → AreRight text (set sites i site)
-right-set text sites i site right is = each-set (λ (s : Site). s.is_found ≡ true → IsSpot text s.place s.spot) sites i site right (λ found. is)
-
 pub right-sought : (text : List ℕ) (sites : List Site) (i : ℕ) (site : Site) → AreRight text sites → site.is_found ≡ false → AreRight text (set sites i site)
 right-sought text sites i site right sought =
     each-set (λ (s : Site). s.is_found ≡ true → IsSpot text s.place s.spot) sites i site right (λ found. search (rules, sought, found))

@@ -3,7 +3,7 @@ use Rattle.std.proofs.Common.{arith, refl, ◌≡◌, ◌<◌, ℕ, ◌+◌, ◌
 use Rattle.std.proofs.Common.{length-append, Option, Some, None}
 use Rattle.std.specs.Prelude.{IsSome, Result, Ok, Err, is_err}
 use Rattle.std.specs.Io.KnownBytes.{Consumes, IsAtEnd}
-use Rattle.std.proofs.lemmas.List.{take_all, take-append-le}
+use Rattle.std.proofs.lemmas.List.{take-append-le}
 use Rattle.gj_json.specs.declared.fault.Cause.{Cause}
 use Rattle.gj_json.specs.declared.fault.Cause.TheVariants.{Syntax, Truncated, Depth, Length}
 use Rattle.gj_json.specs.declared.fault.JsonFault.{JsonFault}
@@ -101,30 +101,12 @@ IsTold-here limits framing text piece at place path within here is = λ longer u
 pub unfound-set : (sites : List Site) (i : ℕ) (site : Site) → NoneFound sites → site.is_found ≡ false → NoneFound (set sites i site)
 unfound-set sites i site none sought = each-set (λ (s : Site). s.is_found ≡ false) sites i site none sought
 
-pub told-set : (limits : Allowed) (framing : Option Framing) (text : List ℕ) (sites : List Site) (i : ℕ) (site : Site) → AreTold limits framing text sites
-    → IsTold limits framing text site.place site.path → AreTold limits framing text (set sites i site)
-told-set limits framing text sites i site are told =
-    each-set (λ (s : Site). s.is_found ≡ true → IsTold limits framing text s.place s.path) sites i site are (λ found. told)
-
-pub within-set : (text : List ℕ) (sites : List Site) (i : ℕ) (site : Site) → AreWithin text sites → site.place < length text → AreWithin text (set sites i site)
-within-set text sites i site are within = each-set (λ (s : Site). s.is_found ≡ true → s.place < length text) sites i site are (λ found. within)
-
 -- of what was not found, all is right
 pub unfound-right : (text : List ℕ) (sites : List Site) → NoneFound sites → AreRight text sites
 unfound-right text sites none = λ i other stored found. let sought = none i other stored in absurd (cc)
 
 pub unfound-paths : (framing : Option Framing) (text : List ℕ) (sites : List Site) → NoneFound sites → ArePaths framing text sites
 unfound-paths framing text sites none = λ i other stored found. let sought = none i other stored in absurd (cc)
-
--- before a reading
-pub Tells-begins : (limits : Allowed) (framing : Option Framing) (finder : Finder) (sites : Sites) → finder.limits ≡ limits → NoneFound sites.sites
-    → KeepsIn finder [] → Tells limits framing finder sites [] []
-Tells-begins limits framing finder sites under none keeps = record {
-  under = under;
-  keeps = λ fewer. subst (λ (ys : List ℕ). KeepsIn finder ys) (sym (take_all finder.located [] (omega arith))) keeps;
-  within = λ i other stored found. let sought = none i other stored in cc;
-  told = λ i other stored found. let sought = none i other stored in absurd (cc);
-}
 
 -- before the first of a piece
 pub Tells-piece : (limits : Allowed) (framing : Option Framing) (finder : Finder) (sites : Sites) (text piece : List ℕ) → finder.located ≡ 0

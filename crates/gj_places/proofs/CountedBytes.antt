@@ -42,10 +42,3 @@ last_line-other (first ∷ more) byte is =
 
 pub column_of-feed : (bytes : List ℕ) (byte : ℕ) → is_line_feed byte ≡ true → column_of (bytes ++ byte ∷ []) ≡ 1
 column_of-feed bytes byte is = ap (λ (line : List ℕ). characters line + 1) (last_line-feed bytes byte is)
-
-pub column_of-other : (bytes : List ℕ) (byte : ℕ) → is_line_feed byte ≡ false
-    → column_of (bytes ++ byte ∷ []) ≡ column_of bytes + (if begins_character byte then 1 else 0)
-column_of-other bytes byte is =
-    let same = ap (λ (line : List ℕ). characters line + 1) (last_line-other bytes byte is) in
-    let more = characters-more (last_line bytes) byte in
-    omega (arith, same, more)

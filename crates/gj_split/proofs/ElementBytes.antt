@@ -70,9 +70,6 @@ element_in_part v n bytes first part last e s =
 element_after : (v : Tree) (n : ℕ) (bytes first rest : List ℕ) → bytes ≡ first ++ rest → IsElementIn v (n + length first) rest → IsElementIn v n bytes
 element_after v n bytes first rest e s = element_in_part v n bytes first rest [] (e ∙ ap (λ xs. first ++ xs) (sym (append-nil rest))) s
 
-stands_after : (v : Tree) (n : ℕ) (bytes first rest : List ℕ) → bytes ≡ first ++ rest → StandsIn v (n + length first) rest → StandsIn v n bytes
-stands_after v n bytes first rest e s = in_part v n bytes first rest [] (e ∙ ap (λ xs. first ++ xs) (sym (append-nil rest))) s
-
 -- ---- all of some values
 
 pub each : (P Q : Tree → Type 0) → ((v : Tree) → P v → Q v) → (vs : List Tree) → AllByRecursion P vs → AllByRecursion Q vs

@@ -58,12 +58,6 @@ then_back {B = B} k n bytes f g h = record {
   after = g (n + length h.first) h.rest (subst (λ m. B m h.rest) (add_assoc k n (length h.first)) h.after);
 }
 
--- bytes that hold no place
-any_back : {A B D : ℕ → List ℕ → Type 0} (k n : ℕ) (bytes : List ℕ) → ((m : ℕ) (b : List ℕ) → A (k + m) b → A m b)
-    → ((m : ℕ) (b : List ℕ) → B (k + m) b → D m b)
-    → Then A B (k + n) bytes → Then A D n bytes
-any_back {A} {B} {D} k n bytes f g h = then_back {A = A} {B = B} {C = A} {D = D} k n bytes (f n) g h
-
 white_back : {B D : ℕ → List ℕ → Type 0} (k n : ℕ) (bytes : List ℕ) → ((m : ℕ) (b : List ℕ) → B (k + m) b → D m b) → Then White B (k + n) bytes
     → Then White D n bytes
 white_back {B} {D} k n bytes g h = then_back {A = White} {B = B} {C = White} {D = D} k n bytes (λ b x. x) g h

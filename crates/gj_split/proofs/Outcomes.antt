@@ -12,11 +12,6 @@ ok_gives {T} {E} (Ok v) given N P h p = subst P (same given v h.1) p
     same a b e = cc
 ok_gives (Err x) given N P h p = tt
 
-pub ok_on : {T E : Type 0} (outcome : Result T E) (given : T) (N : Type 0) (X : Type 0) → IfOk outcome (λ v. N × (ok_of T E given ≡ ok_of T E v)) → (N → X)
-    → OnOk outcome X
-ok_on (Ok v) given N X h f = f h.0
-ok_on (Err x) given N X h f = tt
-
 pub on_map : {T E : Type 0} (outcome : Result T E) (X Y : Type 0) → OnOk outcome X → (X → Y) → OnOk outcome Y
 on_map (Ok v) X Y h f = f h
 on_map (Err x) X Y h f = tt

@@ -1,5 +1,5 @@
 -- What a read at a place gives of a text.
-use Rattle.std.proofs.Common.{◌≡◌, ℕ, ◌+◌, ◌-◌, ◌≤◌, ◌<◌, max, min, List, ◌++◌, length, take, drop, Option, Some, None, Ok, sym, ap, subst, ◌∙◌, arith}
+use Rattle.std.proofs.Common.{◌≡◌, ℕ, ◌+◌, ◌-◌, ◌≤◌, ◌<◌, min, List, ◌++◌, length, take, drop, Option, Some, None, Ok, sym, ap, subst, ◌∙◌, arith}
 use Rattle.std.proofs.Common.{add-sub_of_le, take-take, take-add, drop-drop, length-take-le, length-take, length-drop}
 use Rattle.std.proofs.lemmas.List.{take-append-drop}
 use Rattle.std.proofs.lemmas.Option.{same_Some}
@@ -30,14 +30,6 @@ pub read_and_rest : (at : ℕ) (part bytes : List ℕ) → StandsAt bytes at par
 read_and_rest at part bytes h =
     sym (take-append-drop (length part) (drop at bytes))
     ∙ (ap (λ xs. xs ++ drop (length part) (drop at bytes)) (sym h) ∙ ap (λ xs. part ++ xs) (drop-drop (length part) at bytes))
-
--- up to no further place there are no bytes
-pub none_between : (place at end : ℕ) (bytes : List ℕ) → place ≤ at → end ≤ at → at ≤ max place end
-    → bytes_between place at bytes ≡ bytes_between place end bytes
-none_between place at end bytes l m k = ap (λ j. take j (drop place bytes)) (same place at end l m k)
-  where
-    same : (p a e : ℕ) → p ≤ a → e ≤ a → a ≤ max p e → a - p ≡ e - p
-    same p a e l m k = omega (arith, l, m, k)
 
 -- where no byte came the text has ended
 pub ended_there : (E : Type 0) (known : Option (List ℕ)) (at n : ℕ) (piece bytes : List ℕ) → ReadsFrom {E = E} known at (Ok n) piece → known ≡ Some bytes

@@ -1,7 +1,6 @@
 -- The text of a record, by the bytes at its place.
 use Rattle.std.proofs.Common.{◌≡◌, ℕ, zero, suc, get_or, ◌+◌, ◌-◌, ◌≤◌, Bool, true, false, nat_eq, if◌then◌else◌, List, [], ◌∷◌, ◌++◌, length, take, drop, refl}
 use Rattle.std.proofs.Common.{sym, ap, ◌∙◌, arith, add-sub_of_le}
-use Rattle.std.proofs.Math.Nat.{sub-eq-zero_of_le}
 use Rattle.std.proofs.Common.{Option, Some, Ok, ◌⊎◌, inl, inr, length-append, drop-drop, take-add}
 use Rattle.std.proofs.lemmas.Bool.{eqb-true}
 use Rattle.std.proofs.lemmas.List.{append-nil, take-append-drop}
@@ -77,10 +76,6 @@ has_text bytes = by_last (none_or_more bytes)
     by_last (inr h) = by_byte h.before h.last (nat_eq h.last line_feed) refl h.joined
 
 -- ---- the end of a text, as it is read
-
--- before the first byte there is none
-pub no_text : (place end : ℕ) (bytes : List ℕ) → end ≤ place → bytes_between place end bytes ≡ text_in (bytes_between place end bytes)
-no_text place end bytes l = rw (sub-eq-zero_of_le l) refl
 
 -- up to a byte that stands there, and no further
 one_more : (place last byte : ℕ) (bytes : List ℕ) → place ≤ last → StandsAt bytes last (byte ∷ [])

@@ -124,11 +124,3 @@ NextOf-ended E end (first ∷ begun) name count byte has is_empty (Some all) (So
     rw took (names-end (end_byte end) (first ∷ begun) byte left ends) in
     named end all left begun name first has is_empty
     (names ∙ (here ∙ ap (λ (l : List (List ℕ)). (first ∷ begun) ∷ l) (sym (names_in-from end left)))) is nul empty
-
--- more bytes came than a list may have
-pub NextOf-endless : (E : Type 0) (end : NameEnd) (begun name : List ℕ) (count : ℕ) (listed : _) (old before : Option (List ℕ))
-    → HasBegun end begun count old before
-    → 2 ^ 64 - 1 ≤ count → NextOf {E = E} old before end (Ok listed) name
-NextOf-endless E end begun name count listed None before begins many = tt
-NextOf-endless E end begun name count listed (Some all) None begins many = absurd begins
-NextOf-endless E end begun name count listed (Some all) (Some rest) (names, long) many = λ few. absurd (omega (arith, long, many, few))

@@ -1,5 +1,5 @@
 -- Which bytes a part has.
-use Rattle.std.proofs.Common.{arith, ◌≡◌, ◌-◌, ◌<◌, ◌≤◌, ℕ, suc, zero, refl, sym, subst, List, length, inl, inr, Some, None}
+use Rattle.std.proofs.Common.{arith, ◌≡◌, ◌-◌, ◌<◌, ◌≤◌, ℕ, suc, zero, sym, subst, List, length, inl, inr, Some, None}
 use Rattle.std.specs.Prelude.{Option, IfSome, ◌⊎◌}
 use Rattle.std.specs.Option.{option_map}
 use Rattle.gj_json.specs.Limits.{Allowed}
@@ -12,86 +12,14 @@ use Rattle.gj_join.specs.Joined.{IsVerdictOf}
 use Rattle.gj_join.specs.Parts.{limits_after}
 use Rattle.sequence_parts.specs.Checked.{IsPartOf, reading_of}
 use Rattle.sequence_parts.specs.declared.checked.CheckedPart.{CheckedPart}
-use Rattle.sequence_parts.specs.Cuts.{MayBeCut, IsFirstCut, bytes_between}
-use Rattle.sequence_parts.specs.Ranges.{range_begin, IsEndFrom, IsEnd, IsFromCut, IsByRange, ArePart}
+use Rattle.sequence_parts.specs.Cuts.{MayBeCut, bytes_between}
+use Rattle.sequence_parts.specs.Ranges.{range_begin, IsEnd, IsByRange, ArePart}
 
 -- ---- the end
-
-end_of : (framing : Framing) (limits : Allowed) (text : List ℕ) (until size end : ℕ) (cut : Option ℕ) → IsFirstCut framing limits text until size cut
-    → IsEndFrom cut size end
-    → length text ≡ size
-    → IsEnd framing limits text until end
-end_of framing limits text until size end cut first is long = (
-  cut,
-  subst (λ (n : ℕ). IsFirstCut framing limits text until n cut) (sym long) first,
-  subst (λ (n : ℕ). IsEndFrom cut n end) (sym long) is,
-)
-
-pub known_end : (known : Option (List ℕ)) (framing : Framing) (limits : Allowed) (until size end : ℕ) (cut : Option ℕ)
-    → IfSome known (λ text. IsFirstCut framing limits text until size cut)
-    → IsEndFrom cut size end → IfSome known (λ text. length text ≡ size → IsEnd framing limits text until end)
-known_end None framing limits until size end cut first is = tt
-known_end (Some text) framing limits until size end cut first is = end_of framing limits text until size end cut first is
-
-pub empty_end : (known : Option (List ℕ)) (framing : Framing) (limits : Allowed) (until size : ℕ) → until ≡ 0 → size ≡ 0
-    → IfSome known (λ text. length text ≡ size → IsEnd framing limits text until size)
-empty_end None framing limits until size first none = tt
-empty_end (Some text) framing limits until size first none = λ long. (None, λ place after below cut. absurd (omega (arith, below, long, none)), sym long)
 
 pub end_within : (framing : Framing) (limits : Allowed) (text : List ℕ) (until end : ℕ) → IsEnd framing limits text until end → end ≤ length text
 end_within framing limits text until end (None, first, is) = omega (arith, is)
 end_within framing limits text until end (Some cut, first, is) = omega (arith, is, first.1)
-
--- ---- both
-
-first_range : (framing : Framing) (limits : Allowed) (text : List ℕ) (from until end : ℕ) → from ≡ 0 → IsEnd framing limits text until end
-    → IsByRange framing limits text from until 0 end
-first_range framing limits text from until end first is = subst (λ (n : ℕ). IsByRange framing limits text n until 0 end) (sym first) (refl, is)
-
-later_range : (framing : Framing) (limits : Allowed) (text : List ℕ) (from until begin end : ℕ) (cut : Option ℕ) → 0 < from
-    → IsFirstCut framing limits text from until cut
-    → IsFromCut framing limits text until cut begin end
-    → IsByRange framing limits text from until begin end
-later_range framing limits text zero until begin end cut some first is = absurd (omega (arith, some))
-later_range framing limits text (suc n) until begin end cut some first is = (cut, first, is)
-
-in_range : (framing : Framing) (limits : Allowed) (text : List ℕ) (number parts size from until begin end : ℕ) → from ≡ range_begin size parts (number - 1)
-    → until ≡ range_begin size parts number
-    → IsByRange framing limits text from until begin end → length text ≡ size → ArePart framing limits text number parts begin end
-in_range framing limits text number parts size from until begin end is_from is_until is long =
-    let here = subst (λ (n : ℕ). IsByRange framing limits text n until begin end) is_from is in
-    let both = subst (λ (n : ℕ). IsByRange framing limits text (range_begin size parts (number - 1)) n begin end) is_until here in
-    subst (λ (n : ℕ). IsByRange framing limits text (range_begin n parts (number - 1)) (range_begin n parts number) begin end) (sym long) both
-
-pub known_first : (known : Option (List ℕ)) (framing : Framing) (limits : Allowed) (number parts size from until end : ℕ)
-    → from ≡ range_begin size parts (number - 1)
-    → until ≡ range_begin size parts number
-    → from ≡ 0 → IfSome known (λ text. length text ≡ size → IsEnd framing limits text until end)
-    → IfSome known (λ text. length text ≡ size → ArePart framing limits text number parts 0 end)
-known_first None framing limits number parts size from until end is_from is_until first is = tt
-known_first (Some text) framing limits number parts size from until end is_from is_until first is = λ long.
-    in_range framing limits text number parts size from until 0 end is_from is_until (first_range framing limits text from until end first (is long)) long
-
-pub known_later : (known : Option (List ℕ)) (framing : Framing) (limits : Allowed) (number parts size from until begin end : ℕ)
-    → from ≡ range_begin size parts (number - 1)
-    → until ≡ range_begin size parts number
-    → 0 < from → IfSome known (λ text. IsFirstCut framing limits text from until (Some begin))
-    → IfSome known (λ text. length text ≡ size → IsEnd framing limits text until end)
-    → IfSome known (λ text. length text ≡ size → ArePart framing limits text number parts begin end)
-known_later None framing limits number parts size from until begin end is_from is_until some first is = tt
-known_later (Some text) framing limits number parts size from until begin end is_from is_until some first is = λ long.
-    in_range framing limits text number parts size from until begin end is_from is_until
-    (later_range framing limits text from until begin end (Some begin) some first (refl, is long)) long
-
-pub known_none : (known : Option (List ℕ)) (framing : Framing) (limits : Allowed) (number parts size from until : ℕ)
-    → from ≡ range_begin size parts (number - 1)
-    → until ≡ range_begin size parts number
-    → 0 < from → IfSome known (λ text. IsFirstCut framing limits text from until None)
-    → IfSome known (λ text. length text ≡ size → ArePart framing limits text number parts until until)
-known_none None framing limits number parts size from until is_from is_until some first = tt
-known_none (Some text) framing limits number parts size from until is_from is_until some first = λ long.
-    in_range framing limits text number parts size from until until until is_from is_until
-    (later_range framing limits text from until until until None some first (refl, refl)) long
 
 -- ---- a part is one by which the whole can be judged
 

@@ -4,7 +4,7 @@ use Rattle.std.proofs.Common.{false, Bool, inl, inr, Some, None}
 use Rattle.std.specs.Prelude.{Option, IfSome}
 use Rattle.std.specs.Option.{SomeIff}
 use Rattle.std.proofs.lemmas.Bool.{cases_lt, cases_eq, false≢true}
-use Rattle.std.proofs.lemmas.List.{get_or-drop, get_or-take, length-take, length-take-le}
+use Rattle.std.proofs.lemmas.List.{get_or-drop, length-take-le}
 use Rattle.std.proofs.Math.ListN.{get_or-append}
 use Rattle.gj_json.specs.Limits.{Allowed}
 use Rattle.gj_join.specs.Parts.{separates, may_begin}
@@ -58,56 +58,7 @@ none_until framing limits text from place until some reached none = λ other aft
     let bytes = cut_at framing limits text other (omega (arith, some, after)) cut in
     none other after (omega (arith, bytes.allowed, below, reached, some, after)) cut
 
-none_past : (framing : Framing) (limits : Allowed) (text : List ℕ) (from place until : ℕ) → 0 < from → length text ≤ place
-    → NoneMayBeCut framing limits text from place
-    → NoneMayBeCut framing limits text from until
-none_past framing limits text from place until some reached none = λ other after below cut.
-    let bytes = cut_at framing limits text other (omega (arith, some, after)) cut in
-    none other after (omega (arith, bytes.within, reached, some, after)) cut
-
-no_place : (framing : Framing) (limits : Allowed) (text : List ℕ) (from place : ℕ) → place ≤ from → NoneMayBeCut framing limits text from place
-no_place framing limits text from place early = λ other after below cut. absurd (omega (arith, early, after, below))
-
 -- ---- where the source tells its bytes
-
--- the byte before the first place is looked at
-pub search_begun : (known : Option (List ℕ)) (framing : Framing) (limits : Allowed) (from count : ℕ) (byte : List ℕ) (follows : Bool) → 0 < from
-    → GaveBy known (from - 1) count byte
-    → 0 < count → 0 < length byte → follows ≡ separates framing (get_or byte 0 0) → AreSearchedTo known framing limits from from follows
-search_begun None framing limits from count byte follows some gave came room is = tt
-search_begun (Some text) framing limits from count byte follows some gave came room is =
-    let read = take count byte in
-    let rest = drop (from - 1 + count) text in
-    let long : length read ≡ min count (length byte) = length-take count byte in
-    let first : get_or read 0 0 ≡ get_or byte 0 0 = get_or-take count byte 0 0 came in
-    let there : get_or text (from - 1) 0 ≡ get_or read 0 0 =
-    ap (λ (n : ℕ). get_or text n 0) (omega arith)
-    ∙ (sym (get_or-drop (from - 1) text 0 0)
-    ∙ (ap (λ (l : List ℕ). get_or l 0 0) gave.given ∙ get_or-append read rest 0 0 (omega (arith, long, came, room)))) in (
-      is ∙ ap (separates framing) (sym first ∙ sym there),
-      no_place framing limits text from from (omega arith),
-    )
-
-pub search_past : (known : Option (List ℕ)) (framing : Framing) (limits : Allowed) (from count until : ℕ) (byte : List ℕ) → 0 < from
-    → GaveBy known (from - 1) count byte
-    → count ≡ 0 → 0 < length byte → IfSome known (λ text. IsFirstCut framing limits text from until None)
-search_past None framing limits from count until byte some gave none room = tt
-search_past (Some text) framing limits from count until byte some gave none room =
-    none_past framing limits text from (from - 1) until some (gave.none none room) (no_place framing limits text from (from - 1) (omega arith))
-
-pub search_ended : (known : Option (List ℕ)) (framing : Framing) (limits : Allowed) (from place count until : ℕ) (piece : List ℕ) (follows : Bool) → 0 < from
-    → GaveBy known place count piece
-    → count ≡ 0 → 0 < length piece → AreSearchedTo known framing limits from place follows
-    → IfSome known (λ text. IsFirstCut framing limits text from until None)
-search_ended None framing limits from place count until piece follows some gave none room so_far = tt
-search_ended (Some text) framing limits from place count until piece follows some gave none room so_far =
-    none_past framing limits text from place until some (gave.none none room) so_far.1
-
-pub search_whole : (known : Option (List ℕ)) (framing : Framing) (limits : Allowed) (from place until : ℕ) (follows : Bool) → 0 < from
-    → min until limits.bytes ≤ place
-    → AreSearchedTo known framing limits from place follows → IfSome known (λ text. IsFirstCut framing limits text from until None)
-search_whole None framing limits from place until follows some reached so_far = tt
-search_whole (Some text) framing limits from place until follows some reached so_far = none_until framing limits text from place until some reached so_far.1
 
 pub search_more : (known : Option (List ℕ)) (framing : Framing) (limits : Allowed) (from place count : ℕ) (piece : List ℕ) (follows now : Bool) → 0 < place
     → GaveBy known place count piece

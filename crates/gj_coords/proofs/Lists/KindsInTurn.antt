@@ -14,17 +14,6 @@ use Rattle.gj_coords.specs.Internal.WarningLaws.{kept_by_kind, by_kind_alike}
 abbrev pub turned : ℕ → (Kind → KindWarnings) → Warnings → Warnings
 turned i value a = by_kind (λ kind. if nat_lt (index_of kind) i then value kind else kept a kind)
 
-pub none_turned : (value : Kind → KindWarnings) (a : Warnings) → a ≡ turned 0 value a
-none_turned value a =
-    by_kind_alike (kept a) (λ kind. if nat_lt (index_of kind) 0 then value kind else kept a kind)
-    (λ kind. by_test kind (nat_lt (index_of kind) 0) (none (index_of kind)))
-  where
-    none : (n : ℕ) → nat_lt n 0 ≡ false
-    none n = grind (arith, nat_tests)
-
-    by_test : (kind : Kind) (t : Bool) → t ≡ false → kept a kind ≡ (if t then value kind else kept a kind)
-    by_test kind t h = rw h refl
-
 pub all_turned : (i : ℕ) (value : Kind → KindWarnings) (a : Warnings) → length kinds ≤ i → turned i value a ≡ by_kind value
 all_turned i value a all =
     by_kind_alike (λ kind. if nat_lt (index_of kind) i then value kind else kept a kind) value

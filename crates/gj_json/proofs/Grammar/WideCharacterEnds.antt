@@ -4,7 +4,7 @@ use Rattle.std.proofs.Common.{take, drop, get_or, inl, inr, refl, sym, ap, subst
 use Rattle.std.proofs.Math.Seq.{drop-cons}
 use Rattle.std.proofs.lemmas.Bool.{cases_lt, or_parts, or_right, lt-leb, le-leb}
 use Rattle.std.proofs.lemmas.Bool.Decides.{nat_tests}
-use Rattle.std.proofs.lemmas.List.{get_or-drop, length-drop}
+use Rattle.std.proofs.lemmas.List.{get_or-drop}
 use Rattle.gj_json.specs.declared.mode.StringState.TheVariants.{Plain}
 use Rattle.gj_json.specs.Characters.{IsPlain}
 use Rattle.gj_json.specs.Internal.WholeTokens.{IsCharacter, AreCharacters}
@@ -260,9 +260,6 @@ module _ (piece : List ℕ) (first n : ℕ) (some : 0 < first) (within : first <
   found : Whole (get_or piece (first - 1) 0) (drop first piece) (n - 1)
   found = whole (get_or piece (first - 1) 0) (drop first piece) (n - 1) (omega arith)
       (let e : first + 0 ≡ first = omega arith in rw (get_or-drop first piece 0 0, e) begins) room_here none_here
-
-  pub within_piece : first - 1 + n < length piece
-  within_piece = omega (arith, length-drop first piece, room_here)
 
   end_at : get_or (drop first piece) (n - 1) 0 ≡ get_or piece (first - 1 + n) 0
   end_at = get_or-drop first piece (n - 1) 0 ∙ ap (λ k. get_or piece k 0) (omega arith)

@@ -3,8 +3,8 @@
 use Rattle.std.proofs.Common.{◌≡◌, ℕ, zero, suc, ◌+◌, ◌-◌, ◌≤◌, ◌<◌, Bool, true, false, List, [], ◌∷◌, ◌++◌, get_or, length, take, take-add, drop, Option, Some}
 use Rattle.std.proofs.Common.{None, refl, sym, ap, subst, ◌∙◌, arith, append_assoc}
 use Rattle.std.proofs.lemmas.List.{drop-drop, get_or-drop, length-append, length-drop, length-take-le, map-append, take_more}
-use Rattle.gj_json.specs.Bytes.{quote as quote_byte, comma as comma_byte, colon as colon_byte}
-use Rattle.gj_json.specs.declared.class.Class.TheVariants.{Quote as quote_class, Comma as comma_class, Colon as colon_class, Letter as letter}
+use Rattle.gj_json.specs.Bytes.{quote as quote_byte, comma as comma_byte}
+use Rattle.gj_json.specs.declared.class.Class.TheVariants.{Quote as quote_class, Comma as comma_class, Letter as letter}
 use Rattle.gj_json.specs.declared.constant.Constant.{Constant}
 use Rattle.gj_json.specs.declared.constant.Constant.TheVariants.{Null, True, False}
 use Rattle.gj_json.specs.declared.event.Event.{Event}
@@ -310,14 +310,6 @@ comma_in_object old new piece live m i w room e p =
     (byte_passed old new comma_byte NameDue Ending.Item live p (omega arith) (comma_move old Object NameDue m i refl) (rw m refl)
     (rw m refl) refl refl refl)
 
-pub colon_passed : (old new : Reader) (piece : List ℕ) → old.fault ≡ None → old.mode ≡ ColonDue → 0 < length piece
-    → old.offset + length piece ≤ old.limits.bytes → get_or piece 0 0 ≡ colon_byte → Passed 1 ValueDue old new → FeedsLevel old new (take 1 piece)
-colon_passed old new piece live m w room e p =
-    let Q : List ℕ → Type 0 = λ xs. FeedsLevel old new xs in
-    subst Q (sym (first_byte piece colon_byte w e))
-    (byte_passed old new colon_byte ValueDue Ending.Nothing live p (omega arith) (λ turn words. rw (m, class_is colon_class colon_byte refl (λ e. cc)) refl)
-    (rw m refl) (rw m refl) refl refl refl)
-
 -- ---- one token after another
 
 -- from a sink that had heard nothing that opens or closes
@@ -334,9 +326,6 @@ from_none old new given h f =
 
 none_stays : (events : List Event) → events ≡ [] → Stays events
 none_stays events e = rw e (λ levels w. refl)
-
-pub nothing_passed : (reader : Reader) (piece : List ℕ) → reader.fault ≡ None → FeedsLevel reader reader (take 0 piece)
-nothing_passed reader piece live = record { feeds = from_none reader reader [] none_stays (feeds_nothing {heard = Stays} reader live); levels = refl }
 
 pub skips_passed : (old new : Reader) (piece : List ℕ) (n : ℕ) → old.fault ≡ None → n ≤ length piece → old.offset + length piece ≤ old.limits.bytes
     → Skips old new (take n piece) → FeedsLevel old new (take n piece)
@@ -439,12 +428,6 @@ more_quoted piece r n some first h g w last =
     subst Q e (quoted_is piece (r + n) some first (h.0 ++ g.0, more) (omega (arith, w)) (ap (λ k. get_or piece k 0) e ∙ last))
 
 -- ---- within levels that are open
-
-pub within_more : (floor : ℕ) (first next last : Reader) (piece : List ℕ) (at n : ℕ) → floor < length (levels_in next.levels)
-    → FeedsWithin floor first next (take at piece) → FeedsLevel next last (take n (take (length piece - at) (drop at piece)))
-    → FeedsWithin floor first last (take (at + n) piece)
-within_more floor first next last piece at n w f g =
-    piece_all first next last piece at n f (rest_all next last piece at n (all_more floor first next last _ (level_within floor next last _ w g)))
 
 -- nothing was taken
 pub none_within : (floor : ℕ) (reader : Reader) (piece : List ℕ) → reader.fault ≡ None → FeedsWithin floor reader reader (take 0 piece)

@@ -57,14 +57,6 @@ answers_ok reader bytes limits result x r l e h =
     let k = well_of reader bytes e h in
     rw (r, ← l) (well_viable reader.limits.depth bytes k.state k.runs k.fits, omega (arith, k.at, k.within))
 
-pub answers_err : {A : Type 0} (reader : Reader) (bytes : List ℕ) (limits : Allowed) (result : Result A JsonFault) (fault : JsonFault) → result ≡ Err fault
-    → reader.limits ≡ limits → reader.fault ≡ Some fault → StandsFor reader bytes → Answers limits bytes result
-answers_err reader bytes limits result fault r l e h =
-    let k : StandsRefused reader.limits fault reader.mode (levels_in reader.levels) reader.start reader.offset bytes = rw e at h in
-    let g : IsRefusal reader.limits bytes fault × ((more : List ℕ) → IsRefusal reader.limits (bytes ++ more) fault) =
-    (k.refusal, λ more. lasts reader.limits bytes more fault.cause fault.place k.by_byte k.refusal) in
-    rw (r, ← l) g
-
 pub kept_answer : (reader : Reader) (bytes : List ℕ) (fault : JsonFault) → reader.fault ≡ Some fault → StandsFor reader bytes
     → IsRefusal reader.limits bytes fault × ((more : List ℕ) → IsRefusal reader.limits (bytes ++ more) fault)
 kept_answer reader bytes fault e h =

@@ -24,12 +24,6 @@ ascii_rest (x ∷ xs) ys h = ascii_rest xs ys h.1
 pub other_on : (xs ys : List ℕ) → IsOther xs → IsOther (xs ++ ys)
 other_on xs ys h = λ a l. h (ascii_front xs ys a) (omega (arith, length-append xs ys))
 
-pub other_long : (xs : List ℕ) → 18 < length xs → IsOther xs
-other_long xs l = λ a m. omega arith
-
-pub other_character : (xs : List ℕ) (c : ℕ) → 128 ≤ c → IsOther (xs ++ c ∷ [])
-other_character xs c h = λ a l. let k = ascii_rest xs (c ∷ []) a in omega (arith, k.0)
-
 -- a word of few ASCII letters is not other
 abbrev is_ascii : List ℕ → Bool
 is_ascii [] = true

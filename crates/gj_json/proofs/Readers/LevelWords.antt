@@ -6,7 +6,6 @@ use Rattle.gj_json.specs.declared.levels.Levels.{Levels}
 use Rattle.gj_json.specs.declared.levels.Level.{Level}
 use Rattle.gj_json.specs.declared.levels.Level.TheVariants.{Array, Object}
 use Rattle.gj_json.specs.declared.levels.TheConstants.{WORD}
-use Rattle.gj_json.specs.declared.limits.TheConstants.{MOST_LEVELS}
 use Rattle.gj_json.specs.Internal.OpenLevels.{level_of, bit_of, levels_at, full_levels, levels_in, outer_of}
 
 length-levels_at : (count bits : ℕ) → length (levels_at count bits) ≡ count
@@ -22,9 +21,6 @@ pub length-levels : (l : Levels) → length (levels_in l) ≡ l.count + l.full *
 unfolding levels_in
 length-levels l = omega
     (arith, length-append (levels_at l.count l.inner) (full_levels l.full l.outer), length-levels_at l.count l.inner, length-full l.full l.outer)
-
-pub few_levels : (l : Levels) → length (levels_in l) ≤ MOST_LEVELS
-few_levels l = omega (arith, l.some, l.few, length-levels l)
 
 set_above : (words : List ℕ) (n m word : ℕ) → n ≤ m → full_levels n (set words m word) ≡ full_levels n words
 set_above words zero m word l = refl

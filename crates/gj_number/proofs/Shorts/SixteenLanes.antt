@@ -16,7 +16,7 @@ use Rattle.std.proofs.lemmas.List.{map-append, take_rest}
 use Rattle.std.proofs.lemmas.List.{take-append-le}
 use Rattle.std.proofs.lemmas.List.Elements.{All-from_recursion, All-nil}
 use Rattle.std.proofs.lemmas.List.Sums.{prefix_len-le-length, prefix_len_stops}
-use Rattle.std.proofs.lemmas.Simd.{zip2_splat, leading_from_mask_l, trailing_mask_l, bit_mask_l, chunk-fits, Each1-replicate, swz_l, SwzOk, SwzOk-from_Each1}
+use Rattle.std.proofs.lemmas.Simd.{zip2_splat, leading_from_mask_l, trailing_mask_l, chunk-fits, Each1-replicate, swz_l, SwzOk, SwzOk-from_Each1}
 use Rattle.std.proofs.lemmas.Simd.{Each1-chunk, length-chunk}
 use Rattle.std.proofs.lemmas.Bool.{cases_lt}
 use Rattle.gj_number.specs.Bytes.{decimal_point, IsDigit}
@@ -605,18 +605,6 @@ module _ (piece lanes : List ℕ) (long : 16 ≤ length piece) (fits : (k : ℕ)
       let a = lane_at i few in
       let b : get_or piece i 0 < 256 = (fits i).fits in
       elim (leb_tells 10 (get_or lanes i 0)) [ inl h ↦ h.0 | inr h ↦ absurd (other (digit_byte (get_or piece i 0) b (let l = h.1 in omega arith)).0) ]
-
-  pub other_bit : (k i : ℕ) → k + i < 16 → (IsDigit (get_or piece (k + i) 0) → ⊥) → mask / 2 ^ k ≡ 0 → ⊥
-  other_bit k i few other none =
-      let ms = map (leb 10) (drop k lanes) in
-      let l = lanes_long piece lanes long fits e in
-      let f : mask / 2 ^ k ≡ mask_l ms = ap (λ n. n / 2 ^ k) m ∙ mask_after lanes k in
-      let w : i < length (drop k lanes) = omega (arith, length-drop k lanes) in
-      let here : get_or ms i false ≡ true =
-      get_or-map (leb 10) (drop k lanes) i 0 false w ∙ ap (leb 10) (get_or-drop k lanes i 0) ∙ lane_of_other (k + i) few other in
-      let zero_bit : 0 / 2 ^ i % 2 ≡ 0 = ap (λ n. n % 2) (zero-div (2 ^ i)) in
-      let b : 0 / 2 ^ i % 2 ≡ 1 = ap (λ n. n / 2 ^ i % 2) (sym none ∙ f) ∙ bit_mask_l ms i ∙ ap (λ t. cond t 1 0) here in
-      omega arith
 
   other_of_lane : (i : ℕ) → i < 16 → leb 10 (get_or lanes i 0) ≡ true → IsDigit (get_or piece i 0) → ⊥
   other_of_lane i few t d =

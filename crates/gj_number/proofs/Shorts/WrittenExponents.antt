@@ -1,5 +1,5 @@
 -- The number that a piece starts with, with an exponent or none.
-use Rattle.std.proofs.Common.{zero, suc, ◌≡◌, ℕ, ◌+◌, ◌-◌, ◌*◌, ◌^◌, ◌<◌, ◌≤◌, Bool, true, false, inl, inr, List, [], ◌∷◌, ◌++◌, length, take, drop, get_or}
+use Rattle.std.proofs.Common.{zero, suc, ◌≡◌, ℕ, ◌+◌, ◌-◌, ◌*◌, ◌^◌, ◌<◌, ◌≤◌, Bool, inl, inr, List, [], ◌∷◌, ◌++◌, length, take, drop, get_or}
 use Rattle.std.proofs.Common.{refl, sym, ◌∙◌, ap, subst, arith, append_assoc, append-nil, ℤ, pos, ◌-ℤ◌, unsigned_abs}
 use Rattle.std.proofs.Math.Seq.{take-add, drop-cons}
 use Rattle.std.proofs.lemmas.Int.{ints}
@@ -124,15 +124,3 @@ module _ (piece : List ℕ) (negative : Bool) (digits places count : ℕ) (p : S
 -- three digits at the most
 pub few_written : (piece : List ℕ) (n value : ℕ) → SpellsOn piece 0 n value → n ≤ 3 → value < 1000
 few_written piece n value h few = let b = below_power piece n value h in let l = scaled_below value n 0 3 b (omega arith) in omega arith
-
--- ---- where the point is moved to
-
-pub down_power : (by places left : ℕ) → left ≡ places + by → signed true by -ℤ pos places ≡ pos 0 -ℤ pos left
-down_power zero places left e = omega (arith, ints)
-down_power (suc by) places left e = omega (arith, ints)
-
-pub less_power : (by places left : ℕ) → by ≤ places → left ≡ places - by → signed false by -ℤ pos places ≡ pos 0 -ℤ pos left
-less_power by places left l e = omega (arith, ints)
-
-pub up_power : (by places up : ℕ) → places < by → up ≡ by - places → signed false by -ℤ pos places ≡ pos up -ℤ pos 0
-up_power by places up l e = omega (arith, ints)

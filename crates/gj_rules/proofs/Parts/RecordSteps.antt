@@ -317,10 +317,6 @@ pub numbered : (number next : ℕ) → (number ≡ 0 → next ≡ 1) → (0 < nu
 numbered zero next none some = none refl
 numbered (suc n) next none some = some (omega arith)
 
-pub first_few : (framing : Framing) → first_number framing ≤ 1
-first_few Framing.Sequence = omega arith
-first_few Framing.Lines = omega arith
-
 -- the rest of a piece is beyond the limit
 pub over_rest : (told : List Record → Type 0) (s : Records) (bytes piece : List ℕ) (n : ℕ) (before found : List Record) → s.is_over ≡ true
     → HaveTold told s (bytes ++ take n piece) before found → HaveTold told s (bytes ++ piece) before found

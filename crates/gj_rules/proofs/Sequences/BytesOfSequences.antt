@@ -34,10 +34,6 @@ going_on limits bytes more l =
     ap (λ n. records_from (nat_lt limits.bytes (length (bytes ++ more))) 0 (take n (bytes ++ more))) e
     ∙ ap (records_from (nat_lt limits.bytes (length (bytes ++ more))) 0) (take-append-add bytes more (limits.bytes - length bytes))
 
--- no byte is stray, whatever follows a first one
-pub stray_on : (byte : ℕ) (bytes more : List ℕ) → is_stray ((byte ∷ bytes) ++ more) ≡ is_stray (byte ∷ bytes)
-stray_on byte bytes more = refl
-
 -- ---- a record that a byte of it refuses
 
 -- such a refusal is for no limit on the length, nor for an end

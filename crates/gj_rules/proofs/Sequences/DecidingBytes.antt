@@ -20,7 +20,7 @@ use Rattle.gj_rules.specs.SequenceStands.{IsSettled}
 use Rattle.gj_rules.specs.Internal.OpenSequence.{closed}
 use Rattle.gj_rules.specs.Verdict.{IsVerdict}
 use Rattle.gj_rules.proofs.Sequences.RecordCuts.{record_at, first_plain, rest_plain, up_to_plain, cut_at, cut_open}
-use Rattle.gj_rules.proofs.Sequences.BytesOfSequences.{going_on, ByByte, by_byte, Lasting, refused_record, snoc_last, undecided, undecided_none, still_open}
+use Rattle.gj_rules.proofs.Sequences.BytesOfSequences.{going_on, ByByte, by_byte, Lasting, refused_record, snoc_last, undecided, still_open}
 use Rattle.gj_json.proofs.Machine.LongestPrefixes.{front_viable}
 
 -- ---- lists of bytes
@@ -124,23 +124,6 @@ closed_again done =
     let whole = cut_open false all [] refl in
     let parts = ap (records_from false 0) (regroup done [] (separator ∷ [])) ∙ cut_at false 0 done (separator ∷ []) in
     (snoc_last (closed 0 all) (closed 0 done) _ _ (sym whole ∙ parts)).1
-
--- ---- a byte before the first separator
-
-pub settled_stray : (limits : Allowed) (byte : ℕ) → is_separator byte ≡ false → IsSettled limits (byte ∷ []) 0 (SeqVerdict.Record 0 (not_json 0 Syntax))
-settled_stray limits byte e = record {
-  at = record { within = omega arith; before = undecided_none limits; decides = λ u. not_both (is_separator byte) e u.begun };
-  fails = refl;
-  lasting = λ more. by_test (is_separator byte) (records_of limits (byte ∷ more)) e;
-}
-  where
-    not_both : (b : Bool) → b ≡ false → not b ≡ false → ⊥
-    not_both true f g = cc
-    not_both false f g = cc
-
-    by_test : (b : Bool) (records : List SequenceRecord) → b ≡ false → IsJudgedBy (not b) limits.depth records (SeqVerdict.Record 0 (not_json 0 Syntax))
-    by_test true records f = cc
-    by_test false records f = refl
 
 -- ---- what is known of the bytes so far
 

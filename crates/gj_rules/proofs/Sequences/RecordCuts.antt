@@ -59,10 +59,6 @@ and_not_true : (a : Bool) → (a && not true) ≡ false
 and_not_true true = refl
 and_not_true false = refl
 
-one_closed : (is_cut : Bool) (place byte : ℕ) (more rest : List ℕ) → SequenceRecord
-one_closed is_cut place byte more rest =
-    record_at (place + 1) (up_to_separator (more ++ separator ∷ rest)) (is_cut && not (has_separator (more ++ separator ∷ rest)))
-
 same_closed : (is_cut : Bool) (place : ℕ) (more rest : List ℕ) →
     record_at (place + 1) (up_to_separator (more ++ separator ∷ rest)) (is_cut && not (has_separator (more ++ separator ∷ rest)))
     ≡ record_at (place + 1) (up_to_separator (more ++ separator ∷ [])) false

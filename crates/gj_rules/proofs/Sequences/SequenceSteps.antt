@@ -19,16 +19,15 @@ use Rattle.gj_rules.specs.declared.sequence.verdict.SeqVerdict.{SeqVerdict}
 use Rattle.gj_rules.specs.Verdict.{IsVerdict}
 use Rattle.gj_rules.specs.Sequence.{separator, has_separator, SequenceRecord, records_from, records_of, AllValid, IsSequenceVerdict, IsUndecided, is_stray}
 use Rattle.gj_rules.specs.SequenceStands.{IsSettled, StandsBy, StandsFor, has_decided, is_decided, says_decided, Answers}
-use Rattle.gj_rules.specs.Internal.DecidedSequence.{decided_as}
 use Rattle.gj_rules.specs.Internal.OpenSequence.{closed, IsIn, IsBefore, IsAt, IsLive}
 use Rattle.gj_rules.specs.declared.verdict.Verdict.{Verdict}
 use Rattle.gj_rules.specs.declared.verdict.Verdict.TheVariants.{Valid, Broken, NotJson}
 use Rattle.gj_rules.specs.Internal.OpenRecord.{fault_shifted}
-use Rattle.gj_rules.specs.Sequence.{IsRecordVerdict, IsJudgedBy, is_separator, is_valid, not_json}
+use Rattle.gj_rules.specs.Sequence.{IsRecordVerdict, IsJudgedBy, is_valid, not_json}
 use Rattle.gj_rules.specs.Internal.VerdictParts.{valid_warnings}
 use Rattle.gj_rules.proofs.Sequences.RecordCuts.{record_at, plain-append, cut_open}
 use Rattle.gj_rules.proofs.Sequences.DecidingBytes.{Known, known_undecided, regroup, begun_more, closed_more, closed_again, first_failing, settled_refused}
-use Rattle.gj_rules.proofs.Sequences.DecidingBytes.{settled_failing, settled_long, settled_stray}
+use Rattle.gj_rules.proofs.Sequences.DecidingBytes.{settled_failing, settled_long}
 use Rattle.gj_rules.proofs.Sequences.BytesOfSequences.{undecided_none, fitting, snoc_last, one_more, Lasting}
 
 -- no byte has decided
@@ -72,11 +71,6 @@ known_of s bytes h k = record {
   viable = k.viable;
   counted = k.counted;
 }
-
--- what a step decided
-pub decided_stands : (s new : Sequence) (bytes : List ℕ) (place : ℕ) (verdict : SeqVerdict) → new ≡ decided_as s place verdict
-    → IsSettled s.limits bytes place verdict → StandsFor new bytes
-decided_stands s new bytes place verdict e h = let P : Sequence → Type 0 = λ x. StandsFor x bytes in subst P (sym e) h
 
 -- more bytes after those that decided
 settled_more : (limits : Allowed) (bytes more : List ℕ) (place : ℕ) (verdict : SeqVerdict) → IsSettled limits bytes place verdict
@@ -197,15 +191,6 @@ long_run some s bytes byte place h full least e =
     let P : ℕ → Type 0 = λ n. IsSettled s.limits (bytes ++ byte ∷ []) n (SeqVerdict.Record s.records (not_json n Length)) in
     subst P (sym (e ∙ full)) (settled_long some s.limits bytes k.done k.given s.warnings s.records byte (known_of s bytes h k) (sym h.taken ∙ full))
 
--- a byte before the first separator
-pub stray_run : (s : Sequence) (bytes : List ℕ) (byte : ℕ) (h : IsLive s bytes) → s.records ≡ 0 → is_separator byte ≡ false
-    → IsSettled s.limits (bytes ++ byte ∷ []) 0 (SeqVerdict.Record s.records (not_json 0 Syntax))
-stray_run s bytes byte h none e =
-    let b = before_of s bytes none h in
-    let P : List ℕ → Type 0 = λ bs. IsSettled s.limits (bs ++ byte ∷ []) 0 (SeqVerdict.Record s.records (not_json 0 Syntax)) in
-    let Q : ℕ → Type 0 = λ n. IsSettled s.limits (byte ∷ []) 0 (SeqVerdict.Record n (not_json 0 Syntax)) in
-    subst P (sym b.none) (subst Q (sym none) (settled_stray s.limits byte e))
-
 -- ---- records after the open one
 
 -- the first separator
@@ -276,13 +261,6 @@ ends_failing s bytes h k verdict fails v =
     first_failing s.limits bytes k.done s.warnings s.records (record_at (length k.done + 1) k.given false) [] verdict k.begun k.valid k.counted
     (fitting s.limits bytes h.fits ∙ (ap (records_from false 0) k.split ∙ cut_open false k.done k.given k.plain))
     (placed 0 s bytes h k verdict verdict refl v) fails
-
-pub ends_empty : (s : Sequence) (bytes : List ℕ) → IsLive s bytes → s.records ≡ 0 → IsSequenceVerdict s.limits bytes (SeqVerdict.Valid s.records s.warnings)
-ends_empty s bytes h none =
-    let b = before_of s bytes none h in
-    let P : List ℕ → Type 0 = λ bs. IsSequenceVerdict s.limits bs (SeqVerdict.Valid s.records s.warnings) in
-    let Q : List SequenceRecord → Type 0 = λ rs. IsJudgedBy false s.limits.depth rs (SeqVerdict.Valid s.records s.warnings) in
-    subst P (sym b.none) (subst Q (sym (fitting s.limits [] (omega arith))) (b.warnings, none))
 
 pub ends_settled : (s : Sequence) (bytes : List ℕ) (d : Decision) → s.decided ≡ Some d → StandsFor s bytes → IsSequenceVerdict s.limits bytes d.verdict
 ends_settled s bytes d e h =

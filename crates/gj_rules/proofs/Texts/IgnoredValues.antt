@@ -4,18 +4,14 @@ use Rattle.gj_json.specs.declared.event.Event.{Event}
 use Rattle.gj_json.specs.Ignored.{levels_behind, Leaves}
 use Rattle.gj_coords.specs.declared.coordinates.Coordinates as C
 use Rattle.gj_coords.specs.declared.bbox.Bbox as B
-use Rattle.gj_rules.specs.declared.mode.Mode.{Mode}
 use Rattle.gj_rules.specs.declared.rules.FramedRules.{FramedRules}
-use Rattle.gj_rules.specs.Internal.RulesState.{core_of, Holds, HoldsIn}
+use Rattle.gj_rules.specs.Internal.RulesState.{core_of, Holds}
 use Rattle.gj_rules.specs.Rules.{StandsFor}
 use Rattle.gj_rules.specs.Internal.EventSteps.{Core, core_step}
 use Rattle.gj_rules.proofs.Texts.OneEventMore.{told_on, steps_taken}
 
 abbrev skipping : {frames : ℕ} → ℕ → FramedRules frames → FramedRules frames
 skipping levels rules = record rules { skipped = levels }
-
-holds_skipped : (k : ℕ) (m : Mode) (c : C.Coordinates) (b : B.Bbox) (es : List Event) → HoldsIn (suc k) m c b es
-holds_skipped k m c b es = tt
 
 skipped_core : (event : Event) (k : ℕ) (c : Core) → c.skipped ≡ suc k → core_step event c ≡ record c { skipped = levels_behind event.what (suc k) }
 skipped_core event k c e = rw e refl

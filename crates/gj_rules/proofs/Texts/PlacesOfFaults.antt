@@ -19,7 +19,7 @@ use Rattle.gj_coords.specs.declared.simple.Simple.{Simple}
 use Rattle.gj_coords.specs.Fault.{fault_at, comes_first, lesser, least}
 use Rattle.gj_coords.specs.Items.{items, elements_of, place_of}
 use Rattle.gj_coords.specs.Box.{is_wrong_length, bbox_faults}
-use Rattle.gj_coords.specs.Shape.{Shape, misshapen, few, held_number, number_or, position, several, list, line, unclosed, ring, or_empty, shape_of}
+use Rattle.gj_coords.specs.Shape.{Shape, few, held_number, number_or, position, several, list, line, unclosed, ring, or_empty, shape_of}
 use Rattle.gj_coords.specs.Shape.{coordinates_faults}
 use Rattle.gj_rules.specs.declared.role.Role.{Role}
 use Rattle.gj_rules.specs.declared.member_slots.TypeValue.{TypeValue}
@@ -164,9 +164,6 @@ InFault n fault = fault.place ≤ n
 
 abbrev FitsShape : ℕ → Shape → Type 0
 FitsShape n shape = (t : Tree) → Within n t → FaultsIn n (shape t)
-
-misshapen_in : (n : ℕ) → FitsShape n misshapen
-misshapen_in n t h = (place_within n t h, tt)
 
 one_if : (n : ℕ) (b : Bool) (place : ℕ) (rule : Rule) → place ≤ n → FaultsIn n (if b then fault_at place rule ∷ [] else [])
 one_if n true place rule h = (h, tt)

@@ -36,5 +36,5 @@ overflow_add-result-2 c =
     let end : c.loop-index.index ≡ length c.args.piece.now / 16 =
     omega (arith, c.loop-index-test.false, c.loop-index.invariant.within, c.as_chunks.ensures.front_len) in
     let run =
-        rest_stops is_unescaped_ascii c.args.piece.now c.as_chunks.result.1.now c.loop-index.index c.as_chunks.ensures.back end c.loop-index.invariant.run in
+    rest_stops is_unescaped_ascii c.args.piece.now c.as_chunks.result.1.now c.loop-index.index c.as_chunks.ensures.back end c.loop-index.invariant.run in
     record { fits = omega (arith, c.few_ascii.ensures, run, prefix_len-le-length is_unescaped_ascii c.args.piece.now) }
