@@ -333,7 +333,7 @@ impl<const FRAMES: usize> EventSink for FramedRules<FRAMES> {
             What::CloseObject => self.tell_close_object(event.place),
             What::OpenArray => self.tell_open_array(event.place),
             What::CloseArray => self.tell_close_array(event.place),
-            _ => self.tell_other(event),
+            _ => self.tell_rest(event),
         }
     }
 

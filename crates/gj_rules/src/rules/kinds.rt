@@ -6,6 +6,7 @@ ghost use Rattle.gj_json.specs.declared.event.What.TheVariants as W;
 use super::FramedRules;
 use crate::mode::Mode;
 use gj_json::{Event, Known, What, Word};
+use gj_number::Decimal;
 
 impl<const FRAMES: usize> FramedRules<FRAMES> {
     ghost use Rattle.gj_rules.specs.Internal.RulesState.{Feeds};
@@ -97,6 +98,37 @@ impl<const FRAMES: usize> FramedRules<FRAMES> {
         self.tell_what(What::CloseObject, place);
     }
 
+    /// A number in the value of `coordinates`.
+    fn feed_number(&mut self, value: &Option<Decimal>, place: u64)
+        requires skipped { self.old.skipped ≡ 0 }
+        requires mode { self.old.mode ≡ Mode.Due Known.Coordinates }
+        ensures { Feeds self.old (record { place = place; what = W.Number value.now }) self.new }
+    {
+        self.coordinates.number(place, value);
+        if self.coordinates.done() {
+            self.end_coordinates();
+        }
+    }
+
+    /// A number. Mostly it is one in a `coordinates`.
+    #[inline(never)]
+    fn tell_number(&mut self, value: &Option<Decimal>, place: u64)
+        ensures { (events : List Event) → StandsFor self.old events → StandsFor self.new (events ++ record { place = place; what = W.Number value.now } ∷ []) }
+    {
+        if self.is_in_coordinates() {
+            self.feed_number(value, place);
+        } else {
+            self.tell_inner_number(value, place);
+        }
+    }
+
+    #[inline(never)]
+    fn tell_inner_number(&mut self, value: &Option<Decimal>, place: u64)
+        ensures { (events : List Event) → StandsFor self.old events → StandsFor self.new (events ++ record { place = place; what = W.Number value.now } ∷ []) }
+    {
+        self.tell_what(What::Number(*value), place);
+    }
+
     /// The start of an array in the value of `coordinates`.
     fn feed_open_array(&mut self, place: u64)
         requires skipped { self.old.skipped ≡ 0 }
@@ -159,8 +191,19 @@ impl<const FRAMES: usize> FramedRules<FRAMES> {
         self.tell_what(What::CloseArray, place);
     }
 
+    /// A number, or an event of another kind that is told whole.
+    #[inline(always)]
+    pub(super) fn tell_rest(&mut self, event: Event)
+        ensures { (events : List Event) → StandsFor self.old events → StandsFor self.new (events ++ event ∷ []) }
+    {
+        match &event.what {
+            What::Number(value) => self.tell_number(value, event.place),
+            _ => self.tell_other(event),
+        }
+    }
+
     #[inline(never)]
-    pub(super) fn tell_other(&mut self, event: Event)
+    fn tell_other(&mut self, event: Event)
         ensures { (events : List Event) → StandsFor self.old events → StandsFor self.new (events ++ event ∷ []) }
     {
         self.tell_what(event.what, event.place);

@@ -1,0 +1,19 @@
+use Rattle.std.proofs.Common.{refl, arith, ◌++◌, ◌∷◌, []}
+use Rattle.gj_json.specs.declared.event.What.{What}
+use Rattle.gj_coords.specs.Internal.SentEvents.{event_at}
+use Rattle.gj_rules.proofs.Objects.FedSummaries.{not_whole, whole}
+use Rattle.gj_rules.proofs.rules.FramedRules.feed_number.Goals as goal
+
+pub returns-else-done : goal.returns-else-done
+returns-else-done g c = λ v taken left d h e.
+    let last = event_at c.args.place (What.Number c.args.value.now) ∷ [] in
+    not_whole c.args.self.now _ v taken last left c.done.result c.requires.skipped c.requires.mode c.requires.skipped c.requires.mode refl
+    (c.number.ensures.stands taken) c.if-done.false
+    (λ s. c.done.ensures.at_the_end v (taken ++ last) left s e (omega arith)) h
+
+pub returns-then-done : goal.returns-then-done
+returns-then-done g c = λ v taken left d h e.
+    let last = event_at c.args.place (What.Number c.args.value.now) ∷ [] in
+    whole c.args.self.now c.end_coordinates.new.self c.number.new.self v taken last left c.done.result c.requires.skipped c.requires.mode
+    (c.number.ensures.stands taken) c.if-done.true
+    (λ s. c.done.ensures.at_the_end v (taken ++ last) left s e (omega arith)) h e (λ s. c.end_coordinates.ensures v d s)
