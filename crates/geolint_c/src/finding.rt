@@ -2,7 +2,8 @@
 ghost use Rattle.std.specs.Prelude.{◌≡◌, Bool};
 ghost use Rattle.gj_rules.specs.FeatureFindings.{FeatureFinding};
 ghost use Rattle.gj_rules.specs.FeaturesTold.{SaysFinding};
-ghost use Rattle.geolint_c.specs.Finding.{IsFeature, IsRecord, IsWhole, finding_with, record_with, clean_finding, no_finding, no_whole, progress_of, no_progress, end_or_zero};
+ghost use Rattle.geolint_c.specs.Finding.{IsFeature, IsRecord, IsWhole, finding_with, record_with, clean_finding, no_finding, no_whole};
+ghost use Rattle.geolint_c.specs.Finding.{progress_of, no_progress, end_or_zero};
 ghost use Rattle.geolint_c.specs.Report.{place_or_zero};
 
 use crate::report::{

@@ -55,8 +55,8 @@ fn text_of(hint: Hint) -> &'static [u8]
             b"the file is Esri JSON: ogr2ogr -f GeoJSON OUT.geojson IN.json, or ask the server with f=geojson\0",
         Hint::TextInString =>
             b"a text stands inside a string: jq fromjson IN > OUT.geojson, where it is the whole file\0",
-        Hint::SwappedAxes =>
-            b"latitude and longitude look swapped; the longitude comes first: jq '(.. | objects | .coordinates? // empty | .. | arrays | select(.[0] | numbers)) |= [.[1], .[0]] + .[2:]' IN > OUT.geojson\0",
+        Hint::SwappedAxes => b"latitude and longitude look swapped; the longitude comes first: \
+              jq '(.. | objects | .coordinates? // empty | .. | arrays | select(.[0] | numbers)) |= [.[1], .[0]] + .[2:]' IN > OUT.geojson\0",
         Hint::ManyDigits =>
             b"the number has more than 30 digits; 17 give every number of a computer back, and 7 decimal places are a centimetre\0",
         Hint::LargeNumber => b"the number is too large, above 10 to the power of 400\0",
