@@ -1,9 +1,9 @@
 -- What the proofs and the private functions of this crate need.
 pub mod FrameMeaning
 pub mod Summaries
+pub mod MemberRules
 pub mod FrameReading
 pub mod TextKept
-pub mod MemberRules
 pub mod OpenMembers
 pub mod GatheredWarnings
 pub mod FrameCalls

@@ -28,10 +28,10 @@ use Rattle.gj_rules.specs.Internal.EventSteps.{State, step, run}
 use Rattle.gj_rules.specs.Internal.Summaries.{no_shapes, shapes_of, asked}
 use Rattle.gj_rules.specs.Internal.LabelledEvents.{Told, plain, told, members_told}
 use Rattle.gj_json.specs.declared.constant.Constant.TheVariants.{Null, True, False}
-use Rattle.gj_rules.proofs.Objects.GrowingFaults.{Keeps, lesser_first, slot_fails, Worse, worse_twice, worse_named, lost_worse, type_same, Grows}
+use Rattle.gj_rules.proofs.Objects.GrowingFaults.{Keeps, lesser_first, Worse, worse_twice, worse_named, lost_worse, type_same, Grows}
 use Rattle.gj_rules.proofs.Objects.GrowingFaults.{grows_same, grows_joined, grows_shapes}
 use Rattle.gj_rules.proofs.Texts.ValuesByEvents.{st, due_st}
-use Rattle.gj_rules.proofs.Objects.OneMember.{same_is}
+use Rattle.gj_rules.proofs.Objects.MemberSlots.{same_is}
 use Rattle.gj_rules.proofs.Objects.AllMembers.{Mentions, mentions_step, member_object, type_from, type_after, stays_after, typed_after, shapes_from}
 use Rattle.gj_rules.proofs.Objects.AllMembers.{shapes_one, named_type, named_shapes}
 use Rattle.gj_rules.proofs.Objects.AllMembers.{repeated_after}
@@ -45,8 +45,8 @@ use Rattle.gj_rules.proofs.Texts.OneFlatMore.{run-append}
 -- the object shows the members of these names
 pub record Shows (before : List Known) (f : MemberSlots) : Type 0 where
   pub mentioned : Mentions before f
-  pub typed : is_some f.type_value ≡ is_some f.type_name
-  pub shaped : is_some f.coordinates ≡ false → f.shapes ≡ no_shapes
+  pub typed : is_some f.type_value ≡ is_some (f.slots TypeName)
+  pub shaped : is_some (f.slots Coordinates) ≡ false → f.shapes ≡ no_shapes
   pub role : f.role ≡ Role.Root
 
 abbrev pub word_in : Option TypeValue → Option Word
@@ -55,7 +55,7 @@ word_in (Some value) = Some value.word
 
 type_one : (name : List ℕ) (place end : ℕ) (v : Tree) (f : MemberSlots)
     → (member_taken place (known_of name) v f).type_value
-    ≡ type_from f.type_name f.type_value (if same TypeName (known_of name) then Some (record { place = place_of v; word = type_of v }) else None)
+    ≡ type_from (f.slots TypeName) f.type_value (if same TypeName (known_of name) then Some (record { place = place_of v; word = type_of v }) else None)
 type_one name place end v f = type_after (member place name end v end_of_object) f
 
 slot_is : (n : Known) (before : List Known) (name : Known) (place : ℕ) (v : Tree) (f : MemberSlots) → Mentions before f → is_known n ≡ true
@@ -77,7 +77,7 @@ shows_more before name place end v f h = record {
   typed = typed_after place end name v f h.typed;
   shaped = λ e.
       shapes_one (known_of name) place v f (same Coordinates (known_of name)) refl
-      ∙ shaped_is (uses f.role Coordinates) (same Coordinates (known_of name)) f.coordinates f.type_value f.shapes
+      ∙ shaped_is (uses f.role Coordinates) (same Coordinates (known_of name)) (f.slots Coordinates) f.type_value f.shapes
       (record { name_at = place; value = v; faults = judge Coordinates v })
       (sym (slot_is Coordinates before (known_of name) place v f h.mentioned refl) ∙ e) h.shaped;
   role = (member_object (known_of name) place v f).role ∙ h.role;
@@ -90,15 +90,11 @@ filled_grows TypeName v f t c = absurd (t refl)
 filled_grows Coordinates v f t c = grows_shapes (asked f.type_value (shapes_of v)) f (c refl)
 filled_grows m v f t c = grows_joined m (least (judge m v)) f
 
-slot_typed : (n : Known) (place : ℕ) (word : Word) (f : MemberSlots) → slot_of n (type_set place word f) ≡ slot_of n f
-slot_typed TypeName place word f = refl
-slot_typed _ place word f = refl
-
 typed_worse : (place : ℕ) (word : Word) (f : MemberSlots) → Worse f (type_set place word f)
 typed_worse place word f = record {
   repeated = λ e. e;
-  slots = λ n e. ap is_some (slot_typed n place word f) ∙ e;
-  values = λ n e. ap (λ o. slot_fails o) (slot_typed n place word f) ∙ e;
+  slots = λ n e. e;
+  values = λ n e. e;
   shapes = λ s e. e;
 }
 
@@ -188,9 +184,9 @@ word_one None None true v e = refl
 word_one None None false v e = refl
 
 -- the word of the first type after one member more
-word_more : (name : List ℕ) (place end : ℕ) (v : Tree) (f : MemberSlots) → is_some f.type_value ≡ is_some f.type_name
+word_more : (name : List ℕ) (place end : ℕ) (v : Tree) (f : MemberSlots) → is_some f.type_value ≡ is_some (f.slots TypeName)
     → word_in (member_taken place (known_of name) v f).type_value ≡ or_word (word_in f.type_value) (typed_by (same TypeName (known_of name)) v)
-word_more name place end v f e = ap word_in (type_one name place end v f) ∙ word_one f.type_name f.type_value (same TypeName (known_of name)) v e
+word_more name place end v f e = ap word_in (type_one name place end v f) ∙ word_one (f.slots TypeName) f.type_value (same TypeName (known_of name)) v e
 
 or_words : (a b c : Option Word) → or_word (or_word a b) c ≡ or_word a (or_word b c)
 or_words None b c = refl
@@ -269,7 +265,7 @@ root_uses : (f : MemberSlots) (n : Known) → f.role ≡ Role.Root → uses f.ro
 root_uses f n e = ap (λ (r : Role). uses r n) e
 
 -- the name is `type`, and the value is not due
-not_due : (f : MemberSlots) (t : Option Slot) (o : Option TypeValue) → f.role ≡ Role.Root → f.type_name ≡ t → is_some o ≡ is_some t
+not_due : (f : MemberSlots) (t : Option Slot) (o : Option TypeValue) → f.role ≡ Role.Root → (f.slots TypeName) ≡ t → is_some o ≡ is_some t
     → (due_after TypeName f ≡ TypeName → ⊥) → (x y : Option Word) → or_word (word_in o) x ≡ or_word (word_in o) y
 not_due f (Some slot) (Some value) r e k d x y = refl
 not_due f (Some slot) None r e k d x y = cc
@@ -278,11 +274,11 @@ not_due f None None r e k d x y =
     absurd (d (rw e (subst (λ (u : Bool). (if u then TypeName else Other) ≡ TypeName) (sym (root_uses f TypeName r)) refl)))
 
 other_word : (f : MemberSlots) (n : Known) (v : Tree) (x : Option Word) (b : Bool) → same TypeName n ≡ b → f.role ≡ Role.Root
-    → is_some f.type_value ≡ is_some f.type_name → (due_after n f ≡ TypeName → ⊥)
+    → is_some f.type_value ≡ is_some (f.slots TypeName) → (due_after n f ≡ TypeName → ⊥)
     → (b ≡ false → x ≡ None) → or_word (word_in f.type_value) (typed_by b v) ≡ or_word (word_in f.type_value) x
 other_word f n v x false e r k d h = ap (λ o. or_word (word_in f.type_value) o) (sym (h refl))
 other_word f n v x true e r k d h =
-    not_due f f.type_name f.type_value r refl k (λ g. d (subst (λ (m : Known). due_after m f ≡ TypeName) (same_is TypeName n e) g)) (typed_by true v) x
+    not_due f (f.slots TypeName) f.type_value r refl k (λ g. d (subst (λ (m : Known). due_after m f ≡ TypeName) (same_is TypeName n e) g)) (typed_by true v) x
 
 -- ---- inside a member
 
@@ -348,13 +344,13 @@ after_run f a [] s t h = absurd h
 after_run f a (x ∷ xs) s t h = thru_run f f a xs (step x s) t h
 
 -- no type was there
-unset : (n : Known) (f : MemberSlots) → is_some f.type_value ≡ is_some f.type_name → due_after n f ≡ TypeName → f.type_value ≡ None
+unset : (n : Known) (f : MemberSlots) → is_some f.type_value ≡ is_some (f.slots TypeName) → due_after n f ≡ TypeName → f.type_value ≡ None
 unset n f k e = go f.type_value (k ∙ ap is_some none)
   where
     d : (n ≡ TypeName) × (slot_of n f ≡ None)
     d = type_due n TypeName f e refl
 
-    none : f.type_name ≡ None
+    none : (f.slots TypeName) ≡ None
     none = subst (λ (m : Known). slot_of m f ≡ None) d.0 d.1
 
     go : (o : Option TypeValue) → is_some o ≡ false → o ≡ None
@@ -374,7 +370,7 @@ inside_type before name place end v f a [] more y h e t =
     let none : f1.type_value ≡ None = named_type n place f.slots (is_known n) (slot_of n f.slots) ∙ unset n f.slots h.typed t in record {
       here = here_inside before name place end v f.slots f1 [] h refl
           (ap (λ (g : MemberSlots). g.repeated) (sym is))
-          (λ q. ap (λ (g : MemberSlots). is_some (slot_of q g)) is ∙ ap is_some (slot_typed q (place_of v) (type_of v) f1))
+          (λ q. ap (λ (g : MemberSlots). is_some (slot_of q g)) is)
           (ap word_in (named_type n place f.slots (is_known n) (slot_of n f.slots))
           ∙ (or_none (word_in f.slots.type_value) ∙ ap (λ o. or_word (word_in f.slots.type_value) o) (sym (first_type_name n))));
       onward = subst (λ (g : MemberSlots). Keeps (is_lost f1) (is_lost g)) (sym is)

@@ -8,7 +8,7 @@ use Rattle.gj_rules.specs.declared.member_slots.Slot.{Slot}
 use Rattle.gj_rules.specs.declared.member_slots.TypeValue.{TypeValue}
 use Rattle.gj_rules.specs.Internal.FrameMeaning.{MemberSlots}
 use Rattle.gj_coords.specs.Fault.{lesser, least}
-use Rattle.gj_rules.specs.Internal.OpenMembers.{slot_of, with_slot, joined_to, uses, named, named_known, due_known, due_after}
+use Rattle.gj_rules.specs.Internal.OpenMembers.{slot_of, joined_to, uses, named, named_known, due_known, due_after}
 use Rattle.gj_rules.specs.Internal.FrameMeaning.{Shapes}
 use Rattle.gj_rules.specs.Internal.Summaries.{shapes_of, asked}
 use Rattle.gj_json.specs.Tree.{Tree, Members, end_of_object, member}
@@ -20,8 +20,8 @@ use Rattle.gj_json.specs.Names.{known_of}
 use Rattle.gj_rules.specs.Internal.OpenMembers.{filled, member_taken, members_taken}
 use Rattle.gj_coords.specs.Internal.LeastLaws.{lesser-none, lesser_assoc, least-append}
 use Rattle.gj_rules.proofs.Objects.AskedShapes.{TypeStays, asked_twice}
-use Rattle.gj_rules.proofs.Objects.OneMember.{same_is, slot-other, slot-own, or_slot, slot_from}
-use Rattle.gj_rules.proofs.Objects.MemberSlots.{kept_shapes, kept_repeated, kept_type}
+use Rattle.gj_rules.proofs.Objects.OneMember.{slot-other, slot-own, or_slot, slot_from}
+use Rattle.gj_rules.proofs.Objects.MemberSlots.{same_is}
 
 -- ---- what no member changes
 
@@ -29,13 +29,9 @@ pub record IsSameObject (old new : MemberSlots) : Type 0 where
   pub place : new.place ≡ old.place
   pub role : new.role ≡ old.role
 
-with_slot_object : (m : Known) (s : Slot) (f : MemberSlots) → IsSameObject f (with_slot m s f)
-with_slot_object TypeName s f = record { place = refl; role = refl }
-with_slot_object _ s f = record { place = refl; role = refl }
-
 pub joined_object : (m : Known) (x : Option Fault) (o : Option Slot) (f : MemberSlots) → IsSameObject f (joined_to m x o f)
 joined_object m x None f = record { place = refl; role = refl }
-joined_object m x (Some slot) f = with_slot_object m (record { name_at = slot.name_at; fault = lesser slot.fault x }) f
+joined_object m x (Some slot) f = record { place = refl; role = refl }
 
 pub filled_object : (m : Known) (v : Tree) (f : MemberSlots) → IsSameObject f (filled m v f)
 filled_object TypeName v f = record { place = refl; role = refl }
@@ -44,7 +40,7 @@ filled_object m v f = joined_object m (least (judge m v)) (slot_of m f) f
 
 pub named_object : (m : Known) (place : ℕ) (f : MemberSlots) (k : Bool) (o : Option Slot) → IsSameObject f (if k then named_known m place o f else f)
 named_object m place f true (Some slot) = record { place = refl; role = refl }
-named_object m place f true None = with_slot_object m (record { name_at = place; fault = None }) f
+named_object m place f true None = record { place = refl; role = refl }
 named_object m place f false o = record { place = refl; role = refl }
 
 pub member_object : (m : Known) (place : ℕ) (v : Tree) (f : MemberSlots) → IsSameObject f (member_taken place m v f)
@@ -99,7 +95,7 @@ type_from None had (Some value) = Some value
 
 joined_type : (m : Known) (x : Option Fault) (o : Option Slot) (f : MemberSlots) → (joined_to m x o f).type_value ≡ f.type_value
 joined_type m x None f = refl
-joined_type m x (Some slot) f = kept_type m (record { name_at = slot.name_at; fault = lesser slot.fault x }) f
+joined_type m x (Some slot) f = refl
 
 filled_type : (m : Known) (v : Tree) (f : MemberSlots) → same TypeName m ≡ false → (filled m v f).type_value ≡ f.type_value
 filled_type TypeName v f e = cc
@@ -108,7 +104,7 @@ filled_type m v f e = joined_type m (least (judge m v)) (slot_of m f) f
 
 pub named_type : (m : Known) (place : ℕ) (f : MemberSlots) (k : Bool) (o : Option Slot) → (if k then named_known m place o f else f).type_value ≡ f.type_value
 named_type m place f true (Some slot) = refl
-named_type m place f true None = kept_type m (record { name_at = place; fault = None }) f
+named_type m place f true None = refl
 named_type m place f false o = refl
 
 due_no_type : (m : Known) (f : MemberSlots) (k u : Bool) (o : Option Slot) → uses f.role m ≡ u → same TypeName m ≡ false
@@ -127,7 +123,7 @@ uses_type Role.Root = refl
 uses_type _ = refl
 
 -- the first `type` sets it
-type_own : (place : ℕ) (v : Tree) (f : MemberSlots) (o : Option Slot) (u : Bool) (more : Option TypeValue) → uses f.role TypeName ≡ true → f.type_name ≡ o
+type_own : (place : ℕ) (v : Tree) (f : MemberSlots) (o : Option Slot) (u : Bool) (more : Option TypeValue) → uses f.role TypeName ≡ true → (f.slots TypeName) ≡ o
     → type_from (slot_of TypeName (filled (due_known TypeName o f.role) v (named_known TypeName place o f)))
     (filled (due_known TypeName o f.role) v (named_known TypeName place o f)).type_value more
     ≡ type_from o f.type_value (Some (record { place = place_of v; word = type_of v }))
@@ -135,16 +131,16 @@ type_own place v f (Some slot) u more i e = rw e refl
 type_own place v f None u more i e = rw i refl
 
 type_step : (name : Known) (place : ℕ) (value : Tree) (f : MemberSlots) (b : Bool) (rest : Option TypeValue) → same TypeName name ≡ b
-    → type_from (slot_of TypeName (member_taken place name value f)) (member_taken place name value f).type_value rest ≡ type_from f.type_name f.type_value
+    → type_from (slot_of TypeName (member_taken place name value f)) (member_taken place name value f).type_value rest ≡ type_from (f.slots TypeName) f.type_value
     (if b then Some (record { place = place_of value; word = type_of value }) else rest)
 type_step name place value f false rest e = rw (slot-other TypeName name place value f refl e, type_other name place value f e) refl
 type_step name place value f true rest e =
-    subst (λ m. type_from (slot_of TypeName (member_taken place m value f)) (member_taken place m value f).type_value rest ≡ type_from f.type_name f.type_value
+    subst (λ m. type_from (slot_of TypeName (member_taken place m value f)) (member_taken place m value f).type_value rest ≡ type_from (f.slots TypeName) f.type_value
     (Some (record { place = place_of value; word = type_of value }))) (same_is TypeName name e)
-    (type_own place value f f.type_name true rest (uses_type f.role) refl)
+    (type_own place value f (f.slots TypeName) true rest (uses_type f.role) refl)
 
-pub type_after : (ms : Members) (f : MemberSlots) → (members_taken ms f).type_value ≡ type_from f.type_name f.type_value (first_type ms)
-type_after end_of_object f = none f.type_name
+pub type_after : (ms : Members) (f : MemberSlots) → (members_taken ms f).type_value ≡ type_from (f.slots TypeName) f.type_value (first_type ms)
+type_after end_of_object f = none (f.slots TypeName)
   where
     none : (o : Option Slot) → f.type_value ≡ type_from o f.type_value None
     none None = refl
@@ -154,7 +150,7 @@ type_after (member place name end value more) f = type_after more (member_taken 
 
 -- the first type stays, where it has come with its name
 abbrev pub IsTyped : MemberSlots → Type 0
-IsTyped f = is_some f.type_value ≡ is_some f.type_name
+IsTyped f = is_some f.type_value ≡ is_some (f.slots TypeName)
 
 type_stays : (t : Option Slot) (o x : Option TypeValue) → is_some o ≡ is_some t → TypeStays o (type_from t o x)
 type_stays t None x e = tt
@@ -162,7 +158,7 @@ type_stays (Some slot) (Some value) x e = refl
 type_stays None (Some value) x e = cc
 
 pub stays_after : (ms : Members) (f : MemberSlots) → IsTyped f → TypeStays f.type_value (members_taken ms f).type_value
-stays_after ms f h = subst (λ (o : Option TypeValue). TypeStays f.type_value o) (sym (type_after ms f)) (type_stays f.type_name f.type_value (first_type ms) h)
+stays_after ms f h = subst (λ (o : Option TypeValue). TypeStays f.type_value o) (sym (type_after ms f)) (type_stays (f.slots TypeName) f.type_value (first_type ms) h)
 
 typed_is : (t : Option Slot) (o : Option TypeValue) (b : Bool) (x : TypeValue) (y : First) → is_some o ≡ is_some t
     → is_some (type_from t o (if b then Some x else None)) ≡ is_some (or_slot t (slot_from true (if b then Some y else None)))
@@ -176,9 +172,9 @@ typed_after place end name value f h =
     let x : TypeValue = record { place = place_of value; word = type_of value } in
     let y : First = record { name_at = place; value = value; faults = judge TypeName value } in
     let slot = slots_after TypeName (member place name end value end_of_object) f refl in
-    let used = ap (λ (u : Bool). or_slot f.type_name (slot_from u (if same TypeName (known_of name) then Some y else None))) (uses_type f.role) in
+    let used = ap (λ (u : Bool). or_slot (f.slots TypeName) (slot_from u (if same TypeName (known_of name) then Some y else None))) (uses_type f.role) in
     ap is_some (type_after (member place name end value end_of_object) f)
-    ∙ (typed_is f.type_name f.type_value (same TypeName (known_of name)) x y h
+    ∙ (typed_is (f.slots TypeName) f.type_value (same TypeName (known_of name)) x y h
     ∙ sym (ap is_some (slot ∙ used)))
 
 -- ---- the shapes
@@ -191,7 +187,7 @@ shapes_from used None known had (Some first) = if used then asked known (shapes_
 
 joined_shapes : (m : Known) (x : Option Fault) (o : Option Slot) (f : MemberSlots) → (joined_to m x o f).shapes ≡ f.shapes
 joined_shapes m x None f = refl
-joined_shapes m x (Some slot) f = kept_shapes m (record { name_at = slot.name_at; fault = lesser slot.fault x }) f
+joined_shapes m x (Some slot) f = refl
 
 filled_shapes : (m : Known) (v : Tree) (f : MemberSlots) → same Coordinates m ≡ false → (filled m v f).shapes ≡ f.shapes
 filled_shapes Coordinates v f e = cc
@@ -200,7 +196,7 @@ filled_shapes m v f e = joined_shapes m (least (judge m v)) (slot_of m f) f
 
 pub named_shapes : (m : Known) (place : ℕ) (f : MemberSlots) (k : Bool) (o : Option Slot) → (if k then named_known m place o f else f).shapes ≡ f.shapes
 named_shapes m place f true (Some slot) = refl
-named_shapes m place f true None = kept_shapes m (record { name_at = place; fault = None }) f
+named_shapes m place f true None = refl
 named_shapes m place f false o = refl
 
 due_no_shapes : (m : Known) (f : MemberSlots) (k u : Bool) (o : Option Slot) → uses f.role m ≡ u → same Coordinates m ≡ false
@@ -214,7 +210,7 @@ shapes_other : (m : Known) (place : ℕ) (v : Tree) (f : MemberSlots) → same C
 shapes_other m place v f e = filled_shapes (due_after m f) v (named m place f) (due_no_shapes m f (is_known m) (uses f.role m) (slot_of m f) refl e)
     ∙ named_shapes m place f (is_known m) (slot_of m f)
 
-shapes_own : (place : ℕ) (v : Tree) (f : MemberSlots) (o : Option Slot) (u : Bool) → uses f.role Coordinates ≡ u → f.coordinates ≡ o
+shapes_own : (place : ℕ) (v : Tree) (f : MemberSlots) (o : Option Slot) (u : Bool) → uses f.role Coordinates ≡ u → (f.slots Coordinates) ≡ o
     → (filled (due_known Coordinates o f.role) v (named_known Coordinates place o f)).shapes
     ≡ shapes_from u o f.type_value f.shapes (Some (record { name_at = place; value = v; faults = judge Coordinates v }))
 shapes_own place v f (Some slot) u i e = refl
@@ -228,14 +224,14 @@ none_found (Some s) u known had = refl
 -- after one member
 pub shapes_one : (name : Known) (place : ℕ) (value : Tree) (f : MemberSlots) (b : Bool) → same Coordinates name ≡ b
     → (member_taken place name value f).shapes
-    ≡ shapes_from (uses f.role Coordinates) f.coordinates f.type_value f.shapes
+    ≡ shapes_from (uses f.role Coordinates) (f.slots Coordinates) f.type_value f.shapes
     (if b then Some (record { name_at = place; value = value; faults = judge Coordinates value }) else None)
-shapes_one name place value f false e = shapes_other name place value f e ∙ none_found f.coordinates (uses f.role Coordinates) f.type_value f.shapes
+shapes_one name place value f false e = shapes_other name place value f e ∙ none_found (f.slots Coordinates) (uses f.role Coordinates) f.type_value f.shapes
 shapes_one name place value f true e =
     subst (λ m. (member_taken place m value f).shapes
-    ≡ shapes_from (uses f.role Coordinates) f.coordinates f.type_value f.shapes
+    ≡ shapes_from (uses f.role Coordinates) (f.slots Coordinates) f.type_value f.shapes
     (Some (record { name_at = place; value = value; faults = judge Coordinates value }))) (same_is Coordinates name e)
-    (shapes_own place value f f.coordinates (uses f.role Coordinates) refl refl)
+    (shapes_own place value f (f.slots Coordinates) (uses f.role Coordinates) refl refl)
 
 -- a member, and then others: what is asked for in the end is that of the first
 asked_step : (end_type known : Option TypeValue) (u b : Bool) (o : Option Slot) (had : Shapes) (x : First) (rest : Option First) → TypeStays known end_type
@@ -249,8 +245,8 @@ asked_step t known u false None had x rest h = refl
 
 pub shapes_after : (ms : Members) (f : MemberSlots) → IsTyped f
     → asked (members_taken ms f).type_value (members_taken ms f).shapes
-    ≡ asked (members_taken ms f).type_value (shapes_from (uses f.role Coordinates) f.coordinates None f.shapes (first Coordinates ms))
-shapes_after end_of_object f h = ap (asked f.type_value) (none_found f.coordinates (uses f.role Coordinates) None f.shapes)
+    ≡ asked (members_taken ms f).type_value (shapes_from (uses f.role Coordinates) (f.slots Coordinates) None f.shapes (first Coordinates ms))
+shapes_after end_of_object f h = ap (asked f.type_value) (none_found (f.slots Coordinates) (uses f.role Coordinates) None f.shapes)
 shapes_after (member place name end value more) f h =
     let m : Known = known_of name in
     let g : MemberSlots = member_taken place m value f in
@@ -259,18 +255,18 @@ shapes_after (member place name end value more) f h =
     let x : First = record { name_at = place; value = value; faults = judge Coordinates value } in
     let found : Option First = if same Coordinates m then Some x else None in
     shapes_after more g (typed_after place end name value f h)
-    ∙ (ap (λ (p : Role). asked t (shapes_from (uses p Coordinates) g.coordinates None g.shapes (first Coordinates more))) (member_object m place value f).role
+    ∙ (ap (λ (p : Role). asked t (shapes_from (uses p Coordinates) (g.slots Coordinates) None g.shapes (first Coordinates more))) (member_object m place value f).role
     ∙ (ap (λ (o : Option Slot). asked t (shapes_from u o None g.shapes (first Coordinates more)))
     (slots_after Coordinates (member place name end value end_of_object) f refl)
-    ∙ (ap (λ (s : Shapes). asked t (shapes_from u (or_slot f.coordinates (slot_from u found)) None s (first Coordinates more)))
+    ∙ (ap (λ (s : Shapes). asked t (shapes_from u (or_slot (f.slots Coordinates) (slot_from u found)) None s (first Coordinates more)))
     (shapes_one m place value f (same Coordinates m) refl)
-    ∙ asked_step t f.type_value u (same Coordinates m) f.coordinates f.shapes x (first Coordinates more) (stays_after (member place name end value more) f h))))
+    ∙ asked_step t f.type_value u (same Coordinates m) (f.slots Coordinates) f.shapes x (first Coordinates more) (stays_after (member place name end value more) f h))))
 
 -- ---- repeated names
 
 joined_repeated : (m : Known) (x : Option Fault) (o : Option Slot) (f : MemberSlots) → (joined_to m x o f).repeated ≡ f.repeated
 joined_repeated m x None f = refl
-joined_repeated m x (Some slot) f = kept_repeated m (record { name_at = slot.name_at; fault = lesser slot.fault x }) f
+joined_repeated m x (Some slot) f = refl
 
 filled_repeated : (m : Known) (v : Tree) (f : MemberSlots) → (filled m v f).repeated ≡ f.repeated
 filled_repeated TypeName v f = refl
@@ -280,7 +276,7 @@ filled_repeated m v f = joined_repeated m (least (judge m v)) (slot_of m f) f
 named_repeated : (m : Known) (place : ℕ) (f : MemberSlots) (k : Bool) (o : Option Slot)
     → (if k then named_known m place o f else f).repeated ≡ lesser f.repeated (least (again k (is_some o) place))
 named_repeated m place f true (Some slot) = refl
-named_repeated m place f true None = kept_repeated m (record { name_at = place; fault = None }) f ∙ sym (lesser-none f.repeated)
+named_repeated m place f true None = sym (lesser-none f.repeated)
 named_repeated m place f false o = sym (lesser-none f.repeated)
 
 -- the names of the slots that are set

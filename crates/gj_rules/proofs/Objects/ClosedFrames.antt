@@ -14,7 +14,6 @@ use Rattle.gj_coords.specs.Internal.WarningLaws.{joined_none_first}
 use Rattle.gj_rules.specs.Internal.FrameMeaning.{Findings}
 use Rattle.gj_rules.specs.Internal.FrameMeaning.{Frame, Shapes, MemberSlots}
 use Rattle.gj_rules.specs.declared.role.Role.{Role}
-use Rattle.gj_rules.specs.declared.member_slots.Slot.{Slot}
 use Rattle.gj_rules.specs.declared.member_slots.TypeValue.{TypeValue}
 use Rattle.gj_rules.specs.Faults.{First, faults, first}
 use Rattle.gj_rules.specs.Internal.FrameCalls.{blank, warned_as, warned_by, settled, members_taken}
@@ -26,7 +25,7 @@ use Rattle.gj_rules.specs.Internal.TextKept.{or_none, and_kept, simple_kept, typ
 use Rattle.gj_rules.specs.TextWarnings.{crs_warnings, first_value}
 use Rattle.gj_rules.proofs.Objects.GatheredMembers.{gathered_from, gathered_after, own_after}
 use Rattle.gj_rules.proofs.Objects.AllMembers.{shapes_from}
-use Rattle.gj_rules.proofs.Objects.SettledObjects.{ObjectMembers, shown_with, shown_after, asked_after, parts_of, closed}
+use Rattle.gj_rules.proofs.Objects.SettledObjects.{known_slots, ObjectMembers, shown_with, shown_after, asked_after, parts_of, closed}
 use Rattle.gj_rules.proofs.Objects.JoinedFindings.{members_shown}
 
 -- ---- the value of the first `coordinates`
@@ -69,9 +68,9 @@ any_is None = refl
 any_is (Some w) = joined_none_first w
 
 -- the frame that an object leaves, of which the first members have these warnings
-abbrev left_with : Role → ℕ → Option Slot → Shapes → ObjectMembers → Warnings → Option Warnings → Option Warnings → Option Warnings → Frame
-left_with role place t shapes p own geometries geometry features = record {
-  slots = shown_with role place t shapes p;
+abbrev left_with : Role → ℕ → Shapes → ObjectMembers → Warnings → Option Warnings → Option Warnings → Option Warnings → Frame
+left_with role place shapes p own geometries geometry features = record {
+  slots = shown_with role place shapes p;
   gathered = record {
     own = own;
     geometries = gathered_from (S.uses role Geometries) None no_warnings geometries;
@@ -84,51 +83,54 @@ left_with role place t shapes p own geometries geometry features = record {
 abbrev first_shapes : Role → ObjectMembers → Shapes
 first_shapes role p = shapes_from (S.uses role Coordinates) None None no_shapes (p.of Coordinates)
 
-abbrev left : Role → ℕ → Option Slot → ObjectMembers → Warnings → Option Warnings → Option Warnings → Option Warnings → Frame
-left role place t p own geometries geometry features = left_with role place t (first_shapes role p) p own geometries geometry features
+abbrev left : Role → ℕ → ObjectMembers → Warnings → Option Warnings → Option Warnings → Option Warnings → Frame
+left role place p own geometries geometry features = left_with role place (first_shapes role p) p own geometries geometry features
 
-typed_is : (role : Role) (word : Word) (place : ℕ) (t : Option Slot) (p : ObjectMembers) (own : Warnings) (a b c : Option Warnings)
-    → (if is_allowed role word then warned_as word (left role place t p own a b c) else no_warnings)
+typed_is : (role : Role) (word : Word) (place : ℕ) (p : ObjectMembers) (own : Warnings) (a b c : Option Warnings)
+    → (if is_allowed role word then warned_as word (left role place p own a b c) else no_warnings)
     ≡ (if is_allowed role word then typed_kept word role place (value_in (p.of Coordinates)) (or_none a) (or_none b) (or_none c) else no_warnings)
-typed_is role Word.Other place t p own a b c = refl
-typed_is Role.Root Word.Feature place t p own a b c = any_is b
-typed_is Role.Feature Word.Feature place t p own a b c = any_is b
-typed_is Role.Root Word.FeatureCollection place t p own a b c = any_is c
-typed_is Role.Root Word.GeometryCollection place t p own a b c = any_is a
-typed_is Role.Geometry Word.GeometryCollection place t p own a b c = any_is a
-typed_is Role.Part Word.GeometryCollection place t p own a b c = ap (λ (w : Warnings). added w W7 place) (any_is a)
-typed_is role Word.Feature place t p own a b c = refl
-typed_is role Word.FeatureCollection place t p own a b c = refl
-typed_is Role.Feature word place t p own a b c = refl
-typed_is Role.Root Word.Point place t p own a b c = shape_warned Simple.Point (p.of Coordinates)
-typed_is role Word.Point place t p own a b c = shape_warned Simple.Point (p.of Coordinates)
-typed_is Role.Root Word.MultiPoint place t p own a b c = shape_warned Simple.MultiPoint (p.of Coordinates)
-typed_is role Word.MultiPoint place t p own a b c = shape_warned Simple.MultiPoint (p.of Coordinates)
-typed_is Role.Root Word.LineString place t p own a b c = shape_warned Simple.LineString (p.of Coordinates)
-typed_is role Word.LineString place t p own a b c = shape_warned Simple.LineString (p.of Coordinates)
-typed_is Role.Root Word.MultiLineString place t p own a b c = shape_warned Simple.MultiLineString (p.of Coordinates)
-typed_is role Word.MultiLineString place t p own a b c = shape_warned Simple.MultiLineString (p.of Coordinates)
-typed_is Role.Root Word.Polygon place t p own a b c = shape_warned Simple.Polygon (p.of Coordinates)
-typed_is role Word.Polygon place t p own a b c = shape_warned Simple.Polygon (p.of Coordinates)
-typed_is Role.Root Word.MultiPolygon place t p own a b c = shape_warned Simple.MultiPolygon (p.of Coordinates)
-typed_is role Word.MultiPolygon place t p own a b c = shape_warned Simple.MultiPolygon (p.of Coordinates)
+typed_is role Word.Other place p own a b c = refl
+typed_is Role.Root Word.Feature place p own a b c = any_is b
+typed_is Role.Feature Word.Feature place p own a b c = any_is b
+typed_is Role.Root Word.FeatureCollection place p own a b c = any_is c
+typed_is Role.Root Word.GeometryCollection place p own a b c = any_is a
+typed_is Role.Geometry Word.GeometryCollection place p own a b c = any_is a
+typed_is Role.Part Word.GeometryCollection place p own a b c = ap (λ (w : Warnings). added w W7 place) (any_is a)
+typed_is role Word.Feature place p own a b c = refl
+typed_is role Word.FeatureCollection place p own a b c = refl
+typed_is Role.Feature word place p own a b c = refl
+typed_is role Word.Point place p own a b c = shape_warned Simple.Point (p.of Coordinates)
+typed_is role Word.MultiPoint place p own a b c = shape_warned Simple.MultiPoint (p.of Coordinates)
+typed_is role Word.LineString place p own a b c = shape_warned Simple.LineString (p.of Coordinates)
+typed_is role Word.MultiLineString place p own a b c = shape_warned Simple.MultiLineString (p.of Coordinates)
+typed_is role Word.Polygon place p own a b c = shape_warned Simple.Polygon (p.of Coordinates)
+typed_is role Word.MultiPolygon place p own a b c = shape_warned Simple.MultiPolygon (p.of Coordinates)
 
-by_type_is : (role : Role) (place : ℕ) (t : Option Slot) (p : ObjectMembers) (own : Warnings) (a b c : Option Warnings) (o : Option TypeValue)
-    → warned_by o (left role place t p own a b c) ≡ by_type_kept o role place (value_in (p.of Coordinates)) (or_none a) (or_none b) (or_none c)
-by_type_is role place t p own a b c None = refl
-by_type_is role place t p own a b c (Some value) = typed_is role value.word place t p own a b c
+by_type_is : (role : Role) (place : ℕ) (p : ObjectMembers) (own : Warnings) (a b c : Option Warnings) (o : Option TypeValue)
+    → warned_by o (left role place p own a b c) ≡ by_type_kept o role place (value_in (p.of Coordinates)) (or_none a) (or_none b) (or_none c)
+by_type_is role place p own a b c None = refl
+by_type_is role place p own a b c (Some value) = typed_is role value.word place p own a b c
 
 -- only what its type asks for counts
-word_asked : (word : Word) (role : Role) (place : ℕ) (t : Option Slot) (x : Shapes) (p : ObjectMembers) (own : Warnings) (a b c : Option Warnings)
-    → warned_as word (left_with role place t x p own a b c) ≡ warned_as word (left_with role place t (asked_as (simple_of word) x) p own a b c)
-word_asked Word.Point role place t x p own a b c = refl
-word_asked _ role place t x p own a b c = refl
+word_asked : (word : Word) (role : Role) (place : ℕ) (x : Shapes) (p : ObjectMembers) (own : Warnings) (a b c : Option Warnings)
+    → warned_as word (left_with role place x p own a b c) ≡ warned_as word (left_with role place (asked_as (simple_of word) x) p own a b c)
+word_asked Word.Point role place x p own a b c = refl
+word_asked _ role place x p own a b c = refl
 
-warned_asked : (o : Option TypeValue) (role : Role) (place : ℕ) (t : Option Slot) (x : Shapes) (p : ObjectMembers) (own : Warnings) (a b c : Option Warnings)
-    → warned_by o (left_with role place t x p own a b c) ≡ warned_by o (left_with role place t (asked o x) p own a b c)
-warned_asked None role place t x p own a b c = refl
-warned_asked (Some value) role place t x p own a b c =
-    ap (λ (w : Warnings). if is_allowed role value.word then w else no_warnings) (word_asked value.word role place t x p own a b c)
+warned_asked : (o : Option TypeValue) (role : Role) (place : ℕ) (x : Shapes) (p : ObjectMembers) (own : Warnings) (a b c : Option Warnings)
+    → warned_by o (left_with role place x p own a b c) ≡ warned_by o (left_with role place (asked o x) p own a b c)
+warned_asked None role place x p own a b c = refl
+warned_asked (Some value) role place x p own a b c =
+    ap (λ (w : Warnings). if is_allowed role value.word then w else no_warnings) (word_asked value.word role place x p own a b c)
+
+-- only the known names count
+word_known : (word : Word) (f : Frame) → warned_as word f ≡ warned_as word (record f { slots = known_slots f.slots })
+word_known Word.Point f = refl
+word_known _ f = refl
+
+known_warned : (o : Option TypeValue) (f : Frame) → warned_by o f ≡ warned_by o (record f { slots = known_slots f.slots })
+known_warned None f = refl
+known_warned (Some value) f = ap (λ (w : Warnings). if is_allowed f.slots.role value.word then w else no_warnings) (word_known value.word f)
 
 -- ---- the object
 
@@ -142,13 +144,13 @@ abbrev own_kept : Members → Warnings
 own_kept ms = joined (warnings_of (crs_warnings ms)) (or_none (first_kept Bbox ms))
 
 left_after : (role : Role) (place : ℕ) (ms : Members)
-    → members_taken ms (blank role place)
-    ≡ left_with role place (S.members_taken ms (S.blank role place)).type_name (S.members_taken ms (S.blank role place)).shapes (parts_of ms) (own_kept ms)
+    → record (members_taken ms (blank role place)) { slots = known_slots (members_taken ms (blank role place)).slots }
+    ≡ left_with role place (S.members_taken ms (S.blank role place)).shapes (parts_of ms) (own_kept ms)
     (first_kept Geometries ms) (first_kept Geometry ms) (first_kept Features ms)
 left_after role place ms =
     let f : Frame = blank role place in
-    fields_are (members_taken ms f) _
-    (members_shown ms f ∙ shown_after role place ms)
+    fields_are _ _
+    (ap known_slots (members_shown ms f) ∙ shown_after role place ms)
     (own_after ms f ∙ joined_none_first (own_kept ms))
     (gathered_after Geometries tt ms f)
     (gathered_after Geometry tt ms f)
@@ -160,6 +162,7 @@ found_in role place close ms = record { fault = least (faults role (object place
 pub all_closed : (role : Role) (place close : ℕ) (ms : Members) → settled (members_taken ms (blank role place)) ≡ found_in role place close ms
 all_closed role place close ms =
     let own : Warnings = own_kept ms in
+    let last : Frame = members_taken ms (blank role place) in
     let p : ObjectMembers = parts_of ms in
     let f : (members_taken ms (blank role place)).slots ≡ S.members_taken ms (S.blank role place) = members_shown ms (blank role place) in
     let a : S.settled (members_taken ms (blank role place)).slots ≡ least (faults role (object place ms close)) = ap S.settled f ∙ closed role place close ms in
@@ -168,14 +171,15 @@ all_closed role place close ms =
     let geometries = first_kept Geometries ms in
     let geometry = first_kept Geometry ms in
     let features = first_kept Features ms in
-    let with_type : warned_by (first_type ms) (left_with role place s.type_name s.shapes p own geometries geometry features) ≡ warned_by (first_type ms)
-    (left role place s.type_name p own geometries geometry features) =
-    warned_asked (first_type ms) role place s.type_name s.shapes p own geometries geometry features
-    ∙ (ap (λ (x : Shapes). warned_by (first_type ms) (left_with role place s.type_name x p own geometries geometry features)) (asked_after role place ms)
-    ∙ sym (warned_asked (first_type ms) role place s.type_name (first_shapes role p) p own geometries geometry features)) in
+    let with_type : warned_by (first_type ms) (left_with role place s.shapes p own geometries geometry features) ≡ warned_by (first_type ms)
+    (left role place p own geometries geometry features) =
+    warned_asked (first_type ms) role place s.shapes p own geometries geometry features
+    ∙ (ap (λ (x : Shapes). warned_by (first_type ms) (left_with role place x p own geometries geometry features)) (asked_after role place ms)
+    ∙ sym (warned_asked (first_type ms) role place (first_shapes role p) p own geometries geometry features)) in
     let b : (settled (members_taken ms (blank role place))).warned ≡ or_none (kept role (object place ms close)) =
-    ap (λ (g : Frame). joined g.gathered.own (warned_by g.slots.type_value g)) e
-    ∙ (ap (joined own) (with_type ∙ by_type_is role place s.type_name p own geometries geometry features (first_type ms))
+    ap (joined last.gathered.own) (known_warned last.slots.type_value last)
+    ∙ (ap (λ (g : Frame). joined g.gathered.own (warned_by g.slots.type_value g)) e
+    ∙ (ap (joined own) (with_type ∙ by_type_is role place p own geometries geometry features (first_type ms))
     ∙ ap (λ (o : Option Tree). joined own (by_type_kept (first_type ms) role place o (or_none geometries) (or_none geometry) (or_none features)))
-    (value_is Coordinates ms)) in
+    (value_is Coordinates ms))) in
     λ i. record { fault = a i; warned = b i }

@@ -1,7 +1,7 @@
 -- What all members make a frame gather.
 use Rattle.std.proofs.Common.{◌≡◌, ℕ, Bool, true, false, if◌then◌else◌, [], ◌∷◌, Option, Some, None, refl, sym, ap, subst, ◌∙◌}
 use Rattle.gj_json.specs.declared.names.Known.{Known}
-use Rattle.gj_json.specs.declared.names.Known.TheVariants.{Geometries, Geometry, Features, Bbox, Crs}
+use Rattle.gj_json.specs.declared.names.Known.TheVariants.{Geometries, Geometry, Features, Bbox, Crs, Other}
 use Rattle.gj_json.specs.Names.{known_of}
 use Rattle.gj_json.specs.Tree.{Tree, Members, end_of_object, member}
 use Rattle.gj_coords.specs.declared.kind.Kind.TheVariants.{W9}
@@ -22,7 +22,8 @@ use Rattle.gj_rules.specs.Members.{is_known, same}
 use Rattle.gj_rules.specs.Internal.OpenMembers.{slot_of, uses, due_known}
 use Rattle.gj_rules.specs.Internal.TextKept.{or_none, and_kept, first_kept, judged_kept}
 use Rattle.gj_rules.specs.TextWarnings.{crs_warnings}
-use Rattle.gj_rules.proofs.Objects.OneMember.{same_is, due_other, slot-other, slot-own, or_slot, slot_from}
+use Rattle.gj_rules.proofs.Objects.MemberSlots.{same_is}
+use Rattle.gj_rules.proofs.Objects.OneMember.{due_other, slot-other, slot-own, or_slot, slot_from}
 use Rattle.gj_rules.proofs.Objects.AllMembers.{member_object}
 
 -- the slot of a name is set after its member
@@ -108,7 +109,17 @@ holder_due n i place v g None false role e = rw e (at_holder n n i place g)
 
 holder_own : (n : Known) → IsHolder n → (place : ℕ) (v : Tree) (f : Frame)
     → gathered_of n (member_taken place n v f).gathered ≡ gathered_from (uses f.slots.role n) (slot_of n f.slots) (gathered_of n f.gathered) (judged_kept n v)
-holder_own n i place v f = rw (holder_known n i) (holder_due n i place v f.gathered (slot_of n f.slots) (uses f.slots.role n) f.slots.role refl)
+holder_own n i place v f =
+    known (is_known n) (slot_of n f.slots) (holder_known n i)
+    ∙ holder_due n i place v f.gathered (slot_of n f.slots) (uses f.slots.role n) f.slots.role refl
+  where
+    due : Bool → Option Slot → Known
+    due b o = if b then due_known n o f.slots.role else Other
+
+    known : (b : Bool) (o : Option Slot) → b ≡ true
+        → gathered_of n (gathered_any (due b o) (judged_kept (due b o) v) (gathered_at n place f.gathered))
+        ≡ gathered_of n (gathered_any (due_known n o f.slots.role) (judged_kept (due_known n o f.slots.role) v) (gathered_at n place f.gathered))
+    known b o e = rw e refl
 
 from_set : (u : Bool) (o : Option Slot) (s : Slot) (had : Warnings) (found : Option Warnings) → o ≡ Some s → gathered_from u o had found ≡ had
 from_set u o s had found e = rw e refl

@@ -2,7 +2,7 @@
 use Rattle.std.proofs.Common.{◌≡◌, ℕ, Bool, true, false, ◌&&◌, ◌||◌, if◌then◌else◌, Option, Some, None, is_some, refl, sym, ap, subst, ◌∙◌}
 use Rattle.std.proofs.lemmas.Bool.{or_left, or_right}
 use Rattle.gj_json.specs.declared.names.Known.{Known}
-use Rattle.gj_json.specs.declared.names.Known.TheVariants.{TypeName, Coordinates, Geometries, Geometry, Properties, Features, Bbox, Id, Crs, Other}
+use Rattle.gj_json.specs.declared.names.Known.TheVariants.{Coordinates, Geometries, Geometry, Properties, Features, Bbox, Id}
 use Rattle.gj_json.specs.declared.names.Word.{Word}
 use Rattle.gj_coords.specs.declared.fault.Fault.{Fault}
 use Rattle.gj_coords.specs.declared.fault.Rule.TheVariants.{G10}
@@ -16,10 +16,10 @@ use Rattle.gj_rules.specs.Internal.MemberRules.{index_of, is_among, rules_of, wi
 use Rattle.gj_rules.specs.Internal.LostObjects.{fails_by, fails_as, all_fail, is_lost, type_lost}
 use Rattle.std.proofs.lemmas.Nat.Bits.{bit_at-zero}
 use Rattle.gj_rules.specs.Members.{is_known, same}
-use Rattle.gj_rules.specs.Internal.OpenMembers.{slot_of, with_slot, joined, joined_to, shapes_set, named_known, repeated_at, fault_of, members_fault, shape_as}
+use Rattle.gj_rules.specs.Internal.OpenMembers.{slot_of, with_slot, joined, joined_to, shapes_set, named_known, fault_of, members_fault, shape_as}
 use Rattle.gj_rules.specs.Internal.Summaries.{no_shapes, shape_for, simple_of}
-use Rattle.gj_rules.proofs.Objects.OneMember.{same_is, slot_of-other}
-use Rattle.gj_rules.proofs.Objects.MemberSlots.{slot_of-with, kept_shapes, kept_repeated, kept_type}
+use Rattle.gj_rules.proofs.Objects.OneMember.{slot_of-other}
+use Rattle.gj_rules.proofs.Objects.MemberSlots.{same_is, slot_of-with}
 use Rattle.gj_rules.proofs.Objects.AskedShapes.{TypeStays, no_fault}
 
 -- ---- truth
@@ -196,22 +196,19 @@ each_slot P same_kept m s f h n = go (is_known m) (same n m) refl refl
     go true true d e =
         subst (λ (x : Known). P (slot_of x f) (slot_of x (with_slot m s f))) (sym (same_is n m e))
         (subst (λ (o : Option Slot). P (slot_of m f) o) (sym (slot_of-with m s f d)) h)
-    go false true d e = unknown m d
-      where
-        unknown : (m : Known) → is_known m ≡ false → P (slot_of n f) (slot_of n (with_slot m s f))
-        unknown Other d = same_kept (slot_of n f)
-        unknown Crs d = same_kept (slot_of n f)
-        unknown _ d = cc
+    go false true d e =
+        let k : is_known n ≡ false = ap is_known (same_is n m e) ∙ d in
+        rw k (same_kept None)
 
 some_set : (o : Option Slot) (s : Slot) → Keeps (is_some o) (is_some (Some s))
 some_set o s e = refl
 
 pub worse_slot : (m : Known) (s : Slot) (f : MemberSlots) → Keeps (slot_fails (slot_of m f)) (is_some s.fault) → Worse f (with_slot m s f)
 worse_slot m s f h = record {
-  repeated = λ e. ap is_some (kept_repeated m s f) ∙ e;
+  repeated = λ e. e;
   slots = each_slot (λ (o p : Option Slot). Keeps (is_some o) (is_some p)) (λ o e. e) m s f (some_set (slot_of m f) s);
   values = each_slot (λ (o p : Option Slot). Keeps (slot_fails o) (slot_fails p)) (λ o e. e) m s f h;
-  shapes = λ simple e. ap (λ (x : Shapes). is_some (shape_for simple x)) (kept_shapes m s f) ∙ e;
+  shapes = λ simple e. e;
 }
 
 -- ---- and shows the same names
@@ -239,44 +236,36 @@ grows_joined_to m x f (Some slot) e =
     let s : Slot = record { name_at = slot.name_at; fault = lesser slot.fault x } in
     record {
       worse = worse_slot m s f (subst (λ (o : Option Slot). Keeps (slot_fails o) (is_some s.fault)) (sym e) (lesser_first slot.fault x));
-      repeated = kept_repeated m s f;
-      type_value = kept_type m s f;
+      repeated = refl;
+      type_value = refl;
       slots = each_slot (λ (o p : Option Slot). is_some p ≡ is_some o) (λ o. refl) m s f (sym (ap is_some e));
     }
 
 pub grows_joined : (m : Known) (x : Option Fault) (f : MemberSlots) → Grows f (joined m x f)
 grows_joined m x f = grows_joined_to m x f (slot_of m f) refl
 
-shapes_same : (n : Known) (x : Shapes) (f : MemberSlots) → slot_of n (shapes_set x f) ≡ slot_of n f
-shapes_same TypeName x f = refl
-shapes_same _ x f = refl
-
 -- the shapes are set once
 pub grows_shapes : (x : Shapes) (f : MemberSlots) → f.shapes ≡ no_shapes → Grows f (shapes_set x f)
 grows_shapes x f e = record {
   worse = record {
     repeated = λ h. h;
-    slots = λ n h. ap is_some (shapes_same n x f) ∙ h;
-    values = λ n h. ap slot_fails (shapes_same n x f) ∙ h;
+    slots = λ n h. h;
+    values = λ n h. h;
     shapes = λ s h. (let k : is_some (shape_for s no_shapes) ≡ true = rw e at h in let l = no_fault s in cc);
   };
   repeated = refl;
   type_value = refl;
-  slots = λ n. ap is_some (shapes_same n x f);
+  slots = λ n. refl;
 }
 
 -- ---- a name
-
-repeated_same : (n : Known) (place : ℕ) (f : MemberSlots) → slot_of n (repeated_at place f) ≡ slot_of n f
-repeated_same TypeName place f = refl
-repeated_same _ place f = refl
 
 pub worse_named : (m : Known) (place : ℕ) (f : MemberSlots) (k : Bool) (o : Option Slot) → slot_of m f ≡ o → Worse f (if k then named_known m place o f else f)
 worse_named m place f false o e = worse_same f
 worse_named m place f true (Some slot) e = record {
   repeated = λ h. lesser_first f.repeated (Some (fault_at place G10)) h;
-  slots = λ n h. ap is_some (repeated_same n place f) ∙ h;
-  values = λ n h. ap slot_fails (repeated_same n place f) ∙ h;
+  slots = λ n h. h;
+  values = λ n h. h;
   shapes = λ s h. h;
 }
 worse_named m place f true None e =

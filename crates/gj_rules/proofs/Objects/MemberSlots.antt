@@ -1,49 +1,43 @@
 -- The slots of what an object has shown.
-use Rattle.std.proofs.Common.{◌≡◌, true, Option, Some, None, refl, sym, ap, ◌∙◌}
+use denote.Enum.Bare.{same_true, true_same}
+use Rattle.std.proofs.Common.{rules, Bool, false, if◌then◌else◌, ◌≡◌, true, Option, Some, None, refl, sym, ap, ◌∙◌}
 use Rattle.gj_json.specs.declared.names.Known.{Known}
-use Rattle.gj_json.specs.declared.names.Known.TheVariants.{TypeName, Coordinates, Geometries, Geometry, Properties, Features, Bbox, Id, Crs, Other}
+use Rattle.std.proofs.Math.Path.{fun_ext}
+use Rattle.gj_json.specs.contracts.names.Known.{the_type}
 use Rattle.gj_coords.specs.declared.fault.Fault.{Fault}
 use Rattle.gj_rules.specs.declared.member_slots.Slot.{Slot}
 use Rattle.gj_rules.specs.Internal.FrameMeaning.{MemberSlots}
 use Rattle.gj_coords.specs.Fault.{lesser}
 use Rattle.gj_rules.specs.Internal.OpenMembers.{slot_of, with_slot, joined, joined_to}
-use Rattle.gj_rules.specs.Members.{is_known}
+use Rattle.gj_rules.specs.Members.{is_known, same}
 use Rattle.gj_coords.specs.Internal.LeastLaws.{lesser-none, lesser_assoc}
 
--- a slot that was set already is what setting it leaves
-pub with_slot-same : (name : Known) (slot : Slot) (f : MemberSlots) → slot_of name f ≡ Some slot → with_slot name slot f ≡ f
-with_slot-same TypeName slot f e = ap (λ (x : Option Slot). record f { type_name = x }) (sym e)
-with_slot-same Coordinates slot f e = ap (λ (x : Option Slot). record f { coordinates = x }) (sym e)
-with_slot-same Geometries slot f e = ap (λ (x : Option Slot). record f { geometries = x }) (sym e)
-with_slot-same Geometry slot f e = ap (λ (x : Option Slot). record f { geometry = x }) (sym e)
-with_slot-same Properties slot f e = ap (λ (x : Option Slot). record f { properties = x }) (sym e)
-with_slot-same Features slot f e = ap (λ (x : Option Slot). record f { features = x }) (sym e)
-with_slot-same Bbox slot f e = ap (λ (x : Option Slot). record f { bbox = x }) (sym e)
-with_slot-same Id slot f e = ap (λ (x : Option Slot). record f { id = x }) (sym e)
-with_slot-same Other slot f e = refl
-with_slot-same Crs slot f e = refl
+-- names that are the same
+pub same_is : (a b : Known) → same a b ≡ true → a ≡ b
+same_is a b e = same_true the_type (search rules) a b e
 
-pub with_slot-twice : (name : Known) (s t : Slot) (f : MemberSlots) → with_slot name t (with_slot name s f) ≡ with_slot name t f
-with_slot-twice TypeName s t f = refl
-with_slot-twice _ s t f = refl
+same_self : (name : Known) → same name name ≡ true
+same_self name = true_same the_type name name refl
+
+-- a slot that was set already is what setting it leaves
+with_slot-same : (name : Known) (slot : Slot) (f : MemberSlots) → slot_of name f ≡ Some slot → with_slot name slot f ≡ f
+with_slot-same name slot f e =
+    ap (λ (slots : Known → Option Slot). record f { slots = slots }) (fun_ext (λ n. go n (is_known name) (same n name) refl refl))
+  where
+    go : (n : Known) (k b : Bool) → is_known name ≡ k → same n name ≡ b → (if b then Some slot else f.slots n) ≡ f.slots n
+    go n k false i h = refl
+    go n true true i h = sym (ap f.slots (same_is n name h) ∙ rw i at e)
+    go n false true i h = (let l : None ≡ Some slot = rw i at e in cc)
+
+with_slot-twice : (name : Known) (s t : Slot) (f : MemberSlots) → with_slot name t (with_slot name s f) ≡ with_slot name t f
+with_slot-twice name s t f = ap (λ (slots : Known → Option Slot). record f { slots = slots }) (fun_ext (λ n. go (same n name) (f.slots n)))
+  where
+    go : (b : Bool) (o : Option Slot) → (if b then Some t else (if b then Some s else o)) ≡ (if b then Some t else o)
+    go true o = refl
+    go false o = refl
 
 pub slot_of-with : (name : Known) (s : Slot) (f : MemberSlots) → is_known name ≡ true → slot_of name (with_slot name s f) ≡ Some s
-slot_of-with Other s f e = cc
-slot_of-with Crs s f e = cc
-slot_of-with _ s f e = refl
-
--- what is no slot stays
-pub kept_shapes : (name : Known) (s : Slot) (f : MemberSlots) → (with_slot name s f).shapes ≡ f.shapes
-kept_shapes TypeName s f = refl
-kept_shapes _ s f = refl
-
-pub kept_repeated : (name : Known) (s : Slot) (f : MemberSlots) → (with_slot name s f).repeated ≡ f.repeated
-kept_repeated TypeName s f = refl
-kept_repeated _ s f = refl
-
-pub kept_type : (name : Known) (s : Slot) (f : MemberSlots) → (with_slot name s f).type_value ≡ f.type_value
-kept_type TypeName s f = refl
-kept_type _ s f = refl
+slot_of-with name s f e = rw (e, same_self name) refl
 
 -- no other fault changes nothing
 none_joined : (name : Known) (f : MemberSlots) (o : Option Slot) → slot_of name f ≡ o → joined_to name None o f ≡ f

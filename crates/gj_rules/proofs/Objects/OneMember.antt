@@ -1,15 +1,12 @@
 -- What one member does to what an object has shown.
-use denote.Enum.Bare.{same_true}
-use Rattle.std.proofs.Common.{rules, ◌≡◌, ℕ, Bool, true, false, if◌then◌else◌, Option, Some, None, refl, ◌∙◌}
+use Rattle.std.proofs.Common.{◌≡◌, ℕ, Bool, true, false, if◌then◌else◌, Option, Some, None, refl, ◌∙◌}
 use Rattle.gj_json.specs.declared.names.Known.{Known}
-use Rattle.gj_json.specs.declared.names.Known.TheVariants.{TypeName, Coordinates, Geometries, Geometry, Properties, Features, Bbox, Id, Crs, Other}
-use Rattle.gj_json.specs.contracts.names.Known.{the_type}
+use Rattle.gj_json.specs.declared.names.Known.TheVariants.{TypeName, Coordinates, Crs, Other}
 use Rattle.gj_coords.specs.declared.fault.Fault.{Fault}
-use Rattle.gj_coords.specs.declared.fault.Rule.TheVariants.{G10}
 use Rattle.gj_rules.specs.declared.role.Role.{Role}
 use Rattle.gj_rules.specs.declared.member_slots.Slot.{Slot}
 use Rattle.gj_rules.specs.Internal.FrameMeaning.{MemberSlots}
-use Rattle.gj_coords.specs.Fault.{lesser, least, fault_at}
+use Rattle.gj_coords.specs.Fault.{lesser, least}
 use Rattle.gj_rules.specs.Internal.OpenMembers.{slot_of, with_slot, joined_to, uses, named, named_known, due_known, due_after}
 use Rattle.gj_json.specs.Tree.{Tree}
 use Rattle.gj_rules.specs.Faults.{First}
@@ -20,9 +17,6 @@ use Rattle.gj_rules.proofs.Objects.MemberSlots.{slot_of-with}
 
 -- ---- names
 
-pub same_is : (a b : Known) → same a b ≡ true → a ≡ b
-same_is a b e = same_true the_type (search rules) a b e
-
 other_same : (n : Known) → is_known n ≡ true → same n Other ≡ false
 other_same Other k = cc
 other_same Crs k = cc
@@ -31,40 +25,20 @@ other_same _ k = refl
 -- ---- slots of other names
 
 pub slot_of-other : (n m : Known) (s : Slot) (f : MemberSlots) → same n m ≡ false → slot_of n (with_slot m s f) ≡ slot_of n f
-slot_of-other TypeName TypeName s f e = cc
-slot_of-other Coordinates Coordinates s f e = cc
-slot_of-other Geometries Geometries s f e = cc
-slot_of-other Geometry Geometry s f e = cc
-slot_of-other Properties Properties s f e = cc
-slot_of-other Features Features s f e = cc
-slot_of-other Bbox Bbox s f e = cc
-slot_of-other Id Id s f e = cc
-slot_of-other _ _ s f e = refl
+slot_of-other n m s f e = rw e refl
 
 joined_other : (n m : Known) (x : Option Fault) (o : Option Slot) (f : MemberSlots) → same n m ≡ false → slot_of n (joined_to m x o f) ≡ slot_of n f
 joined_other n m x None f e = refl
 joined_other n m x (Some slot) f e = slot_of-other n m (record { name_at = slot.name_at; fault = lesser slot.fault x }) f e
 
-shapes_kept : (n : Known) (v : Tree) (f : MemberSlots) → slot_of n (filled Coordinates v f) ≡ slot_of n f
-shapes_kept TypeName v f = refl
-shapes_kept _ v f = refl
-
-type_kept : (n : Known) (v : Tree) (f : MemberSlots) → slot_of n (filled TypeName v f) ≡ slot_of n f
-type_kept TypeName v f = refl
-type_kept _ v f = refl
-
-repeated_kept : (n : Known) (x : Option Fault) (f : MemberSlots) → slot_of n (record f { repeated = x }) ≡ slot_of n f
-repeated_kept TypeName x f = refl
-repeated_kept _ x f = refl
-
 filled_other : (n m : Known) (v : Tree) (f : MemberSlots) → same n m ≡ false → slot_of n (filled m v f) ≡ slot_of n f
-filled_other n TypeName v f e = type_kept n v f
-filled_other n Coordinates v f e = shapes_kept n v f
+filled_other n TypeName v f e = refl
+filled_other n Coordinates v f e = refl
 filled_other n m v f e = joined_other n m (least (judge m v)) (slot_of m f) f e
 
 named_other : (n m : Known) (place : ℕ) (f : MemberSlots) (k : Bool) (o : Option Slot) → same n m ≡ false
     → slot_of n (if k then named_known m place o f else f) ≡ slot_of n f
-named_other n m place f true (Some slot) e = repeated_kept n (lesser f.repeated (Some (fault_at place G10))) f
+named_other n m place f true (Some slot) e = refl
 named_other n m place f true None e = slot_of-other n m (record { name_at = place; fault = None }) f e
 named_other n m place f false o e = refl
 
@@ -100,11 +74,16 @@ filled_own _ place v f k = refl
 own_slot : (m : Known) (place : ℕ) (v : Tree) (f : MemberSlots) (u : Bool) (o : Option Slot) → uses f.role m ≡ u → slot_of m f ≡ o → is_known m ≡ true
     → slot_of m (filled (due_known m o f.role) v (named_known m place o f)) ≡ or_slot o
     (slot_from u (Some (record { name_at = place; value = v; faults = judge m v })))
-own_slot m place v f u (Some slot) i e k = repeated_kept m (lesser f.repeated (Some (fault_at place G10))) f ∙ e
+own_slot m place v f u (Some slot) i e k = e
 own_slot m place v f true None i e k = rw i (filled_own m place v f k)
 own_slot m place v f false None i e k = rw i (slot_of-with m (record { name_at = place; fault = None }) f k)
 
 pub slot-own : (m : Known) (place : ℕ) (v : Tree) (f : MemberSlots) → is_known m ≡ true
     → slot_of m (member_taken place m v f) ≡ or_slot (slot_of m f)
     (slot_from (uses f.role m) (Some (record { name_at = place; value = v; faults = judge m v })))
-slot-own m place v f k = rw k (own_slot m place v f (uses f.role m) (slot_of m f) refl refl k)
+slot-own m place v f k = known (is_known m) (slot_of m f) k ∙ own_slot m place v f (uses f.role m) (slot_of m f) refl refl k
+  where
+    known : (b : Bool) (o : Option Slot) → b ≡ true
+        → slot_of m (filled (if b then due_known m o f.role else Other) v (if b then named_known m place o f else f))
+        ≡ slot_of m (filled (due_known m o f.role) v (named_known m place o f))
+    known b o e = rw e refl

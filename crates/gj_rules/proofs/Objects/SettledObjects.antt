@@ -1,8 +1,9 @@
 -- At its close an object has shown its least fault.
 use Rattle.std.proofs.Common.{◌≡◌, ℕ, Bool, true, false, if◌then◌else◌, List, [], ◌∷◌, ◌++◌, Option, Some, None, is_some, refl, sym, ap, subst, ◌∙◌, append-nil, append_assoc}
+use Rattle.std.proofs.Math.Path.{fun_ext}
 use Rattle.std.specs.List.{flat_map}
 use Rattle.gj_json.specs.declared.names.Known.{Known}
-use Rattle.gj_json.specs.declared.names.Known.TheVariants.{TypeName, Coordinates, Geometries, Geometry, Properties, Features, Bbox, Id}
+use Rattle.gj_json.specs.declared.names.Known.TheVariants.{Coordinates, Geometries, Geometry, Properties, Features, Bbox, Id}
 use Rattle.gj_json.specs.declared.names.Word.{Word}
 use Rattle.gj_coords.specs.declared.fault.Fault.{Fault}
 use Rattle.gj_coords.specs.declared.fault.Rule.{Rule}
@@ -15,7 +16,7 @@ use Rattle.gj_coords.specs.Fault.{lesser, least, fault_at}
 use Rattle.gj_rules.specs.Internal.OpenMembers as F
 use Rattle.gj_json.specs.Tree.{Tree, Members, object}
 use Rattle.gj_rules.specs.Faults as R
-use Rattle.gj_rules.specs.Members.{one, first_type, forbidden_by, repeated}
+use Rattle.gj_rules.specs.Members.{is_known, one, first_type, forbidden_by, repeated}
 use Rattle.gj_rules.specs.Role.{is_allowed}
 use Rattle.gj_coords.specs.declared.simple.Simple.{Simple}
 use Rattle.gj_rules.specs.Faults.{First, faults}
@@ -23,8 +24,8 @@ use Rattle.gj_rules.specs.Internal.OpenMembers.{members_taken}
 use Rattle.gj_coords.specs.Internal.LeastLaws.{lesser-none, least-append, lesser_assoc}
 use Rattle.gj_rules.proofs.Objects.FaultsInAnyOrder.{lesser_comm, least_after, least_swap}
 use Rattle.gj_rules.specs.Internal.MemberRules.{rules_of, asked_fault}
-use Rattle.gj_rules.proofs.Objects.OneMember.{slot_from}
-use Rattle.gj_rules.proofs.Objects.AllMembers.{members_object, slots_after, type_from, type_after, shapes_from, shapes_after, repeated_after}
+use Rattle.gj_rules.proofs.Objects.OneMember.{or_slot, slot_from}
+use Rattle.gj_rules.proofs.Objects.AllMembers.{IsSameObject, members_object, slots_after, type_from, type_after, shapes_from, shapes_after, repeated_after}
 use Rattle.gj_rules.specs.Internal.FrameMeaning.{Shapes}
 use Rattle.gj_rules.specs.Internal.Summaries.{no_shapes, shape_for, shape_found, simple_of, asked_as, asked}
 use Rattle.gj_rules.proofs.Objects.AskedShapes.{no_fault, one_fault}
@@ -38,26 +39,19 @@ pub record ObjectMembers : Type 0 where
   pub of : R.FirstMembers
 
 -- what an object has shown at its end
-abbrev pub shown_with : Role → ℕ → Option Slot → Shapes → ObjectMembers → MemberSlots
-shown_with role place type_name shapes p = record {
+abbrev pub shown_with : Role → ℕ → Shapes → ObjectMembers → MemberSlots
+shown_with role place shapes p = record {
   place = place;
   role = role;
   repeated = least p.repeated;
   type_value = p.type_value;
   shapes = shapes;
-  type_name = type_name;
-  coordinates = slot_from (F.uses role Coordinates) (p.of Coordinates);
-  geometries = slot_from (F.uses role Geometries) (p.of Geometries);
-  geometry = slot_from (F.uses role Geometry) (p.of Geometry);
-  properties = slot_from (F.uses role Properties) (p.of Properties);
-  features = slot_from (F.uses role Features) (p.of Features);
-  bbox = slot_from (F.uses role Bbox) (p.of Bbox);
-  id = slot_from (F.uses role Id) (p.of Id);
+  slots = λ name. if is_known name then slot_from (F.uses role name) (p.of name) else None;
 }
 
 -- where its type had not come before its coordinates
-abbrev pub shown_for : Role → ℕ → Option Slot → ObjectMembers → MemberSlots
-shown_for role place type_name p = shown_with role place type_name (shapes_from (F.uses role Coordinates) None None no_shapes (p.of Coordinates)) p
+abbrev pub shown_for : Role → ℕ → ObjectMembers → MemberSlots
+shown_for role place p = shown_with role place (shapes_from (F.uses role Coordinates) None None no_shapes (p.of Coordinates)) p
 
 -- ---- of one name
 
@@ -140,12 +134,12 @@ coordinates_is : (simple : Simple) (used : Bool) (place : ℕ) (o : Option First
 coordinates_is simple used place None e = rw (no_fault simple) refl
 coordinates_is simple used place (Some first) e = rw e (shape_is simple first.value)
 
-simple_is : (simple : Simple) (role : Role) (place : ℕ) (t : Option Slot) (p : ObjectMembers) → F.uses role Coordinates ≡ true
-    → lesser (F.members_fault (rules_of Word.Point) (shown_for role place t p)) (shape_for simple (shown_for role place t p).shapes)
+simple_is : (simple : Simple) (role : Role) (place : ℕ) (p : ObjectMembers) → F.uses role Coordinates ≡ true
+    → lesser (F.members_fault (rules_of Word.Point) (shown_for role place p)) (shape_for simple (shown_for role place p).shapes)
     ≡ least (R.optional (p.of Bbox) ++ (forbidden_members (Geometry ∷ Properties ∷ Features ∷ []) p ++ R.due_coordinates simple place (p.of Coordinates)))
 unfolding F.members_fault
-simple_is simple role place t p e =
-    ap (λ (x : Option Fault). lesser x (shape_for simple (shown_for role place t p).shapes))
+simple_is simple role place p e =
+    ap (λ (x : Option Fault). lesser x (shape_for simple (shown_for role place p).shapes))
     (all_of (R.optional (p.of Bbox)) (lacking place (p.of Coordinates)) [] (R.forbidden (p.of Geometry)) (R.forbidden (p.of Properties))
     (R.forbidden (p.of Features)) [] _ _ _ _ _ _ _ (optional_is (F.uses role Bbox) (fault_at place G4) (p.of Bbox) (uses_bbox role))
     (lacking_is (F.uses role Coordinates) place (p.of Coordinates)) (free_is (F.uses role Geometries) (fault_at place G5) (p.of Geometries))
@@ -155,11 +149,11 @@ simple_is simple role place t p e =
     ∙ turned (R.optional (p.of Bbox)) (lacking place (p.of Coordinates)) (forbidden_members (Geometry ∷ Properties ∷ Features ∷ []) p)
     (R.due_coordinates simple place (p.of Coordinates)) _ (coordinates_is simple (F.uses role Coordinates) place (p.of Coordinates) e)
 
-collection_is : (role : Role) (place : ℕ) (t : Option Slot) (p : ObjectMembers) → F.uses role Geometries ≡ true
-    → F.as_type Word.GeometryCollection (shown_for role place t p)
+collection_is : (role : Role) (place : ℕ) (p : ObjectMembers) → F.uses role Geometries ≡ true
+    → F.as_type Word.GeometryCollection (shown_for role place p)
     ≡ least (R.optional (p.of Bbox) ++ (forbidden_members (Geometry ∷ Properties ∷ Features ∷ []) p ++ R.due place G5 (p.of Geometries)))
 unfolding F.members_fault
-collection_is role place t p e =
+collection_is role place p e =
     ap (λ (x : Option Fault). lesser x None)
     (all_of (R.optional (p.of Bbox)) [] (R.due place G5 (p.of Geometries)) (R.forbidden (p.of Geometry)) (R.forbidden (p.of Properties))
     (R.forbidden (p.of Features)) [] _ _ _ _ _ _ _ (optional_is (F.uses role Bbox) (fault_at place G4) (p.of Bbox) (uses_bbox role))
@@ -170,13 +164,13 @@ collection_is role place t p e =
     ∙ turned (R.optional (p.of Bbox)) (R.due place G5 (p.of Geometries)) (forbidden_members (Geometry ∷ Properties ∷ Features ∷ []) p)
     (R.due place G5 (p.of Geometries)) None (lesser-none (least (R.due place G5 (p.of Geometries))))
 
-feature_is : (role : Role) (place : ℕ) (t : Option Slot) (p : ObjectMembers) → F.uses role Geometry ≡ true → F.uses role Properties ≡ true
+feature_is : (role : Role) (place : ℕ) (p : ObjectMembers) → F.uses role Geometry ≡ true → F.uses role Properties ≡ true
     → F.uses role Id ≡ true
-    → F.as_type Word.Feature (shown_for role place t p)
+    → F.as_type Word.Feature (shown_for role place p)
     ≡ least (R.optional (p.of Bbox) ++ (forbidden_members (Coordinates ∷ Geometries ∷ Features ∷ []) p ++ R.as_type Word.Feature place p.of))
 unfolding F.members_fault
-feature_is role place t p g q i =
-    lesser-none (F.members_fault (rules_of Word.Feature) (shown_for role place t p))
+feature_is role place p g q i =
+    lesser-none (F.members_fault (rules_of Word.Feature) (shown_for role place p))
     ∙ (all_of (R.optional (p.of Bbox)) (R.forbidden (p.of Coordinates)) (R.forbidden (p.of Geometries)) (R.due place G6 (p.of Geometry))
     (R.due place G7 (p.of Properties)) (R.forbidden (p.of Features)) (R.optional (p.of Id)) _ _ _ _ _ _ _
     (optional_is (F.uses role Bbox) (fault_at place G4) (p.of Bbox) (uses_bbox role))
@@ -187,12 +181,12 @@ feature_is role place t p g q i =
     ∙ passed (R.optional (p.of Bbox)) (R.forbidden (p.of Coordinates)) (R.forbidden (p.of Geometries)) (R.due place G6 (p.of Geometry))
     (R.due place G7 (p.of Properties)) (R.forbidden (p.of Features)) (R.optional (p.of Id)))
 
-features_is : (role : Role) (place : ℕ) (t : Option Slot) (p : ObjectMembers) → F.uses role Features ≡ true
-    → F.as_type Word.FeatureCollection (shown_for role place t p)
+features_is : (role : Role) (place : ℕ) (p : ObjectMembers) → F.uses role Features ≡ true
+    → F.as_type Word.FeatureCollection (shown_for role place p)
     ≡ least (R.optional (p.of Bbox) ++ (forbidden_members (Coordinates ∷ Geometries ∷ Geometry ∷ Properties ∷ []) p ++ R.due place G8 (p.of Features)))
 unfolding F.members_fault
-features_is role place t p e =
-    lesser-none (F.members_fault (rules_of Word.FeatureCollection) (shown_for role place t p))
+features_is role place p e =
+    lesser-none (F.members_fault (rules_of Word.FeatureCollection) (shown_for role place p))
     ∙ (all_of (R.optional (p.of Bbox)) (R.forbidden (p.of Coordinates)) (R.forbidden (p.of Geometries)) (R.forbidden (p.of Geometry))
     (R.forbidden (p.of Properties)) (R.due place G8 (p.of Features)) [] _ _ _ _ _ _ _
     (optional_is (F.uses role Bbox) (fault_at place G4) (p.of Bbox) (uses_bbox role))
@@ -206,10 +200,10 @@ features_is role place t p e =
     (R.due place G8 (p.of Features))))
 
 -- where the type is missing or wrong
-none_is : (role : Role) (x : Fault) (place : ℕ) (t : Option Slot) (p : ObjectMembers)
-    → F.as_none x (shown_for role place t p) ≡ least (R.optional (p.of Bbox) ++ x ∷ [])
+none_is : (role : Role) (x : Fault) (place : ℕ) (p : ObjectMembers)
+    → F.as_none x (shown_for role place p) ≡ least (R.optional (p.of Bbox) ++ x ∷ [])
 unfolding F.members_fault
-none_is role x place t p =
+none_is role x place p =
     ap (λ (y : Option Fault). lesser y (Some x))
     (all_of (R.optional (p.of Bbox)) [] [] [] [] [] [] _ _ _ _ _ _ _
     (optional_is (F.uses role Bbox) (fault_at place G4) (p.of Bbox) (uses_bbox role))
@@ -220,32 +214,32 @@ none_is role x place t p =
     ∙ sym (least-append (R.optional (p.of Bbox)) (x ∷ []))
 
 -- at each role, for each type that is allowed there
-typed_is : (role : Role) (word : Word) (at : ℕ) (place : ℕ) (t : Option Slot) (p : ObjectMembers)
-    → (if is_allowed role word then F.as_type word (shown_for role place t p) else F.as_none (fault_at at G3) (shown_for role place t p))
+typed_is : (role : Role) (word : Word) (at : ℕ) (place : ℕ) (p : ObjectMembers)
+    → (if is_allowed role word then F.as_type word (shown_for role place p) else F.as_none (fault_at at G3) (shown_for role place p))
     ≡ least (R.optional (p.of Bbox) ++ (if is_allowed role word then forbidden_members (forbidden_by word) p ++ R.as_type word place p.of else one at G3))
-typed_is role Word.Other at place t p = none_is role (fault_at at G3) place t p
-typed_is Role.Root Word.Feature at place t p = feature_is Role.Root place t p refl refl refl
-typed_is Role.Feature Word.Feature at place t p = feature_is Role.Feature place t p refl refl refl
-typed_is role Word.Feature at place t p = none_is role (fault_at at G3) place t p
-typed_is Role.Root Word.FeatureCollection at place t p = features_is Role.Root place t p refl
-typed_is role Word.FeatureCollection at place t p = none_is role (fault_at at G3) place t p
-typed_is Role.Feature word at place t p = none_is Role.Feature (fault_at at G3) place t p
-typed_is role Word.GeometryCollection at place t p = collection_is role place t p refl
-typed_is role Word.Point at place t p = simple_is Simple.Point role place t p refl
-typed_is role Word.MultiPoint at place t p = simple_is Simple.MultiPoint role place t p refl
-typed_is role Word.LineString at place t p = simple_is Simple.LineString role place t p refl
-typed_is role Word.MultiLineString at place t p = simple_is Simple.MultiLineString role place t p refl
-typed_is role Word.Polygon at place t p = simple_is Simple.Polygon role place t p refl
-typed_is role Word.MultiPolygon at place t p = simple_is Simple.MultiPolygon role place t p refl
+typed_is role Word.Other at place p = none_is role (fault_at at G3) place p
+typed_is Role.Root Word.Feature at place p = feature_is Role.Root place p refl refl refl
+typed_is Role.Feature Word.Feature at place p = feature_is Role.Feature place p refl refl refl
+typed_is role Word.Feature at place p = none_is role (fault_at at G3) place p
+typed_is Role.Root Word.FeatureCollection at place p = features_is Role.Root place p refl
+typed_is role Word.FeatureCollection at place p = none_is role (fault_at at G3) place p
+typed_is Role.Feature word at place p = none_is Role.Feature (fault_at at G3) place p
+typed_is role Word.GeometryCollection at place p = collection_is role place p refl
+typed_is role Word.Point at place p = simple_is Simple.Point role place p refl
+typed_is role Word.MultiPoint at place p = simple_is Simple.MultiPoint role place p refl
+typed_is role Word.LineString at place p = simple_is Simple.LineString role place p refl
+typed_is role Word.MultiLineString at place p = simple_is Simple.MultiLineString role place p refl
+typed_is role Word.Polygon at place p = simple_is Simple.Polygon role place p refl
+typed_is role Word.MultiPolygon at place p = simple_is Simple.MultiPolygon role place p refl
 
-rest_is : (role : Role) (place : ℕ) (t : Option Slot) (p : ObjectMembers) (o : Option TypeValue)
-    → F.rest_by o (shown_for role place t p) ≡ least (R.optional (p.of Bbox) ++ R.by_type o role place p.of)
-rest_is role place t p None = none_is role (fault_at place G2) place t p
-rest_is role place t p (Some value) = typed_is role value.word value.place place t p
+rest_is : (role : Role) (place : ℕ) (p : ObjectMembers) (o : Option TypeValue)
+    → F.rest_by o (shown_for role place p) ≡ least (R.optional (p.of Bbox) ++ R.by_type o role place p.of)
+rest_is role place p None = none_is role (fault_at place G2) place p
+rest_is role place p (Some value) = typed_is role value.word value.place place p
 
-pub settled_is : (role : Role) (place : ℕ) (t : Option Slot) (p : ObjectMembers)
-    → F.settled (shown_for role place t p) ≡ least (R.object_faults role place p.repeated p.type_value p.of)
-settled_is role place t p = also _ p.repeated _ _ refl (rest_is role place t p p.type_value)
+pub settled_is : (role : Role) (place : ℕ) (p : ObjectMembers)
+    → F.settled (shown_for role place p) ≡ least (R.object_faults role place p.repeated p.type_value p.of)
+settled_is role place p = also _ p.repeated _ _ refl (rest_is role place p p.type_value)
 
 abbrev pub parts_of : Members → ObjectMembers
 parts_of members = record {
@@ -255,32 +249,15 @@ parts_of members = record {
 }
 
 pub none_set : (role : Role) (place : ℕ) (n : Known) → F.slot_of n (F.blank role place) ≡ None
-none_set role place TypeName = refl
-none_set role place _ = refl
+none_set role place n = go (is_known n)
+  where
+    go : (b : Bool) → if◌then◌else◌ {A = Option Slot} b None None ≡ None
+    go true = refl
+    go false = refl
 
--- what is shown is its fields
-fields_are : (f : MemberSlots) (place : ℕ) (role : Role) (repeated : Option Fault) (type_value : Option TypeValue) (shapes : Shapes)
-    (type_name coordinates geometries geometry properties features bbox id : Option Slot)
-    → f.place ≡ place → f.role ≡ role → f.repeated ≡ repeated → f.type_value ≡ type_value → f.shapes ≡ shapes → f.type_name ≡ type_name
-    → f.coordinates ≡ coordinates
-    → f.geometries ≡ geometries → f.geometry ≡ geometry → f.properties ≡ properties → f.features ≡ features → f.bbox ≡ bbox → f.id ≡ id
-    → f ≡ record {
-      place = place;
-      role = role;
-      repeated = repeated;
-      type_value = type_value;
-      shapes = shapes;
-      type_name = type_name;
-      coordinates = coordinates;
-      geometries = geometries;
-      geometry = geometry;
-      properties = properties;
-      features = features;
-      bbox = bbox;
-      id = id;
-    }
-fields_are f place role repeated type_value shapes type_name coordinates geometries geometry properties features bbox id a b c d n e g h i j k l m =
-    rw (← a, ← b, ← c, ← d, ← n, ← e, ← g, ← h, ← i, ← j, ← k, ← l, ← m) refl
+-- what is shown of the known names
+abbrev pub known_slots : MemberSlots → MemberSlots
+known_slots f = record f { slots = λ n. F.slot_of n f }
 
 kind_is : (o : Option TypeValue) → type_from None None o ≡ o
 kind_is None = refl
@@ -288,24 +265,25 @@ kind_is (Some value) = refl
 
 -- what is shown after all members, from its fields
 pub shown_after : (role : Role) (place : ℕ) (members : Members)
-    → members_taken members (F.blank role place)
-    ≡ shown_with role place (members_taken members (F.blank role place)).type_name (members_taken members (F.blank role place)).shapes (parts_of members)
-shown_after role place members =
-    let f : MemberSlots = F.blank role place in
-    let same = members_object members f in
-    fields_are (members_taken members f) _ _ _ _ _ _ _ _ _ _ _ _ _
-    same.place same.role
-    (repeated_after members [] f (record { each = λ n k. ap is_some (none_set role place n) }))
-    (type_after members f ∙ kind_is (first_type members))
-    refl
-    refl
-    (slots_after Coordinates members f refl)
-    (slots_after Geometries members f refl)
-    (slots_after Geometry members f refl)
-    (slots_after Properties members f refl)
-    (slots_after Features members f refl)
-    (slots_after Bbox members f refl)
-    (slots_after Id members f refl)
+    → known_slots (members_taken members (F.blank role place))
+    ≡ shown_with role place (members_taken members (F.blank role place)).shapes (parts_of members)
+shown_after role place members = λ i. record {
+  place = same.place i;
+  role = same.role i;
+  repeated = repeated_after members [] (F.blank role place) (record { each = λ n k. ap is_some (none_set role place n) }) i;
+  type_value = (type_after members (F.blank role place) ∙ kind_is (first_type members)) i;
+  shapes = (members_taken members (F.blank role place)).shapes;
+  slots = fun_ext (λ n. slot_after n (is_known n) refl) i;
+}
+  where
+    same : IsSameObject (F.blank role place) (members_taken members (F.blank role place))
+    same = members_object members (F.blank role place)
+
+    slot_after : (n : Known) (k : Bool) → is_known n ≡ k
+        → F.slot_of n (members_taken members (F.blank role place)) ≡ (if k then slot_from (F.uses role n) (R.first n members) else None)
+    slot_after n true k =
+        slots_after n members (F.blank role place) k ∙ ap (λ (o : Option Slot). or_slot o (slot_from (F.uses role n) (R.first n members))) (none_set role place n)
+    slot_after n false k = rw k refl
 
 -- of the shapes what its type asks for is that of the first coordinates
 pub asked_after : (role : Role) (place : ℕ) (members : Members)
@@ -323,22 +301,28 @@ shape_asked : (o : Option Simple) (x : Shapes) → F.shape_as o x ≡ F.shape_as
 shape_asked None x = refl
 shape_asked (Some simple) x = sym (one_fault simple (shape_found simple x))
 
-word_asked : (word : Word) (role : Role) (place : ℕ) (t : Option Slot) (x : Shapes) (p : ObjectMembers)
-    → F.as_type word (shown_with role place t x p) ≡ F.as_type word (shown_with role place t (asked_as (simple_of word) x) p)
+word_asked : (word : Word) (role : Role) (place : ℕ) (x : Shapes) (p : ObjectMembers)
+    → F.as_type word (shown_with role place x p) ≡ F.as_type word (shown_with role place (asked_as (simple_of word) x) p)
 unfolding F.members_fault
-word_asked word role place t x p = ap (lesser (F.members_fault (rules_of word) (shown_with role place t x p))) (shape_asked (simple_of word) x)
+word_asked word role place x p = ap (lesser (F.members_fault (rules_of word) (shown_with role place x p))) (shape_asked (simple_of word) x)
 
-rest_asked : (o : Option TypeValue) (role : Role) (place : ℕ) (t : Option Slot) (x : Shapes) (p : ObjectMembers)
-    → F.rest_by o (shown_with role place t x p) ≡ F.rest_by o (shown_with role place t (asked o x) p)
+rest_asked : (o : Option TypeValue) (role : Role) (place : ℕ) (x : Shapes) (p : ObjectMembers)
+    → F.rest_by o (shown_with role place x p) ≡ F.rest_by o (shown_with role place (asked o x) p)
 unfolding F.members_fault
-rest_asked None role place t x p = refl
-rest_asked (Some value) role place t x p =
-    ap (λ (o : Option Fault). if is_allowed role value.word then o else F.as_none (fault_at value.place G3) (shown_with role place t x p))
-    (word_asked value.word role place t x p)
+rest_asked None role place x p = refl
+rest_asked (Some value) role place x p =
+    ap (λ (o : Option Fault). if is_allowed role value.word then o else F.as_none (fault_at value.place G3) (shown_with role place x p))
+    (word_asked value.word role place x p)
 
-settled_asked : (role : Role) (place : ℕ) (t : Option Slot) (x : Shapes) (p : ObjectMembers)
-    → F.settled (shown_with role place t x p) ≡ F.settled (shown_with role place t (asked p.type_value x) p)
-settled_asked role place t x p = ap (lesser (least p.repeated)) (rest_asked p.type_value role place t x p)
+settled_asked : (role : Role) (place : ℕ) (x : Shapes) (p : ObjectMembers)
+    → F.settled (shown_with role place x p) ≡ F.settled (shown_with role place (asked p.type_value x) p)
+settled_asked role place x p = ap (lesser (least p.repeated)) (rest_asked p.type_value role place x p)
+
+-- only the known names count
+rest_known : (o : Option TypeValue) (f : MemberSlots) → F.rest_by o f ≡ F.rest_by o (known_slots f)
+unfolding F.members_fault
+rest_known None f = refl
+rest_known (Some value) f = refl
 
 pub closed : (role : Role) (place close : ℕ) (members : Members)
     → F.settled (members_taken members (F.blank role place)) ≡ least (faults role (object place members close))
@@ -346,8 +330,9 @@ closed role place close members =
     let f : MemberSlots = members_taken members (F.blank role place) in
     let p : ObjectMembers = parts_of members in
     let first : Shapes = shapes_from (F.uses role Coordinates) None None no_shapes (p.of Coordinates) in
-    ap F.settled (shown_after role place members)
-    ∙ (settled_asked role place f.type_name f.shapes p
-    ∙ (ap (λ (x : Shapes). F.settled (shown_with role place f.type_name x p)) (asked_after role place members)
-    ∙ (sym (settled_asked role place f.type_name first p)
-    ∙ settled_is role place f.type_name p)))
+    ap (lesser f.repeated) (rest_known f.type_value f)
+    ∙ (ap F.settled (shown_after role place members)
+    ∙ (settled_asked role place f.shapes p
+    ∙ (ap (λ (x : Shapes). F.settled (shown_with role place x p)) (asked_after role place members)
+    ∙ (sym (settled_asked role place first p)
+    ∙ settled_is role place p))))

@@ -1,6 +1,6 @@
 -- The slots of an object lie by the places of their names, and a bit of a byte says of each whether it counts.
 use Rattle.std.proofs.Common.{◌≡◌, ◌<◌, ◌≤◌, ◌≢◌, ℕ, ◌*◌, ◌/◌, ◌%◌, ◌^◌, Bool, true, false, if◌then◌else◌, nat_eq, List, length}
-use Rattle.std.proofs.Common.{slice_set, bit_and, bit_or, Option, Some, None, is_some, IsTrue, w8, refl, ap, ◌∙◌, arith}
+use Rattle.std.proofs.Common.{slice_set, bit_and, bit_or, Option, Some, None, is_some, IsTrue, w8, refl, ap, arith}
 use Rattle.std.proofs.Math.Path.{fun_ext}
 use Rattle.std.specs.Int.{bit_at}
 use Rattle.std.proofs.lemmas.Nat.Bits.{shr_and_one, bit_at_set_same, bit_at_set_other}
@@ -11,20 +11,18 @@ use Rattle.gj_json.specs.declared.names.Known.TheVariants.{Crs, Other}
 use Rattle.gj_coords.specs.declared.fault.Fault.{Fault}
 use Rattle.gj_rules.specs.declared.member_slots.MemberSlots as DW
 use Rattle.gj_rules.specs.declared.member_slots.Slot.{Slot}
-use Rattle.gj_rules.specs.declared.member_slots.TypeValue.{TypeValue}
-use Rattle.gj_rules.specs.declared.role.Role.{Role}
-use Rattle.gj_rules.specs.Internal.FrameMeaning.{Shapes, MemberSlots}
-use Rattle.gj_rules.specs.Internal.FrameReading.{no_slot, fault_if, counted_slot, slot_in, repeated_in, shapes_if, by_place, slots_in}
+use Rattle.gj_rules.specs.Internal.FrameMeaning.{MemberSlots}
+use Rattle.gj_rules.specs.Internal.FrameReading.{no_slot, fault_if, counted_slot, slot_in, slots_in}
 use Rattle.gj_rules.specs.Internal.MemberRules.{index_of}
 use Rattle.gj_rules.specs.Internal.OpenMembers.{slot_of, with_slot}
 use Rattle.gj_rules.specs.Members.{is_known}
 
 -- ---- one slot
 
-known_at : (name : Known) (x : DW.MemberSlots) → index_of name < 8 → slot_of name (slots_in x) ≡ slot_in x.present x.faulty x.slots (index_of name)
-known_at Crs x h = absurd (omega arith)
-known_at Other x h = absurd (omega arith)
-known_at _ x h = refl
+known_at : (name : Known) → index_of name < 8 → is_known name ≡ true
+known_at Crs h = absurd (omega arith)
+known_at Other h = absurd (omega arith)
+known_at _ h = refl
 
 not_one : (n : ℕ) → n ≢ 1 → nat_eq n 1 ≡ false
 not_one n e = grind (arith, nat_tests)
@@ -32,7 +30,7 @@ not_one n e = grind (arith, nat_tests)
 pub slot_there : (name : Known) (x : DW.MemberSlots) → index_of name < 8 → bit_and (x.present / 2 ^ index_of name) 1 ≡ 1
     → Some (counted_slot x.faulty x.slots (index_of name)) ≡ slot_of name (slots_in x)
 unfolding slot_in
-slot_there name x h e = rw (known_at name x h, ← shr_and_one x.present (index_of name), e) refl
+slot_there name x h e = rw (known_at name h, ← shr_and_one x.present (index_of name), e) refl
 
 pub slot_not_there : (name : Known) (x : DW.MemberSlots) → index_of name < 8 → bit_and (x.present / 2 ^ index_of name) 1 ≢ 1
     → None ≡ slot_of name (slots_in x)
@@ -40,7 +38,7 @@ unfolding slot_in
 slot_not_there name x h e =
     let t : nat_eq (bit_at x.present (index_of name)) 1 ≡ false =
     not_one (bit_at x.present (index_of name)) (rw (← shr_and_one x.present (index_of name)) e) in
-    rw (known_at name x h, t) refl
+    rw (known_at name h, t) refl
 
 pub slot_past : (name : Known) (f : MemberSlots) → 8 ≤ index_of name → None ≡ slot_of name f
 slot_past Crs f h = refl
@@ -69,22 +67,13 @@ set_in present faulty more slots i k s h l others own = go (nat_eq k i) refl
         let other : k ≢ i = grind (arith, nat_tests) in
         rw (bit_at_set_other w8 present i h k other, others k other, get_or-set_other slots i k s no_slot other) refl
 
-set_by_place : (name : Known) (s : Slot) (place : ℕ) (role : Role) (repeated : Option Fault) (type_value : Option TypeValue) (shapes : Shapes)
-    (at : ℕ → Option Slot) → IsTrue (is_known name)
-    → by_place place role repeated type_value shapes (λ k. if nat_eq k (index_of name) then Some s else at k)
-    ≡ with_slot name s (by_place place role repeated type_value shapes at)
-set_by_place Crs s place role repeated type_value shapes at h = cc
-set_by_place Other s place role repeated type_value shapes at h = cc
-set_by_place _ s place role repeated type_value shapes at h = refl
-
 set_with : (name : Known) (s : Slot) (x : DW.MemberSlots) (more : ℕ) → IsTrue (is_known name) → length x.slots ≡ 8
     → ((j : ℕ) → j ≢ index_of name → bit_at more j ≡ bit_at x.faulty j) → fault_if (nat_eq (bit_at more (index_of name)) 1) s.fault ≡ s.fault
     → slots_in (record x { present = bit_or x.present (1 * 2 ^ index_of name % 256); faulty = more; slots = slice_set x.slots (index_of name) s })
     ≡ with_slot name s (slots_in x)
 set_with name s x more h l others own =
-    ap (by_place x.place x.role (repeated_in x.repeated) x.type_value (shapes_if x.shaped x.shapes))
-    (fun_ext (λ k. set_in x.present x.faulty more x.slots (index_of name) k s (below name h) l others own))
-    ∙ set_by_place name s x.place x.role (repeated_in x.repeated) x.type_value (shapes_if x.shaped x.shapes) (slot_in x.present x.faulty x.slots) h
+    ap (λ (slots : Known → Option Slot). record (slots_in x) { slots = slots })
+    (fun_ext (λ n. set_in x.present x.faulty more x.slots (index_of name) (index_of n) s (below name h) l others own))
 
 -- a slot without a fault
 none_if : (b : Bool) (o : Option Fault) → is_some o ≡ false → fault_if b o ≡ o

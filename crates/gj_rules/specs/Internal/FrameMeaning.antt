@@ -1,5 +1,6 @@
 -- What a frame means: what of it counts.
 use Rattle.std.specs.Prelude.{ℕ, Option}
+use Rattle.gj_json.specs.declared.names.Known.{Known}
 use Rattle.gj_coords.specs.declared.fault.Fault.{Fault}
 use Rattle.gj_coords.specs.declared.warnings.Warnings.{Warnings}
 use Rattle.gj_rules.specs.declared.role.Role.{Role}
@@ -24,14 +25,8 @@ pub record MemberSlots : Type 0 where
   pub repeated : Option Fault
   pub type_value : Option TypeValue
   pub shapes : Shapes
-  pub type_name : Option Slot
-  pub coordinates : Option Slot
-  pub geometries : Option Slot
-  pub geometry : Option Slot
-  pub properties : Option Slot
-  pub features : Option Slot
-  pub bbox : Option Slot
-  pub id : Option Slot
+  -- the first member of each name
+  pub slots : Known → Option Slot
 
 pub record MemberWarnings : Type 0 where
   pub own : Warnings

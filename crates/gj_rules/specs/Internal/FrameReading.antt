@@ -19,9 +19,8 @@ use Rattle.gj_rules.specs.declared.shapes.Shapes as DS
 use Rattle.gj_rules.specs.declared.member_slots.MemberSlots as DW
 use Rattle.gj_rules.specs.declared.member_slots.Shaped.{Shaped}
 use Rattle.gj_rules.specs.declared.member_slots.Slot.{Slot}
-use Rattle.gj_rules.specs.declared.member_slots.TypeValue.{TypeValue}
-use Rattle.gj_rules.specs.declared.role.Role.{Role}
 use Rattle.gj_rules.specs.Internal.FrameMeaning.{Findings, Shapes, MemberSlots, MemberWarnings, Frame}
+use Rattle.gj_rules.specs.Internal.MemberRules.{index_of}
 use Rattle.gj_rules.specs.Internal.Summaries.{no_shapes, alike}
 
 abbrev pub found_in : D.Findings → Findings
@@ -84,26 +83,15 @@ abbrev pub repeated_in : Option ℕ → Option Fault
 repeated_in None = None
 repeated_in (Some place) = Some (fault_at place G10)
 
--- what an object has shown, by the places of its slots
-abbrev pub by_place : ℕ → Role → Option Fault → Option TypeValue → Shapes → (ℕ → Option Slot) → MemberSlots
-by_place place role repeated type_value shapes at = record {
-  place = place;
-  role = role;
-  repeated = repeated;
-  type_value = type_value;
-  shapes = shapes;
-  type_name = at 0;
-  coordinates = at 1;
-  geometries = at 2;
-  geometry = at 3;
-  properties = at 4;
-  features = at 5;
-  bbox = at 6;
-  id = at 7;
-}
-
 abbrev pub slots_in : DW.MemberSlots → MemberSlots
-slots_in x = by_place x.place x.role (repeated_in x.repeated) x.type_value (shapes_if x.shaped x.shapes) (slot_in x.present x.faulty x.slots)
+slots_in x = record {
+  place = x.place;
+  role = x.role;
+  repeated = repeated_in x.repeated;
+  type_value = x.type_value;
+  shapes = shapes_if x.shaped x.shapes;
+  slots = λ name. slot_in x.present x.faulty x.slots (index_of name);
+}
 
 abbrev pub warnings_if : Bool → Warned → Warnings
 warnings_if true warned = all_in warned

@@ -1,7 +1,7 @@
 -- What the calls do to what an open object has shown.
 use Rattle.std.specs.Prelude.{ℕ, Bool, true, false, if◌then◌else◌, List, Option, Some, None}
 use Rattle.gj_json.specs.declared.names.Known.{Known}
-use Rattle.gj_json.specs.declared.names.Known.TheVariants.{TypeName, Coordinates, Geometries, Geometry, Properties, Features, Bbox, Id, Crs, Other}
+use Rattle.gj_json.specs.declared.names.Known.TheVariants.{TypeName, Coordinates, Geometries, Geometry, Properties, Features, Bbox, Id, Other}
 use Rattle.gj_json.specs.declared.names.Word.{Word}
 use Rattle.gj_json.specs.Tree.{Tree, Members, end_of_object, member}
 use Rattle.gj_json.specs.Names.{known_of}
@@ -16,7 +16,7 @@ use Rattle.gj_rules.specs.declared.member_slots.member_rules.MemberRules.{Member
 use Rattle.gj_rules.specs.Internal.FrameMeaning.{MemberSlots}
 use Rattle.gj_rules.specs.Internal.FrameMeaning.{Shapes}
 use Rattle.gj_coords.specs.Items.{place_of}
-use Rattle.gj_rules.specs.Members.{is_known, type_of}
+use Rattle.gj_rules.specs.Members.{is_known, same, type_of}
 use Rattle.gj_rules.specs.Role.{is_allowed}
 use Rattle.gj_rules.specs.Faults.{selected, faults, listed}
 use Rattle.gj_rules.specs.Internal.MemberRules.{rules_of, rules_of_any, member_fault}
@@ -33,41 +33,16 @@ blank role place = record {
   repeated = None;
   type_value = None;
   shapes = no_shapes;
-  type_name = None;
-  coordinates = None;
-  geometries = None;
-  geometry = None;
-  properties = None;
-  features = None;
-  bbox = None;
-  id = None;
+  slots = λ name. None;
 }
 
 -- ---- slots
 
 abbrev pub slot_of : Known → MemberSlots → Option Slot
-slot_of TypeName slots = slots.type_name
-slot_of Coordinates slots = slots.coordinates
-slot_of Geometries slots = slots.geometries
-slot_of Geometry slots = slots.geometry
-slot_of Properties slots = slots.properties
-slot_of Features slots = slots.features
-slot_of Bbox slots = slots.bbox
-slot_of Id slots = slots.id
-slot_of Other slots = None
-slot_of Crs slots = None
+slot_of name slots = if is_known name then slots.slots name else None
 
 abbrev pub with_slot : Known → Slot → MemberSlots → MemberSlots
-with_slot TypeName slot slots = record slots { type_name = Some slot }
-with_slot Coordinates slot slots = record slots { coordinates = Some slot }
-with_slot Geometries slot slots = record slots { geometries = Some slot }
-with_slot Geometry slot slots = record slots { geometry = Some slot }
-with_slot Properties slot slots = record slots { properties = Some slot }
-with_slot Features slot slots = record slots { features = Some slot }
-with_slot Bbox slot slots = record slots { bbox = Some slot }
-with_slot Id slot slots = record slots { id = Some slot }
-with_slot Other slot slots = slots
-with_slot Crs slot slots = slots
+with_slot name slot slots = record slots { slots = λ n. if same n name then Some slot else slots.slots n }
 
 abbrev pub joined_to : Known → Option Fault → Option Slot → MemberSlots → MemberSlots
 joined_to name fault None slots = slots

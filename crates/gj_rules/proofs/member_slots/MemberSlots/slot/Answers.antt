@@ -1,4 +1,5 @@
 -- The first member of a name lies at its place.
+use Rattle.gj_rules.specs.Internal.FrameReading.{slots_in}
 use Rattle.gj_rules.proofs.Objects.SlotsByPlace.{slot_there, slot_not_there, slot_past}
 use Rattle.gj_rules.proofs.member_slots.MemberSlots.slot.Goals as goal
 use Rattle.gj_rules.proofs.member_slots.MemberSlots.slot.Goals.{else-index-lt-NAMES-via-then-index-lt-NAMES+else-self-index-eq1}
@@ -12,5 +13,5 @@ pub returns-else-index-lt-NAMES : goal.returns-else-index-lt-NAMES
 returns-else-index-lt-NAMES c = elim c.else-index-lt-NAMES.branch [
   | else-index-lt-NAMES-via-then-index-lt-NAMES+else-self-index-eq1 w ↦
       slot_not_there c.args.name c.args.self.now w.if-index-lt-NAMES.true w.if-self-index-eq1.false
-  | else-index-lt-NAMES-via-else-index-lt-NAMES w ↦ slot_past c.args.name _ w.if-index-lt-NAMES.false
+  | else-index-lt-NAMES-via-else-index-lt-NAMES w ↦ slot_past c.args.name (slots_in c.args.self.now) w.if-index-lt-NAMES.false
 ]
