@@ -25,7 +25,7 @@ mod tens;
 
 pub use decimal::Decimal;
 pub use literal::{Literal, Step};
-pub use prefix::{NumberPrefix, read_decimal};
+pub use prefix::read_decimal;
 pub use short::Short;
 pub use short::pair::{Pair, read_last_pair, read_pair};
 pub use short::prefix::read_short;

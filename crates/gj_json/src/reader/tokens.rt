@@ -27,7 +27,7 @@ use crate::names::{name_of, type_of};
 use crate::sink::EventSink;
 use crate::tokens::{constant_run, plain_quoted_run};
 use crate::usual::{usual_name, usual_text};
-use gj_number::{Decimal, Literal, read_decimal};
+use gj_number::{Decimal, Literal, Short, read_decimal};
 
 /// A piece of fewer bytes is taken byte by byte.
 const SHORTEST: usize = 16;
@@ -336,10 +336,12 @@ impl Reader {
         if is_cut(piece) {
             return 0;
         }
-        match read_decimal(piece) {
-            Some(found) => self.end_number(found.count, Some(found.value), piece, sink),
-            None => self.take_any_number(piece, sink),
+        let mut value = Short::zero().decimal();
+        let count = read_decimal(piece, &mut value);
+        if count == 0 {
+            return self.take_any_number(piece, sink);
         }
+        self.end_number(count, Some(value), piece, sink)
     }
 
     /// Takes the byte after a value, where it is a comma, a closing bracket or white space: 1, or 0.
@@ -411,26 +413,34 @@ impl Reader {
     {
         let mut at = 0;
         let mut numbers = 0;
-        while let Some(found) = read_decimal(&piece[at..]) {
-            let end = piece[at + found.count];
+        let mut value = Short::zero().decimal();
+        while at < piece.len() {
+            let count = read_decimal(&piece[at..], &mut value);
+            if count == 0 {
+                return Row {
+                    count: at,
+                    goes_on: false,
+                };
+            }
+            let end = piece[at + count];
             if end != b',' && end != b']' {
                 return Row {
                     count: at,
                     goes_on: false,
                 };
             }
-            numbers = numbers_with(found.count, numbers);
+            numbers = numbers_with(count, numbers);
             sink.tell(Event {
                 place: self.offset,
-                what: What::Number(Some(found.value)),
+                what: What::Number(Some(value)),
             });
             if end == b']' {
                 return Row {
-                    count: at + self.take_close(Level::Array, found.count + 1, sink),
+                    count: at + self.take_close(Level::Array, count + 1, sink),
                     goes_on: numbers >= MANY,
                 };
             }
-            at += self.skip(found.count + 1, Mode::ValueDue);
+            at += self.skip(count + 1, Mode::ValueDue);
         }
         Row {
             count: at,

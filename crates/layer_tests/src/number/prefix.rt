@@ -1,5 +1,5 @@
 //! What no clause says: which numbers are found at the start of a piece, and their decimals.
-use gj_number::read_decimal;
+use gj_number::{Short, read_decimal};
 
 /// Whether it is negative, its digits, its power of ten, and how many bytes it has.
 type Parts = (bool, u128, i16, usize);
@@ -9,12 +9,13 @@ fn parts(text: &str) -> Option<Parts> {
     for (to, from) in piece.iter_mut().zip(text.as_bytes()) {
         *to = *from;
     }
-    match read_decimal(&piece) {
-        Some(found) => {
-            let (negative, digits, power) = found.value.parts();
-            Some((negative, digits, power, found.count))
+    let mut value = Short::zero().decimal();
+    match read_decimal(&piece, &mut value) {
+        0 => None,
+        count => {
+            let (negative, digits, power) = value.parts();
+            Some((negative, digits, power, count))
         }
-        None => None,
     }
 }
 

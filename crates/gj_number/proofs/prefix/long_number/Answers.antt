@@ -54,7 +54,7 @@ new-requires c =
     }
 
 pub returns : goal.returns
-returns c =
+returns c = λ _.
     let piece = c.args.piece.now in
     let negative = c.args.negative in
     let first = bool_byte negative in

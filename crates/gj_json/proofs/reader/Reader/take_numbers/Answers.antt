@@ -9,24 +9,26 @@ use Rattle.gj_json.proofs.reader.Reader.take_numbers.Goals.{else-end-ne44-via-th
 
 pub returns-then-end-eq93-clause-feeds : goal.returns-then-end-eq93-clause-feeds
 returns-then-end-eq93-clause-feeds g c =
-    let i = c.loop-found.invariant in
-    let inner : inner_of (levels_in c.loop-found.self.levels) ≡ Some Array = ap (λ l. inner_of (levels_in l)) i.levels ∙ c.requires.inner in
+    let i = c.loop-at.invariant in
+    let found = c.read_decimal-count.ensures.number (omega (arith, c.if-count-eq0.false)) in
+    let inner : inner_of (levels_in c.loop-at.self.levels) ≡ Some Array = ap (λ l. inner_of (levels_in l)) i.levels ∙ c.requires.inner in
     rw (c.take_close.ensures.count)
-    (row_ends c.args.piece.now c.loop-found.at c.in-Some.found.count c.in-Some.found.value i.within c.in-Some.ensures.number c.args.self.now c.loop-found.self
+    (row_ends c.args.piece.now c.loop-at.at c.read_decimal-count.result c.read_decimal-count.new.value i.within found c.args.self.now c.loop-at.self
     c.take_close.new.self i.due inner i.fed c.requires.room c.if-end-eq93.true c.take_close.ensures.lands
     (λ events h. rw append_assoc at (c.take_close.ensures.heard _ (c.tell.ensures events h))))
 
-pub loop-found-preserved : goal.loop-found-preserved
-loop-found-preserved g c =
-    let i = c.loop-found.invariant in
+pub loop-at-preserved : goal.loop-at-preserved
+loop-at-preserved g c =
+    let i = c.loop-at.invariant in
+    let found = c.read_decimal-count.ensures.number (omega (arith, c.if-count-eq0.false)) in
     let p = c.skip-at.ensures.passed in
-    let inner : inner_of (levels_in c.loop-found.self.levels) ≡ Some Array = ap (λ l. inner_of (levels_in l)) i.levels ∙ c.requires.inner in
-    let w = row_within c.args.piece.now c.loop-found.at c.in-Some.found.count c.in-Some.found.value i.within c.in-Some.ensures.number in
+    let inner : inner_of (levels_in c.loop-at.self.levels) ≡ Some Array = ap (λ l. inner_of (levels_in l)) i.levels ∙ c.requires.inner in
+    let w = row_within c.args.piece.now c.loop-at.at c.read_decimal-count.result c.read_decimal-count.new.value i.within found in
     record {
       within = (let k = c.skip-at.ensures.count in omega arith);
       fed = rw (c.skip-at.ensures.count)
-          (row_goes_on c.args.piece.now c.loop-found.at c.in-Some.found.count c.in-Some.found.value i.within c.in-Some.ensures.number c.args.self.now
-          c.loop-found.self c.skip-at.new.self i.due inner i.fed c.requires.room
+          (row_goes_on c.args.piece.now c.loop-at.at c.read_decimal-count.result c.read_decimal-count.new.value i.within found c.args.self.now
+          c.loop-at.self c.skip-at.new.self i.due inner i.fed c.requires.room
           (elim c.else-end-ne44.branch [
             | else-end-ne44-via-then-end-ne44+else-end-ne93 w ↦ absurd (c.if-end-eq93.false w.if-end-ne93.false)
             | else-end-ne44-via-else-end-ne44 w ↦ w.if-end-ne44.false

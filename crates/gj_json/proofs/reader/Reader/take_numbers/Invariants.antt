@@ -3,13 +3,13 @@ use Rattle.gj_json.specs.Internal.FedReader.{FeedsAll}
 use Rattle.gj_json.specs.Internal.FlatParts.{awaits}
 use Rattle.gj_json.proofs.reader.Reader.take_numbers.Given as goal
 
-abbrev pub invariant-loop-found : goal.invariant-loop-found
-invariant-loop-found g l = record {
+abbrev pub invariant-loop-at : goal.invariant-loop-at
+invariant-loop-at g l = record {
   within : l.at ≤ length l.piece;
   fed : FeedsAll (g.S.EventSink.heard l.fn.sink) (g.S.EventSink.heard l.sink) l.fn.self l.self (take l.at l.piece);
   levels : l.self.levels ≡ l.fn.self.levels;
   due : awaits l.self.mode ≡ true;
 }
 
-abbrev pub decreases-loop-found : goal.decreases-loop-found
-decreases-loop-found g l = length l.piece - l.at
+abbrev pub decreases-loop-at : goal.decreases-loop-at
+decreases-loop-at g l = length l.piece - l.at
