@@ -133,7 +133,7 @@ impl<W: ValueReader, G: Gather<W>> ValueReader for Array<W, G> {
 }
 
 impl<W: ValueReader, G: Gather<W>> Array<W, G> {
-    ghost use Rattle.std.specs.Prelude.{◌≡◌};
+    ghost use Rattle.std.specs.Prelude.{◌≡◌, true};
     ghost use Rattle.gj_coords.specs.Internal.ArrayReader.{when_due, between, within, behind};
 
     fn due_event(&mut self, event: &Event)
@@ -168,17 +168,26 @@ impl<W: ValueReader, G: Gather<W>> Array<W, G> {
         self.after_item();
     }
 
-    /// After an event of an element: gathers the element where it has ended.
-    #[inline]
+    /// After an event of an element: gathers the element where it has ended. Mostly it goes on.
+    #[inline(always)]
     fn after_item(&mut self)
         ensures { self.new ≡ behind W.machine G.gathering self.old self.old.item }
     {
         if self.item.done() {
-            self.gather.add(&self.item);
-            self.item.again();
-            self.stage = Stage::Between;
+            self.gather_item();
         } else {
             self.stage = Stage::Within;
         }
+    }
+
+    /// Gathers the element, which has ended.
+    #[inline(never)]
+    fn gather_item(&mut self)
+        requires { W.machine.ended self.old.item ≡ true }
+        ensures { self.new ≡ behind W.machine G.gathering self.old self.old.item }
+    {
+        self.gather.add(&self.item);
+        self.item.again();
+        self.stage = Stage::Between;
     }
 }
