@@ -1,6 +1,7 @@
 -- What the first events of a text show of it, and what the rules keep of them.
 use Rattle.std.proofs.Common.{◌≡◌, ℕ, zero, suc, ◌+◌, ◌≤◌, Bool, true, false, ◌||◌, if◌then◌else◌, List, [], ◌∷◌, ◌++◌, map, inl, inr, Option, Some, None}
 use Rattle.std.proofs.Common.{is_some, refl, sym, ap, subst, ◌∙◌}
+use Rattle.std.specs.List.{list_any}
 use Rattle.std.proofs.lemmas.Bool.{or_left, or_right, or_cases}
 use Rattle.gj_json.specs.declared.constant.Constant.TheVariants.{Null, True, False}
 use Rattle.gj_json.specs.declared.event.Event.{Event}
@@ -31,9 +32,9 @@ use Rattle.gj_rules.specs.Faults.{faults, text_faults}
 use Rattle.gj_rules.specs.Internal.FrameCalls as F
 use Rattle.gj_rules.specs.Internal.RulesState.{core_of}
 use Rattle.gj_rules.specs.declared.member_slots.member_rules.MemberRules.{MemberRules}
-use Rattle.gj_rules.specs.Internal.MemberRules.{is_among, rules_of, rules_of_any, without_due, missing, asked_fault}
+use Rattle.gj_rules.specs.Internal.MemberRules.{is_among, rules_of, without_due, missing, asked_fault}
 use Rattle.gj_rules.specs.Internal.LostObjects.{fails_by, fails_as, type_lost, is_lost, core_lost}
-use Rattle.gj_rules.specs.Members.{is_known, mentions}
+use Rattle.gj_rules.specs.Members.{is_known, mentions, forbidden_by}
 use Rattle.gj_rules.specs.Role.{is_allowed}
 use Rattle.gj_rules.specs.Rules.{StandsFor}
 use Rattle.gj_rules.specs.Internal.OpenMembers as S
@@ -71,11 +72,11 @@ type_kept word f =
 
 typed_kept : (word : Word) (x : Fault) (f : MemberSlots)
     → Keeps (fails_as word f) (is_some (if is_allowed Role.Root word then S.as_type word f else S.as_none x f))
-typed_kept Word.Other x f e = lesser_second (S.members_fault rules_of_any f) (Some x) refl
+typed_kept Word.Other x f e = lesser_second (S.members_fault (rules_of Word.Other) f) (Some x) refl
 typed_kept word x f e = type_kept word f e
 
 rest_kept : (o : Option TypeValue) (f : MemberSlots) → f.role ≡ Role.Root → Keeps (type_lost o f) (is_some (S.rest_by o f))
-rest_kept None f r e = lesser_second (S.members_fault rules_of_any f) (Some (fault_at f.place G2)) refl
+rest_kept None f r e = lesser_second (S.members_fault (rules_of Word.Other) f) (Some (fault_at f.place G2)) refl
 rest_kept (Some value) f r e =
     subst (λ (role : Role). is_some (if is_allowed role value.word then S.as_type value.word f else S.as_none (fault_at value.place G3) f) ≡ true) (sym r)
     (typed_kept value.word (fault_at value.place G3) f e)
@@ -152,31 +153,28 @@ forbidden_there n i r g found h k b e =
     among_members n i (without_due r) g
     (rw (not_due n, b) (forbids (is_among r.used n) (fault_at g.place (missing n)) (S.slot_of n g) (h n k ∙ e)))
 
-either : (a b r : Bool) → Keeps a r → Keeps b r → Keeps (a || b) r
-either true b r p q e = p refl
-either false b r p q e = q e
+-- some of these names
+abbrev AllForbidden : MemberRules → List Known → Type 0
+AllForbidden r [] = Unit {0}
+AllForbidden r (n ∷ more) = CanBeForbidden n × (is_known n ≡ true) × (is_among r.forbidden n ≡ true) × AllForbidden r more
+
+some_lost : (xs : List Known) (r : MemberRules) (g : MemberSlots) (found : List Known) → Shown found g → AllForbidden r xs
+    → Keeps (list_any (mentions found) xs) (is_some (S.members_fault (without_due r) g))
+some_lost [] r g found h a e = cc
+some_lost (n ∷ more) r g found h (i, k, b, a) e = elim (or_cases (mentions found n) (list_any (mentions found) more) e) [
+  | inl here ↦ forbidden_there n i r g found h k b here
+  | inr later ↦ some_lost more r g found h a later
+]
 
 forbidden_lost : (word : Word) (g : MemberSlots) (found : List Known) → Shown found g → type_fails (Some word) found ≡ true → fails_as word g ≡ true
 forbidden_lost Word.Other g found h e = refl
-forbidden_lost Word.Feature g found h e =
-    let r : MemberRules = rules_of Word.Feature in
-    or_left (is_some (S.members_fault (without_due r) g)) _
-    (either (mentions found Coordinates) _ _ (forbidden_there Coordinates tt r g found h refl refl)
-    (either (mentions found Geometries) _ _ (forbidden_there Geometries tt r g found h refl refl)
-    (either (mentions found Features) _ _ (forbidden_there Features tt r g found h refl refl) (λ x. cc))) e)
 forbidden_lost Word.FeatureCollection g found h e =
-    let r : MemberRules = rules_of Word.FeatureCollection in
-    or_left (is_some (S.members_fault (without_due r) g)) _
-    (either (mentions found Coordinates) _ _ (forbidden_there Coordinates tt r g found h refl refl)
-    (either (mentions found Geometries) _ _ (forbidden_there Geometries tt r g found h refl refl)
-    (either (mentions found Geometry) _ _ (forbidden_there Geometry tt r g found h refl refl)
-    (either (mentions found Properties) _ _ (forbidden_there Properties tt r g found h refl refl) (λ x. cc)))) e)
+    or_left (is_some (S.members_fault (without_due (rules_of Word.FeatureCollection)) g)) _
+    (some_lost (forbidden_by Word.FeatureCollection) (rules_of Word.FeatureCollection) g found h
+    (tt, refl, refl, (tt, refl, refl, (tt, refl, refl, (tt, refl, refl, tt)))) e)
 forbidden_lost word g found h e =
-    let r : MemberRules = rules_of word in
-    or_left (is_some (S.members_fault (without_due r) g)) _
-    (either (mentions found Geometry) _ _ (forbidden_there Geometry tt r g found h refl refl)
-    (either (mentions found Properties) _ _ (forbidden_there Properties tt r g found h refl refl)
-    (either (mentions found Features) _ _ (forbidden_there Features tt r g found h refl refl) (λ x. cc))) e)
+    or_left (is_some (S.members_fault (without_due (rules_of word)) g)) _
+    (some_lost (forbidden_by word) (rules_of word) g found h (tt, refl, refl, (tt, refl, refl, (tt, refl, refl, tt))) e)
 
 type_is_lost : (o : Option TypeValue) (g : MemberSlots) (found : List Known) → Shown found g → type_fails (word_in o) found ≡ true → type_lost o g ≡ true
 type_is_lost None g found h e = cc

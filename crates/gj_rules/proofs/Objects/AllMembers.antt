@@ -1,7 +1,7 @@
 -- What all members do to what an object has shown.
 use Rattle.std.proofs.Common.{◌≡◌, ℕ, Bool, true, false, if◌then◌else◌, List, ◌∷◌, Option, Some, None, is_some, refl, sym, ap, subst, ◌∙◌}
 use Rattle.gj_json.specs.declared.names.Known.{Known}
-use Rattle.gj_json.specs.declared.names.Known.TheVariants.{TypeName, Coordinates, Other}
+use Rattle.gj_json.specs.declared.names.Known.TheVariants.{TypeName, Coordinates}
 use Rattle.gj_coords.specs.declared.fault.Fault.{Fault}
 use Rattle.gj_rules.specs.declared.role.Role.{Role}
 use Rattle.gj_rules.specs.declared.member_slots.Slot.{Slot}
@@ -20,7 +20,7 @@ use Rattle.gj_json.specs.Names.{known_of}
 use Rattle.gj_rules.specs.Internal.OpenMembers.{filled, member_taken, members_taken}
 use Rattle.gj_coords.specs.Internal.LeastLaws.{lesser-none, lesser_assoc, least-append}
 use Rattle.gj_rules.proofs.Objects.AskedShapes.{TypeStays, asked_twice}
-use Rattle.gj_rules.proofs.Objects.OneMember.{slot-other, slot-own, or_slot, slot_from}
+use Rattle.gj_rules.proofs.Objects.OneMember.{due_other, slot-other, slot-own, or_slot, slot_from}
 use Rattle.gj_rules.proofs.Objects.MemberSlots.{same_is}
 
 -- ---- what no member changes
@@ -28,6 +28,11 @@ use Rattle.gj_rules.proofs.Objects.MemberSlots.{same_is}
 pub record IsSameObject (old new : MemberSlots) : Type 0 where
   pub place : new.place ≡ old.place
   pub role : new.role ≡ old.role
+
+-- a joined fault changes the slots alone
+joined_slots : (m : Known) (x : Option Fault) (o : Option Slot) (f : MemberSlots) → joined_to m x o f ≡ record f { slots = (joined_to m x o f).slots }
+joined_slots m x None f = refl
+joined_slots m x (Some slot) f = refl
 
 pub joined_object : (m : Known) (x : Option Fault) (o : Option Slot) (f : MemberSlots) → IsSameObject f (joined_to m x o f)
 joined_object m x None f = record { place = refl; role = refl }
@@ -93,29 +98,18 @@ type_from (Some slot) had found = had
 type_from None had None = had
 type_from None had (Some value) = Some value
 
-joined_type : (m : Known) (x : Option Fault) (o : Option Slot) (f : MemberSlots) → (joined_to m x o f).type_value ≡ f.type_value
-joined_type m x None f = refl
-joined_type m x (Some slot) f = refl
-
 filled_type : (m : Known) (v : Tree) (f : MemberSlots) → same TypeName m ≡ false → (filled m v f).type_value ≡ f.type_value
 filled_type TypeName v f e = cc
 filled_type Coordinates v f e = refl
-filled_type m v f e = joined_type m (least (judge m v)) (slot_of m f) f
+filled_type m v f e = ap (λ (g : MemberSlots). g.type_value) (joined_slots m (least (judge m v)) (slot_of m f) f)
 
 pub named_type : (m : Known) (place : ℕ) (f : MemberSlots) (k : Bool) (o : Option Slot) → (if k then named_known m place o f else f).type_value ≡ f.type_value
 named_type m place f true (Some slot) = refl
 named_type m place f true None = refl
 named_type m place f false o = refl
 
-due_no_type : (m : Known) (f : MemberSlots) (k u : Bool) (o : Option Slot) → uses f.role m ≡ u → same TypeName m ≡ false
-    → same TypeName (if k then due_known m o f.role else Other) ≡ false
-due_no_type m f true u (Some slot) i e = refl
-due_no_type m f true true None i e = rw i e
-due_no_type m f true false None i e = rw i refl
-due_no_type m f false u o i e = refl
-
 type_other : (m : Known) (place : ℕ) (v : Tree) (f : MemberSlots) → same TypeName m ≡ false → (member_taken place m v f).type_value ≡ f.type_value
-type_other m place v f e = filled_type (due_after m f) v (named m place f) (due_no_type m f (is_known m) (uses f.role m) (slot_of m f) refl e)
+type_other m place v f e = filled_type (due_after m f) v (named m place f) (due_other TypeName m (is_known m) (uses f.role m) (slot_of m f) f.role refl refl e)
     ∙ named_type m place f (is_known m) (slot_of m f)
 
 uses_type : (p : Role) → uses p TypeName ≡ true
@@ -185,29 +179,18 @@ shapes_from used (Some slot) known had found = had
 shapes_from used None known had None = had
 shapes_from used None known had (Some first) = if used then asked known (shapes_of first.value) else had
 
-joined_shapes : (m : Known) (x : Option Fault) (o : Option Slot) (f : MemberSlots) → (joined_to m x o f).shapes ≡ f.shapes
-joined_shapes m x None f = refl
-joined_shapes m x (Some slot) f = refl
-
 filled_shapes : (m : Known) (v : Tree) (f : MemberSlots) → same Coordinates m ≡ false → (filled m v f).shapes ≡ f.shapes
 filled_shapes Coordinates v f e = cc
 filled_shapes TypeName v f e = refl
-filled_shapes m v f e = joined_shapes m (least (judge m v)) (slot_of m f) f
+filled_shapes m v f e = ap (λ (g : MemberSlots). g.shapes) (joined_slots m (least (judge m v)) (slot_of m f) f)
 
 pub named_shapes : (m : Known) (place : ℕ) (f : MemberSlots) (k : Bool) (o : Option Slot) → (if k then named_known m place o f else f).shapes ≡ f.shapes
 named_shapes m place f true (Some slot) = refl
 named_shapes m place f true None = refl
 named_shapes m place f false o = refl
 
-due_no_shapes : (m : Known) (f : MemberSlots) (k u : Bool) (o : Option Slot) → uses f.role m ≡ u → same Coordinates m ≡ false
-    → same Coordinates (if k then due_known m o f.role else Other) ≡ false
-due_no_shapes m f true u (Some slot) i e = refl
-due_no_shapes m f true true None i e = rw i e
-due_no_shapes m f true false None i e = rw i refl
-due_no_shapes m f false u o i e = refl
-
 shapes_other : (m : Known) (place : ℕ) (v : Tree) (f : MemberSlots) → same Coordinates m ≡ false → (member_taken place m v f).shapes ≡ f.shapes
-shapes_other m place v f e = filled_shapes (due_after m f) v (named m place f) (due_no_shapes m f (is_known m) (uses f.role m) (slot_of m f) refl e)
+shapes_other m place v f e = filled_shapes (due_after m f) v (named m place f) (due_other Coordinates m (is_known m) (uses f.role m) (slot_of m f) f.role refl refl e)
     ∙ named_shapes m place f (is_known m) (slot_of m f)
 
 shapes_own : (place : ℕ) (v : Tree) (f : MemberSlots) (o : Option Slot) (u : Bool) → uses f.role Coordinates ≡ u → (f.slots Coordinates) ≡ o
@@ -264,14 +247,10 @@ shapes_after (member place name end value more) f h =
 
 -- ---- repeated names
 
-joined_repeated : (m : Known) (x : Option Fault) (o : Option Slot) (f : MemberSlots) → (joined_to m x o f).repeated ≡ f.repeated
-joined_repeated m x None f = refl
-joined_repeated m x (Some slot) f = refl
-
 filled_repeated : (m : Known) (v : Tree) (f : MemberSlots) → (filled m v f).repeated ≡ f.repeated
 filled_repeated TypeName v f = refl
 filled_repeated Coordinates v f = refl
-filled_repeated m v f = joined_repeated m (least (judge m v)) (slot_of m f) f
+filled_repeated m v f = ap (λ (g : MemberSlots). g.repeated) (joined_slots m (least (judge m v)) (slot_of m f) f)
 
 named_repeated : (m : Known) (place : ℕ) (f : MemberSlots) (k : Bool) (o : Option Slot)
     → (if k then named_known m place o f else f).repeated ≡ lesser f.repeated (least (again k (is_some o) place))

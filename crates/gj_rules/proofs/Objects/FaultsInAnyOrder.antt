@@ -8,11 +8,9 @@ use Rattle.gj_coords.specs.contracts.fault.Rule.{the_type}
 use Rattle.gj_coords.specs.Fault.{comes_first, lesser, least, number_of}
 use Rattle.gj_coords.specs.Internal.LeastLaws.{Tests, lesser-none, lesser_assoc, least-append}
 
-one_place : (p r q s : ℕ) → Tests p r q s ≡ true → Tests q s p r ≡ true → p ≡ q
-one_place p r q s h k = grind (arith, nat_tests)
-
-one_number : (p r q s : ℕ) → Tests p r q s ≡ true → Tests q s p r ≡ true → r ≡ s
-one_number p r q s h k = grind (arith, nat_tests)
+-- where each comes before the other, they are the same
+both_first : (p r q s : ℕ) → Tests p r q s ≡ true → Tests q s p r ≡ true → (p ≡ q) × (r ≡ s)
+both_first p r q s h k = (grind (arith, nat_tests), grind (arith, nat_tests))
 
 some_first : (p r q s : ℕ) → Tests p r q s ≡ false → Tests q s p r ≡ false → ⊥
 some_first p r q s h k = grind (arith, nat_tests)
@@ -20,13 +18,11 @@ some_first p r q s h k = grind (arith, nat_tests)
 one_rule : (r s : Rule) → number_of r ≡ number_of s → r ≡ s
 one_rule r s e = tag_one the_type (search rules) r s (omega arith)
 
-one_fault : (a b : Fault) → a.place ≡ b.place → a.rule ≡ b.rule → a ≡ b
-one_fault a b e h = λ i. record { place = e i; rule = h i }
-
 comm_of : (a b : Fault) (ab ba : Bool) → comes_first a b ≡ ab → comes_first b a ≡ ba → lesser (Some a) (Some b) ≡ lesser (Some b) (Some a)
 comm_of a b true true x y =
-    simp (x, y) (ap Some (one_fault a b (one_place a.place (number_of a.rule) b.place (number_of b.rule) x y)
-    (one_rule a.rule b.rule (one_number a.place (number_of a.rule) b.place (number_of b.rule) x y))))
+    let e = both_first a.place (number_of a.rule) b.place (number_of b.rule) x y in
+    let r : a.rule ≡ b.rule = one_rule a.rule b.rule e.1 in
+    simp (x, y) (λ i. Some (record { place = e.0 i; rule = r i }))
 comm_of a b true false x y = simp (x, y)
 comm_of a b false true x y = simp (x, y)
 comm_of a b false false x y = absurd (some_first a.place (number_of a.rule) b.place (number_of b.rule) x y)

@@ -110,16 +110,11 @@ holder_due n i place v g None false role e = rw e (at_holder n n i place g)
 holder_own : (n : Known) → IsHolder n → (place : ℕ) (v : Tree) (f : Frame)
     → gathered_of n (member_taken place n v f).gathered ≡ gathered_from (uses f.slots.role n) (slot_of n f.slots) (gathered_of n f.gathered) (judged_kept n v)
 holder_own n i place v f =
-    known (is_known n) (slot_of n f.slots) (holder_known n i)
-    ∙ holder_due n i place v f.gathered (slot_of n f.slots) (uses f.slots.role n) f.slots.role refl
-  where
-    due : Bool → Option Slot → Known
-    due b o = if b then due_known n o f.slots.role else Other
-
-    known : (b : Bool) (o : Option Slot) → b ≡ true
-        → gathered_of n (gathered_any (due b o) (judged_kept (due b o) v) (gathered_at n place f.gathered))
-        ≡ gathered_of n (gathered_any (due_known n o f.slots.role) (judged_kept (due_known n o f.slots.role) v) (gathered_at n place f.gathered))
-    known b o e = rw e refl
+    let o : Option Slot = slot_of n f.slots in
+    subst (λ (b : Bool). gathered_of n (gathered_any (if b then due_known n o f.slots.role else Other)
+    (judged_kept (if b then due_known n o f.slots.role else Other) v) (gathered_at n place f.gathered))
+    ≡ gathered_from (uses f.slots.role n) o (gathered_of n f.gathered) (judged_kept n v)) (sym (holder_known n i))
+    (holder_due n i place v f.gathered o (uses f.slots.role n) f.slots.role refl)
 
 from_set : (u : Bool) (o : Option Slot) (s : Slot) (had : Warnings) (found : Option Warnings) → o ≡ Some s → gathered_from u o had found ≡ had
 from_set u o s had found e = rw e refl

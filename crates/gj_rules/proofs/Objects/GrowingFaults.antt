@@ -18,8 +18,7 @@ use Rattle.std.proofs.lemmas.Nat.Bits.{bit_at-zero}
 use Rattle.gj_rules.specs.Members.{is_known, same}
 use Rattle.gj_rules.specs.Internal.OpenMembers.{slot_of, with_slot, joined, joined_to, shapes_set, named_known, fault_of, members_fault, shape_as}
 use Rattle.gj_rules.specs.Internal.Summaries.{no_shapes, shape_for, simple_of}
-use Rattle.gj_rules.proofs.Objects.OneMember.{slot_of-other}
-use Rattle.gj_rules.proofs.Objects.MemberSlots.{same_is, slot_of-with}
+use Rattle.gj_rules.proofs.Objects.MemberSlots.{same_is}
 use Rattle.gj_rules.proofs.Objects.AskedShapes.{TypeStays, no_fault}
 
 -- ---- truth
@@ -189,16 +188,12 @@ type_same (Some value) p e = e
 -- of the slots, what may be said of the one that was set holds of each
 each_slot : (P : Option Slot → Option Slot → Type 0) → ((o : Option Slot) → P o o) → (m : Known) (s : Slot) (f : MemberSlots) → P (slot_of m f) (Some s)
     → (n : Known) → P (slot_of n f) (slot_of n (with_slot m s f))
-each_slot P same_kept m s f h n = go (is_known m) (same n m) refl refl
+each_slot P same_kept m s f h n = go (is_known n) (same n m) refl refl
   where
-    go : (k b : Bool) → is_known m ≡ k → same n m ≡ b → P (slot_of n f) (slot_of n (with_slot m s f))
-    go k false d e = subst (λ (o : Option Slot). P (slot_of n f) o) (sym (slot_of-other n m s f e)) (same_kept (slot_of n f))
-    go true true d e =
-        subst (λ (x : Known). P (slot_of x f) (slot_of x (with_slot m s f))) (sym (same_is n m e))
-        (subst (λ (o : Option Slot). P (slot_of m f) o) (sym (slot_of-with m s f d)) h)
-    go false true d e =
-        let k : is_known n ≡ false = ap is_known (same_is n m e) ∙ d in
-        rw k (same_kept None)
+    go : (k b : Bool) → is_known n ≡ k → same n m ≡ b → P (if k then f.slots n else None) (if k then (if b then Some s else f.slots n) else None)
+    go false b i e = same_kept None
+    go true false i e = same_kept (f.slots n)
+    go true true i e = rw i at (subst (λ (q : Known). P (slot_of q f) (Some s)) (sym (same_is n m e)) h)
 
 some_set : (o : Option Slot) (s : Slot) → Keeps (is_some o) (is_some (Some s))
 some_set o s e = refl

@@ -1,5 +1,5 @@
 -- What one member does to what an object has shown.
-use Rattle.std.proofs.Common.{◌≡◌, ℕ, Bool, true, false, if◌then◌else◌, Option, Some, None, refl, ◌∙◌}
+use Rattle.std.proofs.Common.{◌≡◌, ℕ, Bool, true, false, if◌then◌else◌, Option, Some, None, refl, sym, subst, ◌∙◌}
 use Rattle.gj_json.specs.declared.names.Known.{Known}
 use Rattle.gj_json.specs.declared.names.Known.TheVariants.{TypeName, Coordinates, Crs, Other}
 use Rattle.gj_coords.specs.declared.fault.Fault.{Fault}
@@ -81,9 +81,8 @@ own_slot m place v f false None i e k = rw i (slot_of-with m (record { name_at =
 pub slot-own : (m : Known) (place : ℕ) (v : Tree) (f : MemberSlots) → is_known m ≡ true
     → slot_of m (member_taken place m v f) ≡ or_slot (slot_of m f)
     (slot_from (uses f.role m) (Some (record { name_at = place; value = v; faults = judge m v })))
-slot-own m place v f k = known (is_known m) (slot_of m f) k ∙ own_slot m place v f (uses f.role m) (slot_of m f) refl refl k
-  where
-    known : (b : Bool) (o : Option Slot) → b ≡ true
-        → slot_of m (filled (if b then due_known m o f.role else Other) v (if b then named_known m place o f else f))
-        ≡ slot_of m (filled (due_known m o f.role) v (named_known m place o f))
-    known b o e = rw e refl
+slot-own m place v f k =
+    let o : Option Slot = slot_of m f in
+    subst (λ (b : Bool). slot_of m (filled (if b then due_known m o f.role else Other) v (if b then named_known m place o f else f))
+    ≡ or_slot o (slot_from (uses f.role m) (Some (record { name_at = place; value = v; faults = judge m v })))) (sym k)
+    (own_slot m place v f (uses f.role m) o refl refl k)

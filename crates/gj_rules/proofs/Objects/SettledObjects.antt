@@ -23,7 +23,8 @@ use Rattle.gj_rules.specs.Faults.{First, faults}
 use Rattle.gj_rules.specs.Internal.OpenMembers.{members_taken}
 use Rattle.gj_coords.specs.Internal.LeastLaws.{lesser-none, least-append, lesser_assoc}
 use Rattle.gj_rules.proofs.Objects.FaultsInAnyOrder.{lesser_comm, least_after, least_swap}
-use Rattle.gj_rules.specs.Internal.MemberRules.{rules_of, asked_fault}
+use Rattle.gj_rules.specs.declared.member_slots.member_rules.MemberRules.{MemberRules}
+use Rattle.gj_rules.specs.Internal.MemberRules.{is_among, rules_of, missing, asked_fault, member_fault}
 use Rattle.gj_rules.proofs.Objects.OneMember.{or_slot, slot_from}
 use Rattle.gj_rules.proofs.Objects.AllMembers.{IsSameObject, members_object, slots_after, type_from, type_after, shapes_from, shapes_after, repeated_after}
 use Rattle.gj_rules.specs.Internal.FrameMeaning.{Shapes}
@@ -55,31 +56,38 @@ shown_for role place p = shown_with role place (shapes_from (F.uses role Coordin
 
 -- ---- of one name
 
-forbidden_is : (used : Bool) (x : Fault) (o : Option First) → asked_fault false false true x (slot_from used o) ≡ least (R.forbidden o)
-forbidden_is used x None = refl
-forbidden_is used x (Some first) = refl
-
-free_is : (used : Bool) (x : Fault) (o : Option First) → asked_fault false false false x (slot_from used o) ≡ None
-free_is used x None = refl
-free_is used x (Some first) = refl
-
-due_is : (used : Bool) (place : ℕ) (rule : Rule) (o : Option First) → used ≡ true
-    → asked_fault true true false (fault_at place rule) (slot_from used o) ≡ least (R.due place rule o)
-due_is used place rule None e = refl
-due_is used place rule (Some first) e = rw e refl
-
-optional_is : (used : Bool) (x : Fault) (o : Option First) → used ≡ true → asked_fault false true false x (slot_from used o) ≡ least (R.optional o)
-optional_is used x None e = refl
-optional_is used x (Some first) e = rw e refl
-
 -- of `coordinates`, whose faults depend on the type
-abbrev lacking : ℕ → Option First → List Fault
-lacking place None = one place G4
-lacking place (Some first) = []
+abbrev lacking : ℕ → Rule → Option First → List Fault
+lacking place rule None = one place rule
+lacking place rule (Some first) = []
 
-lacking_is : (used : Bool) (place : ℕ) (o : Option First) → asked_fault true false false (fault_at place G4) (slot_from used o) ≡ least (lacking place o)
-lacking_is used place None = refl
-lacking_is used place (Some first) = refl
+-- what is asked of a name: whether it is due, used and forbidden, and whether its value is looked at
+abbrev IsAsked : Bool → Bool → Bool → Bool → Type 0
+IsAsked false false forbidden looked = Unit {0}
+IsAsked true false false looked = Unit {0}
+IsAsked due true false true = Unit {0}
+IsAsked _ _ _ _ = ⊥
+
+abbrev asked_faults : Bool → Bool → Bool → ℕ → Rule → Option First → List Fault
+asked_faults false false false place rule o = []
+asked_faults false used true place rule o = R.forbidden o
+asked_faults true false forbidden place rule o = lacking place rule o
+asked_faults true true forbidden place rule o = R.due place rule o
+asked_faults false true false place rule o = R.optional o
+
+asked_is : (d u b k : Bool) (place : ℕ) (rule : Rule) (o : Option First) → IsAsked d u b k
+    → asked_fault d u b (fault_at place rule) (slot_from k o) ≡ least (asked_faults d u b place rule o)
+asked_is false false false k place rule None a = refl
+asked_is false false false k place rule (Some first) a = refl
+asked_is false false true k place rule None a = refl
+asked_is false false true k place rule (Some first) a = refl
+asked_is true false false k place rule None a = refl
+asked_is true false false k place rule (Some first) a = refl
+asked_is true true false true place rule None a = refl
+asked_is true true false true place rule (Some first) a = refl
+asked_is false true false true place rule None a = refl
+asked_is false true false true place rule (Some first) a = refl
+asked_is _ _ _ _ place rule o a = absurd a
 
 -- ---- of some names
 
@@ -89,12 +97,6 @@ also x xs y ys e f = ap (λ z. lesser z y) e ∙ (ap (λ z. lesser (least xs) z)
 
 abbrev forbidden_members : List Known → ObjectMembers → List Fault
 forbidden_members names p = flat_map (λ name. R.forbidden (p.of name)) names
-
--- of all seven
-all_of : (b c d g q f i : List Fault) (o u v w x y z : Option Fault) → o ≡ least b → u ≡ least c → v ≡ least d → w ≡ least g → x ≡ least q → y ≡ least f
-    → z ≡ least i → lesser o (lesser u (lesser v (lesser w (lesser x (lesser y z))))) ≡ least (b ++ (c ++ (d ++ (g ++ (q ++ (f ++ i))))))
-all_of b c d g q f i o u v w x y z k l m n r s t =
-    also o b _ _ k (also u c _ _ l (also v d _ _ m (also w g _ _ n (also x q _ _ r (also y f z i s t)))))
 
 -- the bounding box, then others and the forbidden ones, then the coordinates
 turned : (b c r d : List Fault) (x : Option Fault) → lesser (least c) x ≡ least d → lesser (least (b ++ (c ++ r))) x ≡ least (b ++ (r ++ d))
@@ -115,10 +117,6 @@ passed b c d g q f i =
     least_after b _ _ (least_after c _ _ (least_after d _ _ (least_after g _ _ (least_swap q f i) ∙ least_swap g f (q ++ i))))
     ∙ ap (λ (xs : List Fault). least (b ++ xs)) (three_first c d f (g ++ (q ++ i)))
 
-uses_bbox : (role : Role) → F.uses role Bbox ≡ true
-uses_bbox Role.Root = refl
-uses_bbox _ = refl
-
 -- ---- of each type
 
 shape_is : (simple : Simple) (v : Tree) → shape_for simple (shapes_of v) ≡ least (coordinates_faults simple v)
@@ -129,108 +127,99 @@ shape_is Simple.MultiLineString v = refl
 shape_is Simple.Polygon v = refl
 shape_is Simple.MultiPolygon v = refl
 
-coordinates_is : (simple : Simple) (used : Bool) (place : ℕ) (o : Option First) → used ≡ true
-    → lesser (least (lacking place o)) (shape_for simple (shapes_from used None None no_shapes o)) ≡ least (R.due_coordinates simple place o)
-coordinates_is simple used place None e = rw (no_fault simple) refl
-coordinates_is simple used place (Some first) e = rw e (shape_is simple first.value)
+coordinates_is : (simple : Simple) (place : ℕ) (o : Option First)
+    → lesser (least (lacking place G4 o)) (shape_for simple (shapes_from true None None no_shapes o)) ≡ least (R.due_coordinates simple place o)
+coordinates_is simple place None = rw (no_fault simple) refl
+coordinates_is simple place (Some first) = shape_is simple first.value
 
-simple_is : (simple : Simple) (role : Role) (place : ℕ) (p : ObjectMembers) → F.uses role Coordinates ≡ true
-    → lesser (F.members_fault (rules_of Word.Point) (shown_for role place p)) (shape_for simple (shown_for role place p).shapes)
+abbrev faults_of : MemberRules → ℕ → ObjectMembers → Known → List Fault
+faults_of rules place p n = asked_faults (is_among rules.due n) (is_among rules.used n) (is_among rules.forbidden n) place (missing n) (p.of n)
+
+abbrev Asks : MemberRules → Role → Known → Type 0
+Asks rules role n = IsAsked (is_among rules.due n) (is_among rules.used n) (is_among rules.forbidden n) (F.uses role n)
+
+members_is : (rules : MemberRules) (role : Role) (place : ℕ) (x : Shapes) (p : ObjectMembers) → Asks rules role Bbox → Asks rules role Coordinates
+    → Asks rules role Geometries → Asks rules role Geometry → Asks rules role Properties → Asks rules role Features → Asks rules role Id
+    → F.members_fault rules (shown_with role place x p)
+    ≡ least (faults_of rules place p Bbox ++ (faults_of rules place p Coordinates ++ (faults_of rules place p Geometries
+    ++ (faults_of rules place p Geometry ++ (faults_of rules place p Properties ++ (faults_of rules place p Features ++ faults_of rules place p Id))))))
+unfolding F.members_fault
+members_is rules role place x p a b c d e f g =
+    next Bbox _ _ a (next Coordinates _ _ b (next Geometries _ _ c (next Geometry _ _ d (next Properties _ _ e (next Features _ _ f (of Id g))))))
+  where
+    of : (n : Known) → Asks rules role n → member_fault rules place n (slot_from (F.uses role n) (p.of n)) ≡ least (faults_of rules place p n)
+    of n h = asked_is (is_among rules.due n) (is_among rules.used n) (is_among rules.forbidden n) (F.uses role n) place (missing n) (p.of n) h
+
+    next : (n : Known) (y : Option Fault) (ys : List Fault) → Asks rules role n → y ≡ least ys
+        → lesser (member_fault rules place n (slot_from (F.uses role n) (p.of n))) y ≡ least (faults_of rules place p n ++ ys)
+    next n y ys h k = also _ (faults_of rules place p n) y ys (of n h) k
+
+simple_is : (simple : Simple) (place : ℕ) (p : ObjectMembers) (y : Option Fault)
+    → y ≡ least (R.optional (p.of Bbox) ++ (lacking place G4 (p.of Coordinates) ++ forbidden_members (Geometry ∷ Properties ∷ Features ∷ []) p))
+    → lesser y (shape_for simple (shapes_from true None None no_shapes (p.of Coordinates)))
     ≡ least (R.optional (p.of Bbox) ++ (forbidden_members (Geometry ∷ Properties ∷ Features ∷ []) p ++ R.due_coordinates simple place (p.of Coordinates)))
-unfolding F.members_fault
-simple_is simple role place p e =
-    ap (λ (x : Option Fault). lesser x (shape_for simple (shown_for role place p).shapes))
-    (all_of (R.optional (p.of Bbox)) (lacking place (p.of Coordinates)) [] (R.forbidden (p.of Geometry)) (R.forbidden (p.of Properties))
-    (R.forbidden (p.of Features)) [] _ _ _ _ _ _ _ (optional_is (F.uses role Bbox) (fault_at place G4) (p.of Bbox) (uses_bbox role))
-    (lacking_is (F.uses role Coordinates) place (p.of Coordinates)) (free_is (F.uses role Geometries) (fault_at place G5) (p.of Geometries))
-    (forbidden_is (F.uses role Geometry) (fault_at place G6) (p.of Geometry))
-    (forbidden_is (F.uses role Properties) (fault_at place G7) (p.of Properties))
-    (forbidden_is (F.uses role Features) (fault_at place G8) (p.of Features)) (free_is (F.uses role Id) (fault_at place G4) (p.of Id)))
-    ∙ turned (R.optional (p.of Bbox)) (lacking place (p.of Coordinates)) (forbidden_members (Geometry ∷ Properties ∷ Features ∷ []) p)
-    (R.due_coordinates simple place (p.of Coordinates)) _ (coordinates_is simple (F.uses role Coordinates) place (p.of Coordinates) e)
+simple_is simple place p y e =
+    ap (λ (x : Option Fault). lesser x (shape_for simple (shapes_from true None None no_shapes (p.of Coordinates)))) e
+    ∙ turned (R.optional (p.of Bbox)) (lacking place G4 (p.of Coordinates)) (forbidden_members (Geometry ∷ Properties ∷ Features ∷ []) p)
+    (R.due_coordinates simple place (p.of Coordinates)) _ (coordinates_is simple place (p.of Coordinates))
 
-collection_is : (role : Role) (place : ℕ) (p : ObjectMembers) → F.uses role Geometries ≡ true
-    → F.as_type Word.GeometryCollection (shown_for role place p)
+collection_is : (place : ℕ) (p : ObjectMembers) (y : Option Fault)
+    → y ≡ least (R.optional (p.of Bbox) ++ (R.due place G5 (p.of Geometries) ++ forbidden_members (Geometry ∷ Properties ∷ Features ∷ []) p))
+    → lesser y None
     ≡ least (R.optional (p.of Bbox) ++ (forbidden_members (Geometry ∷ Properties ∷ Features ∷ []) p ++ R.due place G5 (p.of Geometries)))
-unfolding F.members_fault
-collection_is role place p e =
-    ap (λ (x : Option Fault). lesser x None)
-    (all_of (R.optional (p.of Bbox)) [] (R.due place G5 (p.of Geometries)) (R.forbidden (p.of Geometry)) (R.forbidden (p.of Properties))
-    (R.forbidden (p.of Features)) [] _ _ _ _ _ _ _ (optional_is (F.uses role Bbox) (fault_at place G4) (p.of Bbox) (uses_bbox role))
-    (free_is (F.uses role Coordinates) (fault_at place G4) (p.of Coordinates)) (due_is (F.uses role Geometries) place G5 (p.of Geometries) e)
-    (forbidden_is (F.uses role Geometry) (fault_at place G6) (p.of Geometry))
-    (forbidden_is (F.uses role Properties) (fault_at place G7) (p.of Properties))
-    (forbidden_is (F.uses role Features) (fault_at place G8) (p.of Features)) (free_is (F.uses role Id) (fault_at place G4) (p.of Id)))
+collection_is place p y e =
+    ap (λ (x : Option Fault). lesser x None) e
     ∙ turned (R.optional (p.of Bbox)) (R.due place G5 (p.of Geometries)) (forbidden_members (Geometry ∷ Properties ∷ Features ∷ []) p)
     (R.due place G5 (p.of Geometries)) None (lesser-none (least (R.due place G5 (p.of Geometries))))
 
-feature_is : (role : Role) (place : ℕ) (p : ObjectMembers) → F.uses role Geometry ≡ true → F.uses role Properties ≡ true
-    → F.uses role Id ≡ true
-    → F.as_type Word.Feature (shown_for role place p)
+feature_is : (place : ℕ) (p : ObjectMembers) (y : Option Fault)
+    → y ≡ least (R.optional (p.of Bbox) ++ (R.forbidden (p.of Coordinates) ++ (R.forbidden (p.of Geometries) ++ (R.due place G6 (p.of Geometry)
+    ++ (R.due place G7 (p.of Properties) ++ (R.forbidden (p.of Features) ++ R.optional (p.of Id)))))))
+    → lesser y None
     ≡ least (R.optional (p.of Bbox) ++ (forbidden_members (Coordinates ∷ Geometries ∷ Features ∷ []) p ++ R.as_type Word.Feature place p.of))
-unfolding F.members_fault
-feature_is role place p g q i =
-    lesser-none (F.members_fault (rules_of Word.Feature) (shown_for role place p))
-    ∙ (all_of (R.optional (p.of Bbox)) (R.forbidden (p.of Coordinates)) (R.forbidden (p.of Geometries)) (R.due place G6 (p.of Geometry))
-    (R.due place G7 (p.of Properties)) (R.forbidden (p.of Features)) (R.optional (p.of Id)) _ _ _ _ _ _ _
-    (optional_is (F.uses role Bbox) (fault_at place G4) (p.of Bbox) (uses_bbox role))
-    (forbidden_is (F.uses role Coordinates) (fault_at place G4) (p.of Coordinates))
-    (forbidden_is (F.uses role Geometries) (fault_at place G5) (p.of Geometries)) (due_is (F.uses role Geometry) place G6 (p.of Geometry) g)
-    (due_is (F.uses role Properties) place G7 (p.of Properties) q) (forbidden_is (F.uses role Features) (fault_at place G8) (p.of Features))
-    (optional_is (F.uses role Id) (fault_at place G4) (p.of Id) i)
-    ∙ passed (R.optional (p.of Bbox)) (R.forbidden (p.of Coordinates)) (R.forbidden (p.of Geometries)) (R.due place G6 (p.of Geometry))
+feature_is place p y e =
+    lesser-none y
+    ∙ (e ∙ passed (R.optional (p.of Bbox)) (R.forbidden (p.of Coordinates)) (R.forbidden (p.of Geometries)) (R.due place G6 (p.of Geometry))
     (R.due place G7 (p.of Properties)) (R.forbidden (p.of Features)) (R.optional (p.of Id)))
 
-features_is : (role : Role) (place : ℕ) (p : ObjectMembers) → F.uses role Features ≡ true
-    → F.as_type Word.FeatureCollection (shown_for role place p)
+features_is : (place : ℕ) (p : ObjectMembers) (y : Option Fault)
+    → y ≡ least (R.optional (p.of Bbox) ++ (R.forbidden (p.of Coordinates) ++ (R.forbidden (p.of Geometries) ++ (R.forbidden (p.of Geometry)
+    ++ (R.forbidden (p.of Properties) ++ (R.due place G8 (p.of Features) ++ []))))))
+    → lesser y None
     ≡ least (R.optional (p.of Bbox) ++ (forbidden_members (Coordinates ∷ Geometries ∷ Geometry ∷ Properties ∷ []) p ++ R.due place G8 (p.of Features)))
-unfolding F.members_fault
-features_is role place p e =
-    lesser-none (F.members_fault (rules_of Word.FeatureCollection) (shown_for role place p))
-    ∙ (all_of (R.optional (p.of Bbox)) (R.forbidden (p.of Coordinates)) (R.forbidden (p.of Geometries)) (R.forbidden (p.of Geometry))
-    (R.forbidden (p.of Properties)) (R.due place G8 (p.of Features)) [] _ _ _ _ _ _ _
-    (optional_is (F.uses role Bbox) (fault_at place G4) (p.of Bbox) (uses_bbox role))
-    (forbidden_is (F.uses role Coordinates) (fault_at place G4) (p.of Coordinates))
-    (forbidden_is (F.uses role Geometries) (fault_at place G5) (p.of Geometries))
-    (forbidden_is (F.uses role Geometry) (fault_at place G6) (p.of Geometry))
-    (forbidden_is (F.uses role Properties) (fault_at place G7) (p.of Properties)) (due_is (F.uses role Features) place G8 (p.of Features) e)
-    (free_is (F.uses role Id) (fault_at place G4) (p.of Id))
-    ∙ ap (λ (xs : List Fault). least (R.optional (p.of Bbox) ++ xs))
+features_is place p y e =
+    lesser-none y
+    ∙ (e ∙ ap (λ (xs : List Fault). least (R.optional (p.of Bbox) ++ xs))
     (four_first (R.forbidden (p.of Coordinates)) (R.forbidden (p.of Geometries)) (R.forbidden (p.of Geometry)) (R.forbidden (p.of Properties))
     (R.due place G8 (p.of Features))))
 
 -- where the type is missing or wrong
 none_is : (role : Role) (x : Fault) (place : ℕ) (p : ObjectMembers)
     → F.as_none x (shown_for role place p) ≡ least (R.optional (p.of Bbox) ++ x ∷ [])
-unfolding F.members_fault
-none_is role x place p =
-    ap (λ (y : Option Fault). lesser y (Some x))
-    (all_of (R.optional (p.of Bbox)) [] [] [] [] [] [] _ _ _ _ _ _ _
-    (optional_is (F.uses role Bbox) (fault_at place G4) (p.of Bbox) (uses_bbox role))
-    (free_is (F.uses role Coordinates) (fault_at place G4) (p.of Coordinates)) (free_is (F.uses role Geometries) (fault_at place G5) (p.of Geometries))
-    (free_is (F.uses role Geometry) (fault_at place G6) (p.of Geometry)) (free_is (F.uses role Properties) (fault_at place G7) (p.of Properties))
-    (free_is (F.uses role Features) (fault_at place G8) (p.of Features)) (free_is (F.uses role Id) (fault_at place G4) (p.of Id))
-    ∙ ap least (append-nil (R.optional (p.of Bbox))))
-    ∙ sym (least-append (R.optional (p.of Bbox)) (x ∷ []))
+none_is role x place p = also _ (R.optional (p.of Bbox)) (Some x) (x ∷ []) (bbox_alone role ∙ ap least (append-nil (R.optional (p.of Bbox)))) refl
+  where
+    bbox_alone : (role : Role) → F.members_fault (rules_of Word.Other) (shown_for role place p) ≡ least (R.optional (p.of Bbox) ++ [])
+    bbox_alone Role.Root = members_is (rules_of Word.Other) Role.Root place _ p tt tt tt tt tt tt tt
+    bbox_alone role = members_is (rules_of Word.Other) role place _ p tt tt tt tt tt tt tt
 
 -- at each role, for each type that is allowed there
 typed_is : (role : Role) (word : Word) (at : ℕ) (place : ℕ) (p : ObjectMembers)
     → (if is_allowed role word then F.as_type word (shown_for role place p) else F.as_none (fault_at at G3) (shown_for role place p))
     ≡ least (R.optional (p.of Bbox) ++ (if is_allowed role word then forbidden_members (forbidden_by word) p ++ R.as_type word place p.of else one at G3))
 typed_is role Word.Other at place p = none_is role (fault_at at G3) place p
-typed_is Role.Root Word.Feature at place p = feature_is Role.Root place p refl refl refl
-typed_is Role.Feature Word.Feature at place p = feature_is Role.Feature place p refl refl refl
+typed_is Role.Root Word.Feature at place p = feature_is place p _ (members_is (rules_of Word.Feature) Role.Root place _ p tt tt tt tt tt tt tt)
+typed_is Role.Feature Word.Feature at place p = feature_is place p _ (members_is (rules_of Word.Feature) Role.Feature place _ p tt tt tt tt tt tt tt)
 typed_is role Word.Feature at place p = none_is role (fault_at at G3) place p
-typed_is Role.Root Word.FeatureCollection at place p = features_is Role.Root place p refl
+typed_is Role.Root Word.FeatureCollection at place p = features_is place p _ (members_is (rules_of Word.FeatureCollection) Role.Root place _ p tt tt tt tt tt tt tt)
 typed_is role Word.FeatureCollection at place p = none_is role (fault_at at G3) place p
 typed_is Role.Feature word at place p = none_is Role.Feature (fault_at at G3) place p
-typed_is role Word.GeometryCollection at place p = collection_is role place p refl
-typed_is role Word.Point at place p = simple_is Simple.Point role place p refl
-typed_is role Word.MultiPoint at place p = simple_is Simple.MultiPoint role place p refl
-typed_is role Word.LineString at place p = simple_is Simple.LineString role place p refl
-typed_is role Word.MultiLineString at place p = simple_is Simple.MultiLineString role place p refl
-typed_is role Word.Polygon at place p = simple_is Simple.Polygon role place p refl
-typed_is role Word.MultiPolygon at place p = simple_is Simple.MultiPolygon role place p refl
+typed_is role Word.GeometryCollection at place p = collection_is place p _ (members_is (rules_of Word.GeometryCollection) role place _ p tt tt tt tt tt tt tt)
+typed_is role Word.Point at place p = simple_is Simple.Point place p _ (members_is (rules_of Word.Point) role place _ p tt tt tt tt tt tt tt)
+typed_is role Word.MultiPoint at place p = simple_is Simple.MultiPoint place p _ (members_is (rules_of Word.Point) role place _ p tt tt tt tt tt tt tt)
+typed_is role Word.LineString at place p = simple_is Simple.LineString place p _ (members_is (rules_of Word.Point) role place _ p tt tt tt tt tt tt tt)
+typed_is role Word.MultiLineString at place p = simple_is Simple.MultiLineString place p _ (members_is (rules_of Word.Point) role place _ p tt tt tt tt tt tt tt)
+typed_is role Word.Polygon at place p = simple_is Simple.Polygon place p _ (members_is (rules_of Word.Point) role place _ p tt tt tt tt tt tt tt)
+typed_is role Word.MultiPolygon at place p = simple_is Simple.MultiPolygon place p _ (members_is (rules_of Word.Point) role place _ p tt tt tt tt tt tt tt)
 
 rest_is : (role : Role) (place : ℕ) (p : ObjectMembers) (o : Option TypeValue)
     → F.rest_by o (shown_for role place p) ≡ least (R.optional (p.of Bbox) ++ R.by_type o role place p.of)
@@ -249,11 +238,8 @@ parts_of members = record {
 }
 
 pub none_set : (role : Role) (place : ℕ) (n : Known) → F.slot_of n (F.blank role place) ≡ None
-none_set role place n = go (is_known n)
-  where
-    go : (b : Bool) → if◌then◌else◌ {A = Option Slot} b None None ≡ None
-    go true = refl
-    go false = refl
+none_set role place Bbox = refl
+none_set role place _ = refl
 
 -- what is shown of the known names
 abbrev pub known_slots : MemberSlots → MemberSlots

@@ -1,5 +1,7 @@
 -- Whether what the object of a text has shown breaks a rule, whatever its members to come are.
-use Rattle.std.specs.Prelude.{Bool, true, ◌&&◌, ◌||◌, List, [], ◌∷◌, Option, Some, None, is_some}
+use denote.Enum.Bare.{sameb}
+use Rattle.std.specs.Prelude.{Bool, ◌&&◌, ◌||◌, List, [], ◌∷◌, Option, Some, None, is_some}
+use Rattle.gj_json.specs.contracts.names.Word.{the_type}
 use Rattle.gj_json.specs.declared.names.Word.{Word}
 use Rattle.gj_rules.specs.Internal.FrameMeaning.{Frame, MemberSlots}
 use Rattle.gj_rules.specs.declared.member_slots.TypeValue.{TypeValue}
@@ -16,8 +18,7 @@ fails_by word f = is_some (members_fault (without_due (rules_of word)) f) || is_
 
 -- none of the nine types fails always
 abbrev pub fails_as : Word → MemberSlots → Bool
-fails_as Word.Other f = true
-fails_as word f = fails_by word f
+fails_as word f = sameb the_type word Word.Other || fails_by word f
 
 -- ---- whatever its type
 

@@ -43,12 +43,9 @@ bits_of (name ∷ more) = bit_or (2 ^ index_of name) (bits_of more)
 abbrev pub is_among : ℕ → Known → Bool
 is_among names name = nat_eq (bit_at names (index_of name)) 1
 
+-- of `Other` where the type is missing or wrong
 abbrev pub rules_of : Word → MemberRules
 rules_of word = record { due = bits_of (due_by word); used = bits_of (used_by word); forbidden = bits_of (forbidden_by word) }
-
--- of an object whose type is missing or wrong
-abbrev pub rules_of_any : MemberRules
-rules_of_any = record { due = 0; used = bits_of (Bbox ∷ []); forbidden = 0 }
 
 -- where each member may still come
 abbrev pub without_due : MemberRules → MemberRules

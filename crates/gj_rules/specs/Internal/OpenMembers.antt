@@ -19,7 +19,7 @@ use Rattle.gj_coords.specs.Items.{place_of}
 use Rattle.gj_rules.specs.Members.{is_known, same, type_of}
 use Rattle.gj_rules.specs.Role.{is_allowed}
 use Rattle.gj_rules.specs.Faults.{selected, faults, listed}
-use Rattle.gj_rules.specs.Internal.MemberRules.{rules_of, rules_of_any, member_fault}
+use Rattle.gj_rules.specs.Internal.MemberRules.{rules_of, member_fault}
 use Rattle.gj_rules.specs.Internal.Summaries.{no_shapes, shape_for, shapes_of, simple_of, asked}
 
 -- the faults of the value of a first member
@@ -138,7 +138,7 @@ as_type word f = lesser (members_fault (rules_of word) f) (shape_as (simple_of w
 
 -- where the type is missing or wrong
 abbrev pub as_none : Fault → MemberSlots → Option Fault
-as_none fault f = lesser (members_fault rules_of_any f) (Some fault)
+as_none fault f = lesser (members_fault (rules_of Word.Other) f) (Some fault)
 
 abbrev pub rest_by : Option TypeValue → MemberSlots → Option Fault
 rest_by None f = as_none (fault_at f.place G2) f

@@ -7,24 +7,15 @@ use gj_json::Word;
 
 impl MemberSlots {
     ghost use Rattle.gj_rules.specs.Internal.FrameReading.{slots_in};
-    ghost use Rattle.gj_rules.specs.Internal.LostObjects.{fails_by, fails_as, all_fail, is_lost};
+    ghost use Rattle.gj_rules.specs.Internal.LostObjects.{fails_as, all_fail, is_lost};
 
-    /// Its members or its coordinates have a fault as those of this type; a missing member may still come.
-    fn fails_by(&self, word: Word) -> bool
-        ensures { result ≡ fails_by word (slots_in self.now) }
-    {
-        let rules = MemberRules::of(word).without_due();
-        self.members_fault(rules).is_some() || self.word_fault(word).is_some()
-    }
-
-    /// It has a fault as an object of this type.
+    /// It has a fault as an object of this type; a missing member may still come.
     fn fails_as(&self, word: Word) -> bool
         ensures { result ≡ fails_as word (slots_in self.now) }
     {
-        match word {
-            Word::Other => true,
-            _ => self.fails_by(word),
-        }
+        let rules = MemberRules::of(word).without_due();
+        word == Word::Other
+            || (self.members_fault(rules).is_some() || self.word_fault(word).is_some())
     }
 
     /// It has a fault as an object of each type.

@@ -32,9 +32,9 @@ const BBOX: u8 = 1 << Known::Bbox as u8;
 const ID: u8 = 1 << Known::Id as u8;
 
 impl MemberRules {
-    ghost use Rattle.gj_rules.specs.Internal.MemberRules.{rules_of, rules_of_any, without_due};
+    ghost use Rattle.gj_rules.specs.Internal.MemberRules.{rules_of, without_due};
 
-    /// Those of a type. What is found in the `coordinates` depends on more, and is not among them.
+    /// Those of a type: of `Other` where it is missing or wrong. What is found in the `coordinates` is not among them.
     #[inline(always)]
     pub fn of(word: Word) -> MemberRules
         ensures { result ≡ rules_of word }
@@ -55,24 +55,16 @@ impl MemberRules {
                 used: FEATURES | BBOX,
                 forbidden: COORDINATES | GEOMETRIES | GEOMETRY | PROPERTIES,
             },
-            Word::Other => MemberRules::of_any(),
+            Word::Other => MemberRules {
+                due: 0,
+                used: BBOX,
+                forbidden: 0,
+            },
             _ => MemberRules {
                 due: COORDINATES,
                 used: BBOX,
                 forbidden: GEOMETRY | PROPERTIES | FEATURES,
             },
-        }
-    }
-
-    /// Those of an object whose type is missing or wrong.
-    #[inline(always)]
-    pub fn of_any() -> MemberRules
-        ensures { result ≡ rules_of_any }
-    {
-        MemberRules {
-            due: 0,
-            used: BBOX,
-            forbidden: 0,
         }
     }
 

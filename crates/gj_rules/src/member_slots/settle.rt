@@ -13,7 +13,7 @@ impl MemberSlots {
     ghost use Rattle.gj_coords.specs.Internal.GatheredWarnings.{all_in};
     ghost use Rattle.gj_rules.specs.Members.{is_known};
     ghost use Rattle.gj_rules.specs.Internal.Summaries.{shape_for, simple_of, warned_for};
-    ghost use Rattle.gj_rules.specs.Internal.OpenMembers.{fault_of, members_fault, shape_as, as_type, as_none, rest_by, settled};
+    ghost use Rattle.gj_rules.specs.Internal.OpenMembers.{fault_of, members_fault, shape_as, as_none, rest_by, settled};
 
     /// The fault of the first `coordinates` for one type.
     #[tactic(auto, using(crate::proofs::Objects::AskedShapes::no_fault, crate::proofs::Objects::AskedShapes::one_fault))]
@@ -91,20 +91,14 @@ impl MemberSlots {
         lesser_fault(self.fault_of(Known::Bbox, rules), least)
     }
 
-    fn as_type(&self, word: Word) -> Option<Fault>
-        ensures { result ≡ as_type word (slots_in self.now) }
-    {
-        lesser_fault(
-            self.members_fault(MemberRules::of(word)),
-            self.word_fault(word),
-        )
-    }
-
     /// Where the type is missing or wrong, which is this fault.
     fn as_none(&self, fault: Fault) -> Option<Fault>
         ensures { result ≡ as_none fault (slots_in self.now) }
     {
-        lesser_fault(self.members_fault(MemberRules::of_any()), Some(fault))
+        lesser_fault(
+            self.members_fault(MemberRules::of(Word::Other)),
+            Some(fault),
+        )
     }
 
     fn rest(&self) -> Option<Fault>
@@ -116,7 +110,10 @@ impl MemberSlots {
                 rule: Rule::G2,
             }),
             Some(value) => if self.role.allows(value.word) {
-                self.as_type(value.word)
+                lesser_fault(
+                    self.members_fault(MemberRules::of(value.word)),
+                    self.word_fault(value.word),
+                )
             } else {
                 self.as_none(Fault {
                     place: value.place,
