@@ -1,0 +1,15 @@
+//! Assertions that say which row of a table fails. The tests of tables call them, since a function that formats its own
+//! messages takes longer to prove.
+
+use std::fmt::Debug;
+use std::process::Abort;
+
+/// Tests what must be so of a row.
+pub fn holds(rt: &impl Abort, is_so: bool, row: &str) {
+    assert!(rt; is_so, "{row}");
+}
+
+/// Tests that what is found is what a row expects.
+pub fn equal<T: Copy + PartialEq + Debug>(rt: &impl Abort, found: T, expected: T, row: &str) {
+    assert_eq!(rt; found, expected, "{row}");
+}
