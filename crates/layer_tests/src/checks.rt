@@ -9,6 +9,16 @@ pub fn holds(rt: &impl Abort, is_so: bool, row: &str) {
     assert!(rt; is_so, "{row}");
 }
 
+/// Tests what must be so of a row, at an index.
+pub fn holds_at(rt: &impl Abort, is_so: bool, row: &str, at: usize) {
+    assert!(rt; is_so, "{row}, at {at}");
+}
+
+/// Tests what must be so of an input, at an index.
+pub fn holds_in(rt: &impl Abort, is_so: bool, input: &[u8], at: usize) {
+    assert!(rt; is_so, "{input:?}, at {at}");
+}
+
 /// Tests that what is found is what a row expects.
 pub fn equal<T: Copy + PartialEq + Debug>(rt: &impl Abort, found: T, expected: T, row: &str) {
     assert_eq!(rt; found, expected, "{row}");

@@ -1,5 +1,6 @@
 //! Rows of prefixes of texts and the paths that they lead to.
 
+use crate::checks::{holds, holds_at, holds_in};
 use gj_json::{Cause, JsonFault, Known, Limits, Locator, MOST_LEVELS, Path, PathStep};
 use std::process::Abort;
 
@@ -42,194 +43,226 @@ fn is_path(path: Path, expected: &[PathStep]) -> bool {
     true
 }
 
-fn leads(rt: &impl Abort, front: &[u8], expected: &[PathStep], row: &str) {
-    match located(front) {
-        Ok(path) => assert!(rt; is_path(path, expected), "{row}"),
-        Err(_) => assert!(rt; false, "{row}, refused"),
-    }
-    for cut in 0..front.len() + 1 {
-        assert!(rt;
-            located_in_pieces(&front[..cut], &front[cut..]) == located(front),
-            "{row}, cut at {cut}"
-        );
+/// A prefix of a text, the path after it, and what it is.
+type Row = (&'static [u8], &'static [PathStep], &'static str);
+
+fn leads(rt: &impl Abort, row: &Row) {
+    let (prefix, expected, name) = row;
+    let path = located(prefix);
+    let leads = match path {
+        Ok(path) => is_path(path, expected),
+        Err(_) => false,
+    };
+    holds(rt, leads, name);
+    for cut in 0..=prefix.len() {
+        let found = located_in_pieces(&prefix[..cut], &prefix[cut..]);
+        holds_at(rt, found == path, name, cut);
     }
 }
 
-const fn index(i: u64) -> PathStep {
-    PathStep::Index(i)
-}
+const FIRST: PathStep = PathStep::Index(0);
 
-fn other() -> PathStep {
-    PathStep::Member(Known::Other)
-}
+const SECOND: PathStep = PathStep::Index(1);
+
+const THIRD: PathStep = PathStep::Index(2);
+
+const OTHER: PathStep = PathStep::Member(Known::Other);
+
+const COORDINATES: PathStep = PathStep::Member(Known::Coordinates);
+
+const FEATURES: PathStep = PathStep::Member(Known::Features);
+
+const PROPERTIES: PathStep = PathStep::Member(Known::Properties);
+
+static VALUES: [Row; 14] = [
+    (b"", &[], "nothing has come"),
+    (b" ", &[], "white space"),
+    (b"7", &[], "a number is the root"),
+    (b"[", &[], "the root is open"),
+    (b"[1", &[FIRST], "a number begins"),
+    (b"[10", &[], "it goes on"),
+    (b"[10,2", &[SECOND], "the next begins"),
+    (b"[\"", &[FIRST], "a string begins"),
+    (b"[\"a", &[], "it goes on"),
+    (b"[t", &[FIRST], "a literal name begins"),
+    (b"[tr", &[], "it goes on"),
+    (b"[1 , 2", &[SECOND], "between white space"),
+    (b"{\"x\":1", &[OTHER], "a member's value begins"),
+    (b"{\"x\":10", &[], "it goes on"),
+];
 
 #[test]
 fn values_begin(rt: HostRuntime) {
-    leads(&rt, b"", &[], "nothing has come");
-    leads(&rt, b" ", &[], "white space");
-    leads(&rt, b"7", &[], "a number is the root");
-    leads(&rt, b"[", &[], "the root is open");
-    leads(&rt, b"[1", &[index(0)], "a number begins");
-    leads(&rt, b"[10", &[], "it goes on");
-    leads(&rt, b"[10,2", &[index(1)], "the next begins");
-    leads(&rt, b"[\"", &[index(0)], "a string begins");
-    leads(&rt, b"[\"a", &[], "it goes on");
-    leads(&rt, b"[t", &[index(0)], "a literal name begins");
-    leads(&rt, b"[tr", &[], "it goes on");
-    leads(&rt, b"[1 , 2", &[index(1)], "between white space");
-    leads(&rt, b"{\"x\":1", &[other()], "a member's value begins");
-    leads(&rt, b"{\"x\":10", &[], "it goes on");
+    for row in VALUES.iter() {
+        leads(&rt, row);
+    }
 }
 
-#[test]
-fn containers_open_and_close(rt: HostRuntime) {
-    leads(&rt, b"{\"x\":[1,", &[other()], "the array is open");
-    leads(
-        &rt,
-        b"{\"x\":[1,{",
-        &[other(), index(1)],
-        "an object opens in it",
-    );
-    leads(&rt, b"{\"crs\":{", &[PathStep::Member(Known::Crs)], "crs");
-    leads(&rt, b"[[1],[2],", &[], "two arrays have closed");
-    leads(&rt, b"[[1],[2],[", &[index(2)], "the third opens");
-    leads(&rt, b"[[1,2],3", &[index(1)], "a number behind an array");
-    leads(&rt, b"{\"a\":1,\"b\":[2]", &[], "a member has ended");
-    leads(
-        &rt,
+static CONTAINERS: [Row; 13] = [
+    (b"{\"x\":[1,", &[OTHER], "the array is open"),
+    (b"{\"x\":[1,{", &[OTHER, SECOND], "an object opens in it"),
+    (b"{\"crs\":{", &[PathStep::Member(Known::Crs)], "crs"),
+    (b"[[1],[2],", &[], "two arrays have closed"),
+    (b"[[1],[2],[", &[THIRD], "the third opens"),
+    (b"[[1,2],3", &[SECOND], "a number behind an array"),
+    (b"{\"a\":1,\"b\":[2]", &[], "a member has ended"),
+    (
         b"{\"a\":1,\"b\":[2],\"id\":t",
         &[PathStep::Member(Known::Id)],
         "the next member's value begins",
-    );
-    leads(&rt, b"{\"x\"", &[], "a name has ended");
-    leads(&rt, b"{\"x\":", &[], "a value is due");
-    leads(
-        &rt,
+    ),
+    (b"{\"x\"", &[], "a name has ended"),
+    (b"{\"x\":", &[], "a value is due"),
+    (
         b"[[[],[]],[],[[]",
-        &[index(2)],
+        &[THIRD],
         "behind arrays without elements",
-    );
-    leads(
-        &rt,
-        b"[{\"id\\\"\":[",
-        &[index(0), other()],
-        "a quote in a name",
-    );
-    leads(
-        &rt,
+    ),
+    (b"[{\"id\\\"\":[", &[FIRST, OTHER], "a quote in a name"),
+    (
         b"[{\"i\\u0064\":[",
-        &[index(0), PathStep::Member(Known::Id)],
+        &[FIRST, PathStep::Member(Known::Id)],
         "a name with an escape",
-    );
+    ),
+];
+
+#[test]
+fn containers_open_and_close(rt: HostRuntime) {
+    for row in CONTAINERS.iter() {
+        leads(&rt, row);
+    }
 }
+
+static IN_GEOJSON: [Row; 5] = [
+    (
+        b"{\"type\":\"Point\",\"coordinates\":[1",
+        &[COORDINATES, FIRST],
+        "the first number",
+    ),
+    (
+        b"{\"type\":\"Point\",\"coordinates\":[1,2]}",
+        &[],
+        "the whole text",
+    ),
+    (
+        b"{\"type\":\"Polygon\",\"coordinates\":[[",
+        &[COORDINATES, FIRST],
+        "the first ring",
+    ),
+    (
+        b"{\"coordinates\":[1,2],\"type\":\"Point\",\"",
+        &[],
+        "the opening quote of a name",
+    ),
+    (
+        b"{\"features\":[{\"type\":\"Feature\",\"geometry\":null,\"properties\":null},7",
+        &[FEATURES, SECOND],
+        "the second feature",
+    ),
+];
 
 #[test]
 fn places_in_geojson(rt: HostRuntime) {
-    let coordinates = PathStep::Member(Known::Coordinates);
-    let point = b"{\"type\":\"Point\",\"coordinates\":[1,2]}";
-    leads(
-        &rt,
-        &point[..32],
-        &[coordinates, index(0)],
-        "the first number",
-    );
-    leads(&rt, point, &[], "the whole text");
-    leads(
-        &rt,
-        b"{\"type\":\"Polygon\",\"coordinates\":[[",
-        &[coordinates, index(0)],
-        "the first ring",
-    );
-    let twice = b"{\"coordinates\":[1,2],\"type\":\"Point\",\"type\":\"Polygon\"}";
-    leads(&rt, &twice[..37], &[], "the opening quote of a name");
-    let feature = b"{\"features\":[{\"type\":\"Feature\",\"geometry\":null,\"properties\":null},7";
-    leads(
-        &rt,
-        feature,
-        &[PathStep::Member(Known::Features), index(1)],
-        "the second feature",
-    );
+    for row in IN_GEOJSON.iter() {
+        leads(&rt, row);
+    }
 }
+
+static WHERE_EVENTS_DO_NOT_MATTER: [Row; 5] = [
+    (b"{\"crs\":{},", &[], "an object without members has closed"),
+    (
+        b"{\"crs\":{},\"features\":[{\"properties\":{\"a\":[[1,{\"b\":\"]}",
+        &[FEATURES, FIRST, PROPERTIES, OTHER, FIRST, SECOND],
+        "a string in it is open",
+    ),
+    (
+        b"{\"crs\":{},\"features\":[{\"properties\":{\"a\":[[1,{\"b\":\"]}\\\"\"}]],\"c\":{}}",
+        &[FEATURES, FIRST],
+        "it has closed",
+    ),
+    (
+        b"{\"crs\":{},\"features\":[{\"properties\":{\"a\":[[1,{\"b\":\"]}\\\"\"}]],\"c\":{}}}",
+        &[FEATURES],
+        "the feature has closed",
+    ),
+    (
+        b"{\"crs\":{},\"features\":[{\"properties\":{\"a\":[[1,{\"b\":\"]}\\\"\"}]],\"c\":{}}},{\"id\":1,\"properties\":{\"d\":{\"e\":[2,3",
+        &[FEATURES, SECOND, PROPERTIES, OTHER, OTHER, SECOND],
+        "the next feature's are open",
+    ),
+];
 
 #[test]
 fn members_whose_events_do_not_matter(rt: HostRuntime) {
-    let features = PathStep::Member(Known::Features);
-    let properties = PathStep::Member(Known::Properties);
-    let texts =
-        b"{\"crs\":{},\"features\":[{\"properties\":{\"a\":[[1,{\"b\":\"]}\\\"\"}]],\"c\":{}}},{\"id\":1,\"properties\":{\"d\":{\"e\":[2,3";
-    leads(
-        &rt,
-        &texts[..10],
-        &[],
-        "an object without members has closed",
-    );
-    leads(
-        &rt,
-        &texts[..53],
-        &[features, index(0), properties, other(), index(0), index(1)],
-        "a string in it is open",
-    );
-    leads(&rt, &texts[..67], &[features, index(0)], "it has closed");
-    leads(&rt, &texts[..68], &[features], "the feature has closed");
-    leads(
-        &rt,
-        texts,
-        &[features, index(1), properties, other(), other(), index(1)],
-        "the next feature's are open",
-    );
+    for row in WHERE_EVENTS_DO_NOT_MATTER.iter() {
+        leads(&rt, row);
+    }
     let mut locator = Locator::new(Limits::usual());
-    assert!(rt;
-        locator
-            .feed(b"{\"a\":1,\"b\":{\"c\":[2],\"d\":[3,x]}}")
-            .is_err(),
-        "a byte in it is refused"
-    );
-    assert!(rt;
-        is_path(locator.path(), &[other(), other()]),
-        "it is open there"
-    );
+    let taken = locator.feed(b"{\"a\":1,\"b\":{\"c\":[2],\"d\":[3,x]}}");
+    holds(&rt, taken.is_err(), "a byte in it is refused");
+    let is_open = is_path(locator.path(), &[OTHER, OTHER]);
+    holds(&rt, is_open, "it is open there");
 }
+
+const IN_A_CHARACTER: JsonFault = JsonFault {
+    place: 8,
+    cause: Cause::Syntax,
+};
+
+/// A byte, what it is refused for, and what it is.
+static IN_A_STRING: [(u8, Result<(), JsonFault>, &str); 4] = [
+    (0xE2, Ok(()), "a character begins"),
+    (0x82, Ok(()), "it goes on"),
+    (0x28, Err(IN_A_CHARACTER), "no byte of it"),
+    (b'"', Err(IN_A_CHARACTER), "the same again"),
+];
 
 #[test]
 fn refused_bytes_change_nothing(rt: HostRuntime) {
     let mut locator = Locator::new(Limits::usual());
-    let fault = JsonFault {
-        place: 8,
-        cause: Cause::Syntax,
-    };
     for byte in b"{\"a\":\"" {
-        assert!(rt; locator.push(*byte) == Ok(()), "the string begins");
+        holds(&rt, locator.push(*byte) == Ok(()), "the string begins");
     }
-    assert!(rt; is_path(locator.path(), &[other()]), "the string begins");
-    assert!(rt; locator.push(0xE2) == Ok(()), "a character begins");
-    assert!(rt; locator.push(0x82) == Ok(()), "it goes on");
-    assert!(rt; locator.push(0x28) == Err(fault), "no byte of it");
-    assert!(rt; locator.push(b'"') == Err(fault), "the same again");
-    assert!(rt; is_path(locator.path(), &[]), "the object is open");
+    holds(&rt, is_path(locator.path(), &[OTHER]), "the string is open");
+    for (byte, expected, row) in IN_A_STRING.iter() {
+        holds(&rt, locator.push(*byte) == *expected, row);
+    }
+    holds(&rt, is_path(locator.path(), &[]), "the object is open");
 }
+
+/// Whether an input in two pieces is refused for this, and whatever comes after it too, so that nothing changes.
+fn stays_refused(limits: Limits, first: &[u8], second: &[u8], fault: JsonFault) -> bool {
+    let mut locator = Locator::new(limits);
+    let begun = locator.feed(first);
+    if begun != Ok(()) && begun != Err(fault) || locator.feed(second) != Err(fault) {
+        return false;
+    }
+    let path = locator.path();
+    let again = locator.feed(b"");
+    let by_byte = locator.push(b']');
+    again == Err(fault) && by_byte == Err(fault) && locator.path() == path
+}
+
+/// An input of more than four levels or twenty bytes or that is no JSON, and where and why it is refused.
+static REFUSED: [(&[u8], u64, Cause); 5] = [
+    (b"{\"a\":{\"b\":1,\"c\":x}}", 16, Cause::Syntax),
+    (b"{\"a\":\"\xE2\x82\x28\"", 8, Cause::Syntax),
+    (b"[1, 2 3]", 6, Cause::Syntax),
+    (b"[\"long enough\", 1234567]", 20, Cause::Length),
+    (b"[[[[[1", 4, Cause::Depth),
+];
 
 #[test]
 fn refused_pieces(rt: HostRuntime) {
-    let rows: [(&[u8], u64, Cause); 5] = [
-        (b"{\"a\":{\"b\":1,\"c\":x}}", 16, Cause::Syntax),
-        (b"{\"a\":\"\xE2\x82\x28\"", 8, Cause::Syntax),
-        (b"[1, 2 3]", 6, Cause::Syntax),
-        (b"[\"long enough\", 1234567]", 20, Cause::Length),
-        (b"[[[[[1", 4, Cause::Depth),
-    ];
     let limits = Limits::new(4, 20).unwrap_or(Limits::usual());
-    for (front, place, cause) in rows {
-        for cut in 0..front.len() + 1 {
-            let fault = JsonFault { place, cause };
-            let mut locator = Locator::new(limits);
-            let first = locator.feed(&front[..cut]);
-            let second = locator.feed(&front[cut..]);
-            let before = locator.path();
-            assert!(rt; first == Ok(()) || first == Err(fault), "the first piece");
-            assert!(rt; second == Err(fault), "both pieces");
-            assert!(rt; locator.feed(b"") == Err(fault), "the same again");
-            assert!(rt; locator.push(b']') == Err(fault), "and by a byte");
-            assert!(rt; locator.path() == before, "and nothing changes");
+    for (input, place, cause) in REFUSED.iter() {
+        let fault = JsonFault {
+            place: *place,
+            cause: *cause,
+        };
+        for cut in 0..=input.len() {
+            let refused = stays_refused(limits, &input[..cut], &input[cut..], fault);
+            holds_in(&rt, refused, input, cut);
         }
     }
 }
@@ -238,28 +271,33 @@ fn refused_pieces(rt: HostRuntime) {
 fn most_levels(rt: HostRuntime) {
     let mut locator = Locator::new(Limits::usual());
     for _ in 0..MOST_LEVELS {
-        assert!(rt; locator.push(b'[') == Ok(()), "a level");
+        holds(&rt, locator.push(b'[') == Ok(()), "a level");
     }
-    assert!(rt; locator.push(b'7') == Ok(()), "the innermost element");
+    holds(&rt, locator.push(b'7') == Ok(()), "the innermost element");
     let path = locator.path();
-    assert!(rt; path.len() == MOST_LEVELS, "as many steps as levels");
+    holds(&rt, path.len() == MOST_LEVELS, "as many steps as levels");
     for at in 0..MOST_LEVELS {
-        assert!(rt;
-            path.step(at) == Some(index(0)),
-            "each to the first element"
-        );
+        let is_first = path.step(at) == Some(FIRST);
+        holds_at(&rt, is_first, "each to the first element", at as usize);
     }
-    assert!(rt; path.step(MOST_LEVELS) == None, "and no more");
+    holds(&rt, path.step(MOST_LEVELS) == None, "and no more");
 }
+
+/// Two prefixes, whether their paths are the same, and what they are.
+static PAIRS: [(&[u8], &[u8], bool, &str); 3] = [
+    (
+        b"[",
+        b"[{\"id\":[1,2],\"x\":[[3]]}",
+        true,
+        "the root, before and after an element",
+    ),
+    (b"[1", b"[{", true, "the first element"),
+    (b"[1", b"[1,2", false, "two elements"),
+];
 
 #[test]
 fn equal_paths_compare_equal(rt: HostRuntime) {
-    assert!(rt;
-        located(b"[") == located(b"[{\"id\":[1,2],\"x\":[[3]]}"),
-        "the root, before and behind an element"
-    );
-    assert!(rt;
-        located(b"[1") == located(b"[{") && located(b"[1") != located(b"[1,2"),
-        "elements"
-    );
+    for (one, other, same, row) in PAIRS.iter() {
+        holds(&rt, (located(one) == located(other)) == *same, row);
+    }
 }

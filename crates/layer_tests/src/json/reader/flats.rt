@@ -49,6 +49,7 @@ fn is_same(one: &FirstEvents, other: &FirstEvents) -> bool {
     true
 }
 
+/// Tests that a piece is told at once as its bytes are in turn. It is a text that has this byte at the index.
 pub(super) fn expect_same(
     rt: &impl Abort,
     limits: Limits,
@@ -60,14 +61,9 @@ pub(super) fn expect_same(
     let mut at_once = no_events();
     let mut in_turn = no_events();
     let fault = by_piece(limits, piece, &mut at_once);
-    assert!(rt;
-        fault == by_bytes(limits, piece, &mut in_turn),
-        "{text} with {byte} at {index}: the fault"
-    );
-    assert!(rt;
-        is_same(&at_once, &in_turn),
-        "{text} with {byte} at {index}: the events"
-    );
+    let other = by_bytes(limits, piece, &mut in_turn);
+    let same = fault == other && is_same(&at_once, &in_turn);
+    assert!(rt; same, "{text} with {byte} at {index}");
 }
 
 fn expect_each(rt: &impl Abort, limits: Limits, text: &str) {
@@ -82,16 +78,18 @@ fn expect_each(rt: &impl Abort, limits: Limits, text: &str) {
     }
 }
 
+static TEXTS: [&str; 6] = [
+    "[[1.5,-2],[3, 4,5.25],[ 6 , 7 ]]",
+    "{\"a\":[[-122.4194155,37.7749295],\n[0,-0.0]]}",
+    "[[12345678901234567,1e5],[1,2,3,4],[01,2]]",
+    "[[1.5,2.5],[-3.5, 4.5] ,[5.5,6.5],\n[7.5,8.5],9.5]",
+    "{\"a\":[1.5,-2.5] ,\"b\":[[1.5,2.5],]}",
+    "[\n [\n  10.25,\n  20.5\n ],\n [\n  0.1,\n  0.2,\n  0.3\n ]\n]",
+];
+
 #[test]
 fn arrays_at_once_are_their_bytes_in_turn(rt: HostRuntime) {
-    for text in [
-        "[[1.5,-2],[3, 4,5.25],[ 6 , 7 ]]",
-        "{\"a\":[[-122.4194155,37.7749295],\n[0,-0.0]]}",
-        "[[12345678901234567,1e5],[1,2,3,4],[01,2]]",
-        "[[1.5,2.5],[-3.5, 4.5] ,[5.5,6.5],\n[7.5,8.5],9.5]",
-        "{\"a\":[1.5,-2.5] ,\"b\":[[1.5,2.5],]}",
-        "[\n [\n  10.25,\n  20.5\n ],\n [\n  0.1,\n  0.2,\n  0.3\n ]\n]",
-    ] {
+    for text in TEXTS.iter() {
         expect_each(&rt, Limits::usual(), text);
     }
 }

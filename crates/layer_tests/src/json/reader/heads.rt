@@ -5,7 +5,7 @@ use gj_json::Limits;
 use std::process::Abort;
 
 /// A feature and a geometry without white space, the same with spaces, a name that is twice there, and other orders.
-const TEXTS: [&str; 9] = [
+static TEXTS: [&str; 9] = [
     "[{\"type\":\"Feature\",\"id\":1},{\"type\":\"Feature\",\"geometry\":{\"type\":\"Point\",\"coordinates\":[1,2]}}]",
     "[{\"type\": \"Feature\", \"geometry\": {\"type\": \"LineString\", \"coordinates\": [[1, 2], [3, 4]]}}]",
     "{\"geometry\":{\"type\":\"Polygon\",\"coordinates\":[[]]},\"geometry\":{\"type\":\"Feature\",\"coordinates\":{}}}",
@@ -32,7 +32,7 @@ fn expect_each(rt: &impl Abort, limits: Limits, text: &str) {
 
 #[test]
 fn heads_are_their_bytes_in_turn(rt: HostRuntime) {
-    for text in TEXTS {
+    for text in TEXTS.iter() {
         expect_each(&rt, Limits::usual(), text);
     }
 }
@@ -41,7 +41,7 @@ fn heads_are_their_bytes_in_turn(rt: HostRuntime) {
 fn heads_keep_to_the_depth(rt: HostRuntime) {
     for depth in 1..4 {
         if let Some(limits) = Limits::new(depth, 1_000) {
-            for text in TEXTS {
+            for text in TEXTS.iter() {
                 expect_same(&rt, limits, &padded(text.as_bytes()), text, 0, 0);
             }
         }
@@ -51,7 +51,7 @@ fn heads_keep_to_the_depth(rt: HostRuntime) {
 /// A head is told where enough bytes come after it in the piece, and else token by token.
 #[test]
 fn heads_keep_to_the_piece(rt: HostRuntime) {
-    for text in TEXTS {
+    for text in TEXTS.iter() {
         let piece = padded(text.as_bytes());
         for count in 0..piece.len() {
             expect_same(&rt, Limits::usual(), &piece[..count], text, count, 0);

@@ -26,7 +26,7 @@ fn stops_at_each_index(rt: HostRuntime) {
 fn place(bytes: &[u8]) -> Option<u64> {
     match in_two(Limits::usual(), bytes, b"") {
         None => None,
-        Some(fault) => Some(fault.place),
+        Some((_, place)) => Some(place),
     }
 }
 

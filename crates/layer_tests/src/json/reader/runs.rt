@@ -1,8 +1,8 @@
 //! Runs of whole characters: what `skip_run` takes, and rows of long strings.
 
-use super::{expect, refused};
+use super::{Refusal, expect};
+use crate::checks::equal;
 use gj_json::{Cause, Limits, MOST_LEVELS, Reader};
-use std::process::Abort;
 
 /// A reader that was given these bytes.
 fn after(bytes: &[u8]) -> Reader {
@@ -13,34 +13,36 @@ fn after(bytes: &[u8]) -> Reader {
     reader
 }
 
-/// Tests that `skip_run` after these bytes takes this many bytes of the piece.
-fn takes(rt: &impl Abort, before: &[u8], piece: &[u8], count: usize, row: &str) {
-    let mut reader = after(before);
-    assert!(rt; reader.skip_run(piece) == count, "{row}");
-}
+/// A run of characters, and the first two bytes of one of three bytes.
+const CUT_CHARACTER: &[u8] =
+    b"xxxxxxxxxxxxxxxxxxxxxxxxxxxxxxxxxxxxxxxxxxxxxxxxxxxxxxxxxxxxxxxxxxxxxxxxxxxxxxxxxxxxxxxxxxxxxxxxxxxx\xE2\x82";
+
+/// What comes before, a piece, how many of its bytes are taken, and what it is.
+static RUNS: [(&[u8], &[u8], usize, &str); 11] = [
+    (
+        b"{\"a\":\"",
+        CUT_CHARACTER,
+        100,
+        "a character that the end of the piece cuts is left",
+    ),
+    (b"", CUT_CHARACTER, 0, "no string is open"),
+    (b"{\"a\":", b"x", 0, "a value is due"),
+    (b"{\"", CUT_CHARACTER, 100, "a name is open"),
+    (b"\"\\", b"n", 0, "an escape is under way"),
+    (b"\"\\u00", b"41", 0, "four digits are under way"),
+    (b"\"\xE2", b"\x82\xAC", 0, "a character is under way"),
+    (b"\"\x1F", b"x", 0, "a byte was refused"),
+    (b"\"", b"\xE2\x82\xAC\"", 3, "a quote ends the run"),
+    (b"\"", b"ab\\n", 2, "a backslash ends the run"),
+    (b"\"", b"a\xFFb", 1, "a byte that is no UTF-8 is left"),
+];
 
 #[test]
 fn skip_run_takes_whole_characters(rt: HostRuntime) {
-    let mut cut = [b'x'; 102];
-    cut[100] = 0xE2;
-    cut[101] = 0x82;
-    takes(
-        &rt,
-        b"{\"a\":\"",
-        &cut,
-        100,
-        "a character that the end of the piece cuts is left",
-    );
-    takes(&rt, b"", &cut, 0, "no string is open");
-    takes(&rt, b"{\"a\":", b"x", 0, "a value is due");
-    takes(&rt, b"{\"", &cut, 100, "a name is open");
-    takes(&rt, b"\"\\", b"n", 0, "an escape is under way");
-    takes(&rt, b"\"\\u00", b"41", 0, "four digits are under way");
-    takes(&rt, b"\"\xE2", b"\x82\xAC", 0, "a character is under way");
-    takes(&rt, b"\"\x1F", b"x", 0, "a byte was refused");
-    takes(&rt, b"\"", b"\xE2\x82\xAC\"", 3, "a quote ends the run");
-    takes(&rt, b"\"", b"ab\\n", 2, "a backslash ends the run");
-    takes(&rt, b"\"", b"a\xFFb", 1, "a byte that is no UTF-8 is left");
+    for (before, piece, count, row) in RUNS.iter() {
+        let mut reader = after(before);
+        equal(&rt, reader.skip_run(piece), *count, row);
+    }
 }
 
 /// The run ends where the limit on the bytes does.
@@ -49,8 +51,8 @@ fn skip_run_stops_at_the_limit(rt: HostRuntime) {
     let limits = Limits::new(1, 5).expect(&rt, "within bounds");
     let mut reader = Reader::new(limits);
     let _ = reader.push(b'"');
-    assert!(rt; reader.skip_run(b"abcdefgh") == 4);
-    assert!(rt; reader.skip_run(b"efgh") == 0);
+    equal(&rt, reader.skip_run(b"abcdefgh"), 4, "up to the limit");
+    equal(&rt, reader.skip_run(b"efgh"), 0, "at the limit");
 }
 
 const BROKEN_CHARACTER: &[u8] =
@@ -62,36 +64,38 @@ const WHOLE_CHARACTER: &[u8] =
 const CONTROL_CHARACTER: &[u8] =
     b"{\"a\":\"xxxxxxxxxxxxxxxxxxxxxxxxxxxxxxxxxxxxxxxxxxxxxxxxxxxxxxxxxxxxxxxxxxxxxx\x1F";
 
+/// How many bytes a text may have, an input, what it is refused for, and what it is.
+static LONG_STRINGS: [(u64, &[u8], Refusal, &str); 4] = [
+    (
+        1 << 60,
+        BROKEN_CHARACTER,
+        Some((Cause::Syntax, 108)),
+        "a character that is broken off",
+    ),
+    (
+        1 << 60,
+        CONTROL_CHARACTER,
+        Some((Cause::Syntax, 76)),
+        "a control character",
+    ),
+    (
+        1 << 60,
+        WHOLE_CHARACTER,
+        Some((Cause::Truncated, 110)),
+        "a character behind the run",
+    ),
+    (
+        50,
+        WHOLE_CHARACTER,
+        Some((Cause::Length, 50)),
+        "the limit lies within the run",
+    ),
+];
+
 #[test]
 fn long_strings_are_refused(rt: HostRuntime) {
-    let usual = Limits::usual();
-    expect(
-        &rt,
-        usual,
-        BROKEN_CHARACTER,
-        refused(Cause::Syntax, 108),
-        "a character that is broken off",
-    );
-    expect(
-        &rt,
-        usual,
-        CONTROL_CHARACTER,
-        refused(Cause::Syntax, 76),
-        "a control character",
-    );
-    expect(
-        &rt,
-        usual,
-        WHOLE_CHARACTER,
-        refused(Cause::Truncated, 110),
-        "a character behind the run",
-    );
-    let few = Limits::new(MOST_LEVELS, 50).expect(&rt, "within bounds");
-    expect(
-        &rt,
-        few,
-        WHOLE_CHARACTER,
-        refused(Cause::Length, 50),
-        "the limit lies within the run",
-    );
+    for (bytes, input, expected, row) in LONG_STRINGS.iter() {
+        let limits = Limits::new(MOST_LEVELS, *bytes).expect(&rt, row);
+        expect(&rt, limits, input, *expected, row);
+    }
 }

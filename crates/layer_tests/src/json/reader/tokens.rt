@@ -38,7 +38,7 @@ fn expect_some(rt: &impl Abort, limits: Limits, text: &str) {
     }
 }
 
-const TEXTS: [&str; 6] = [
+static TEXTS: [&str; 6] = [
     "{\"type\":\"Feature\",\"id\":17,\"properties\":{\"a\":null,\"b\" : true},\"geometry\":false}",
     "[\"x\\u0041y\",{\"bbox\":[1,2,3,4]},\"\",0.5 ,-7]",
     "{\"name\" :\n\"k\\\"q\",\"tipe\":\"Poimt\",\"crs\":{},\"bbox\":[]}",
@@ -49,14 +49,14 @@ const TEXTS: [&str; 6] = [
 
 #[test]
 fn tokens_are_their_bytes_in_turn(rt: HostRuntime) {
-    for text in TEXTS {
+    for text in TEXTS.iter() {
         expect_each(&rt, Limits::usual(), text);
     }
 }
 
 #[test]
 fn tokens_of_changed_texts_are_their_bytes_in_turn(rt: HostRuntime) {
-    for text in TEXTS {
+    for text in TEXTS.iter() {
         expect_some(&rt, Limits::usual(), text);
     }
 }
