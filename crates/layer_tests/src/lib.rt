@@ -18,6 +18,8 @@ mod number;
 #[cfg(test)]
 mod places;
 #[cfg(test)]
+mod rows;
+#[cfg(test)]
 mod rules;
 #[cfg(test)]
 mod sequences;

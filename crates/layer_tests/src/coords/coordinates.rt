@@ -4,204 +4,270 @@ mod flat;
 mod mixed;
 mod warned;
 
-use both::{Both, Row};
+use crate::checks::holds;
+use both::{Both, SIX};
+use gj_coords::Rule::{G11, G12, G13, G14, G15, G16};
 use gj_coords::{Fault, Rule, Simple};
 use std::process::Abort;
 
-fn at(rule: Rule, place: u64) -> Option<Fault> {
-    Some(Fault { place, rule })
-}
+/// Which rule is broken and where, if any.
+type Found = Option<(Rule, u64)>;
 
-fn g11(place: u64) -> Option<Fault> {
-    at(Rule::G11, place)
-}
-
-fn g12(place: u64) -> Option<Fault> {
-    at(Rule::G12, place)
-}
-
-fn g13(place: u64) -> Option<Fault> {
-    at(Rule::G13, place)
-}
-
-fn g14(place: u64) -> Option<Fault> {
-    at(Rule::G14, place)
-}
-
-fn g15(place: u64) -> Option<Fault> {
-    at(Rule::G15, place)
-}
-
-fn g16(place: u64) -> Option<Fault> {
-    at(Rule::G16, place)
-}
-
-fn expect(rt: &impl Abort, both: &Both, expected: Row, name: &str) {
-    assert!(rt; !both.any_early(), "{name}: not done before the end");
-    assert!(rt; both.all_done(), "{name}: done at the end");
-    assert!(rt; both.by_walk() == expected, "{name}: the walk");
-    assert!(rt; both.by_watchers() == expected, "{name}: the watchers");
-}
-
-fn expect_rows(rt: &impl Abort, rows: &[(&'static str, Row)]) {
-    for (text, expected) in rows {
-        expect(rt, &Both::of_text(text), *expected, text);
+fn fault_of(found: &Found) -> Option<Fault> {
+    match *found {
+        Some((rule, place)) => Some(Fault { place, rule }),
+        None => None,
     }
 }
+
+/// Tests the faults as the first of the six types, and that the watchers find what the walk finds.
+fn expect_faults(rt: &impl Abort, both: &Both, expected: &[Found], name: &str) {
+    for (simple, found) in SIX.iter().zip(expected) {
+        holds(rt, both.walked.walk.fault(*simple) == fault_of(found), name);
+    }
+    holds(rt, both.by_walk() == both.by_watchers(), name);
+}
+
+/// Tests the faults as each of the six types, and that all are done at the end and not before.
+fn expect(rt: &impl Abort, both: &Both, expected: &[Found; 6], name: &str) {
+    holds(rt, both.all_done() && !both.any_early(), name);
+    expect_faults(rt, both, expected, name);
+}
+
+/// A value, and its faults as each of the six types.
+static SHAPES: [(&str, [Found; 6]); 9] = [
+    ("[]", [None; 6]),
+    ("7", [Some((G11, 0)); 6]),
+    ("\"a\"", [Some((G11, 0)); 6]),
+    ("null", [Some((G11, 0)); 6]),
+    ("{\"a\":[[1,2]]}", [Some((G11, 0)); 6]),
+    (
+        "[1,2]",
+        [
+            None,
+            Some((G11, 1)),
+            Some((G11, 1)),
+            Some((G11, 1)),
+            Some((G11, 1)),
+            Some((G11, 1)),
+        ],
+    ),
+    (
+        "[[1,2]]",
+        [
+            Some((G12, 0)),
+            None,
+            Some((G13, 0)),
+            Some((G11, 2)),
+            Some((G14, 1)),
+            Some((G11, 2)),
+        ],
+    ),
+    (
+        "[[1,2],[3,4]]",
+        [
+            Some((G11, 1)),
+            None,
+            None,
+            Some((G11, 2)),
+            Some((G14, 1)),
+            Some((G11, 2)),
+        ],
+    ),
+    (
+        "[[]]",
+        [
+            Some((G12, 0)),
+            Some((G12, 1)),
+            Some((G13, 0)),
+            Some((G13, 1)),
+            Some((G14, 1)),
+            None,
+        ],
+    ),
+];
 
 #[test]
 fn each_shape_as_each_type(rt: HostRuntime) {
-    expect_rows(
-        &rt,
-        &[
-            ("[]", [None; 6]),
-            ("7", [g11(0); 6]),
-            ("\"a\"", [g11(0); 6]),
-            ("null", [g11(0); 6]),
-            ("{\"a\":[[1,2]]}", [g11(0); 6]),
-            ("[1,2]", [None, g11(1), g11(1), g11(1), g11(1), g11(1)]),
-            ("[[1,2]]", [g12(0), None, g13(0), g11(2), g14(1), g11(2)]),
-            (
-                "[[1,2],[3,4]]",
-                [g11(1), None, None, g11(2), g14(1), g11(2)],
-            ),
-            ("[[]]", [g12(0), g12(1), g13(0), g13(1), g14(1), None]),
-        ],
-    );
+    for (text, expected) in SHAPES.iter() {
+        expect(&rt, &Both::of_text(text), expected, text);
+    }
 }
 
-fn first_four(row: Row) -> [Option<Fault>; 4] {
-    [row[0], row[1], row[2], row[3]]
-}
+/// A value, and its faults as each of the first four types.
+static LINES: [(&str, [Found; 4]); 5] = [
+    (
+        "[[1,2],[3]]",
+        [
+            Some((G11, 1)),
+            Some((G12, 7)),
+            Some((G12, 7)),
+            Some((G11, 2)),
+        ],
+    ),
+    (
+        "[1,2,3,{\"a\":[1]}]",
+        [
+            Some((G11, 7)),
+            Some((G11, 1)),
+            Some((G11, 1)),
+            Some((G11, 1)),
+        ],
+    ),
+    (
+        "[1,1e401]",
+        [
+            Some((G16, 3)),
+            Some((G11, 1)),
+            Some((G11, 1)),
+            Some((G11, 1)),
+        ],
+    ),
+    (
+        "[1,2,3,1e401]",
+        [None, Some((G11, 1)), Some((G11, 1)), Some((G11, 1))],
+    ),
+    (
+        "[[[1,2]]]",
+        [
+            Some((G12, 0)),
+            Some((G12, 1)),
+            Some((G13, 0)),
+            Some((G13, 1)),
+        ],
+    ),
+];
 
 #[test]
 fn positions_and_lines(rt: HostRuntime) {
-    let rows: [(&'static str, [Option<Fault>; 4]); 5] = [
-        ("[[1,2],[3]]", [g11(1), g12(7), g12(7), g11(2)]),
-        ("[1,2,3,{\"a\":[1]}]", [g11(7), g11(1), g11(1), g11(1)]),
-        ("[1,1e401]", [g16(3), g11(1), g11(1), g11(1)]),
-        ("[1,2,3,1e401]", [None, g11(1), g11(1), g11(1)]),
-        ("[[[1,2]]]", [g12(0), g12(1), g13(0), g13(1)]),
-    ];
-    for (text, expected) in rows {
-        let found = Both::of_text(text);
-        assert!(rt; first_four(found.by_walk()) == expected, "{text}");
-        assert!(rt;
-            found.by_walk() == found.by_watchers(),
-            "{text}: the watchers"
-        );
+    for (text, expected) in LINES.iter() {
+        expect_faults(&rt, &Both::of_text(text), expected, text);
     }
 }
 
+/// A value, its type, its fault, and what it is.
+static RINGS: [(&str, Simple, Found, &str); 12] = [
+    (
+        "[[[0,0],[1,0],[1,1],[0,0,0]]]",
+        Simple::Polygon,
+        Some((G15, 1)),
+        "a third number more",
+    ),
+    (
+        "[[[0,0,1,5],[1,0],[1,1],[0,0,1,6]]]",
+        Simple::Polygon,
+        None,
+        "a fourth number is not compared",
+    ),
+    (
+        "[[[0,0],[1,0],[1,1],[1e-8,0]]]",
+        Simple::Polygon,
+        Some((G15, 1)),
+        "equal only when cut",
+    ),
+    (
+        "[[[1.50,0],[2,0],[2,1],[15e-1,-0.0]]]",
+        Simple::Polygon,
+        None,
+        "other spellings",
+    ),
+    (
+        "[[[0,0],[1,\"a\"],[1,1],[2,2]]]",
+        Simple::Polygon,
+        Some((G11, 11)),
+        "a position with a string",
+    ),
+    (
+        "[[[0,0],[1,0],[1,1],[0,1e401]]]",
+        Simple::Polygon,
+        Some((G16, 23)),
+        "a number that is not held",
+    ),
+    (
+        "[[],[[[0,0],[1,0],[1,1],[0,1]]]]",
+        Simple::MultiPolygon,
+        Some((G15, 5)),
+        "behind an empty polygon",
+    ),
+    ("[[[1,2]]]", Simple::Polygon, Some((G14, 1)), "one position"),
+    (
+        "[[[1,2]]]",
+        Simple::MultiPolygon,
+        Some((G14, 2)),
+        "rings of numbers",
+    ),
+    (
+        "[[[0,0],[1,0],[0,0]]]",
+        Simple::Polygon,
+        Some((G14, 1)),
+        "three positions",
+    ),
+    (
+        "[[[1,2]]]",
+        Simple::MultiLineString,
+        Some((G13, 1)),
+        "a line of one position",
+    ),
+    (
+        "[[[0,0],[4,0],[4,4],[0,0]],[[1,1],[2,1],[2,2],[1,1]]]",
+        Simple::Polygon,
+        None,
+        "a hole",
+    ),
+];
+
 #[test]
 fn linear_rings(rt: HostRuntime) {
-    let rows: [(&'static str, Simple, Option<Fault>, &'static str); 12] = [
-        (
-            "[[[0,0],[1,0],[1,1],[0,0,0]]]",
-            Simple::Polygon,
-            g15(1),
-            "a third number more",
-        ),
-        (
-            "[[[0,0,1,5],[1,0],[1,1],[0,0,1,6]]]",
-            Simple::Polygon,
-            None,
-            "a fourth number is not compared",
-        ),
-        (
-            "[[[0,0],[1,0],[1,1],[1e-8,0]]]",
-            Simple::Polygon,
-            g15(1),
-            "equal only when cut",
-        ),
-        (
-            "[[[1.50,0],[2,0],[2,1],[15e-1,-0.0]]]",
-            Simple::Polygon,
-            None,
-            "other spellings",
-        ),
-        (
-            "[[[0,0],[1,\"a\"],[1,1],[2,2]]]",
-            Simple::Polygon,
-            g11(11),
-            "a position with a string",
-        ),
-        (
-            "[[[0,0],[1,0],[1,1],[0,1e401]]]",
-            Simple::Polygon,
-            g16(23),
-            "a number that is not held",
-        ),
-        (
-            "[[],[[[0,0],[1,0],[1,1],[0,1]]]]",
-            Simple::MultiPolygon,
-            g15(5),
-            "behind an empty polygon",
-        ),
-        ("[[[1,2]]]", Simple::Polygon, g14(1), "one position"),
-        (
-            "[[[1,2]]]",
-            Simple::MultiPolygon,
-            g14(2),
-            "rings of numbers",
-        ),
-        (
-            "[[[0,0],[1,0],[0,0]]]",
-            Simple::Polygon,
-            g14(1),
-            "three positions",
-        ),
-        (
-            "[[[1,2]]]",
-            Simple::MultiLineString,
-            g13(1),
-            "a line of one position",
-        ),
-        (
-            "[[[0,0],[4,0],[4,4],[0,0]],[[1,1],[2,1],[2,2],[1,1]]]",
-            Simple::Polygon,
-            None,
-            "a hole",
-        ),
-    ];
-    for (text, simple, expected, name) in rows {
-        let found = Both::of_text(text);
-        assert!(rt; found.walked.walk.fault(simple) == expected, "{name}");
-        assert!(rt;
-            found.by_walk() == found.by_watchers(),
-            "{name}: the watchers"
-        );
+    for (text, simple, expected, name) in RINGS.iter() {
+        let both = Both::of_text(text);
+        let found = both.walked.walk.fault(*simple);
+        holds(&rt, found == fault_of(expected), name);
+        holds(&rt, both.by_walk() == both.by_watchers(), name);
     }
 }
+
+static OF_SIXTY_LEVELS: [Found; 6] = [
+    Some((G12, 0)),
+    Some((G12, 1)),
+    Some((G13, 0)),
+    Some((G13, 1)),
+    Some((G14, 1)),
+    Some((G14, 2)),
+];
 
 #[test]
 fn sixty_levels(rt: HostRuntime) {
     let both = Both::of(&[(b"[", 60), (b"]", 60)]);
-    let expected = [g12(0), g12(1), g13(0), g13(1), g14(1), g14(2)];
-    expect(&rt, &both, expected, "sixty levels");
+    expect(&rt, &both, &OF_SIXTY_LEVELS, "sixty levels");
 }
+
+static OF_A_POSITION: [Found; 6] = [
+    None,
+    Some((G11, 1)),
+    Some((G11, 1)),
+    Some((G11, 1)),
+    Some((G11, 1)),
+    Some((G11, 1)),
+];
 
 #[test]
 fn a_hundred_thousand_numbers(rt: HostRuntime) {
     let both = Both::of(&[(b"[7", 1), (b",7", 99_999), (b"]", 1)]);
-    let wrong = g11(1);
-    expect(
-        &rt,
-        &both,
-        [None, wrong, wrong, wrong, wrong, wrong],
-        "a position of a hundred thousand numbers",
-    );
+    expect(&rt, &both, &OF_A_POSITION, "a position of so many numbers");
 }
+
+/// The end of a ring, its fault as a polygon's, and what it is.
+static RING_ENDS: [(&[u8], Found, &str); 2] = [
+    (b",[0,0]]]", None, "a ring"),
+    (b",[1,0]]]", Some((G15, 1)), "an open ring"),
+];
 
 #[test]
 fn a_hundred_thousand_positions(rt: HostRuntime) {
-    let rows: [(&[u8], Option<Fault>); 2] = [(b",[0,0]]]", None), (b",[1,0]]]", g15(1))];
-    for (end, expected) in rows {
+    for (end, expected, name) in RING_ENDS.iter() {
         let both = Both::of(&[(b"[[[0,0]", 1), (b",[5,0]", 99_998), (end, 1)]);
-        assert!(rt;
-            both.walked.walk.fault(Simple::Polygon) == expected,
-            "the walk"
-        );
-        assert!(rt; both.by_walk() == both.by_watchers(), "the watchers");
+        let found = both.walked.walk.fault(Simple::Polygon);
+        holds(&rt, found == fault_of(expected), name);
+        holds(&rt, both.by_walk() == both.by_watchers(), name);
     }
 }

@@ -1,4 +1,5 @@
 //! Rows of rings and how they run, each as an exterior ring and as a hole of one polygon.
+use crate::checks::equal;
 use gj_coords::{Coordinates, Kind, Simple};
 use gj_json::{Event, EventSink, Limits, Reader};
 
@@ -61,86 +62,88 @@ fn turn_of(text: &'static str) -> Turn {
     told_turn(&[(text, 1)])
 }
 
+static RINGS: [(&str, Turn); 10] = [
+    ("[]", Turn::Neither),
+    ("[[1,2]]", Turn::Neither),
+    ("[[0,0],[1,0],[1,1],[0,1],[0,0]]", Turn::Left),
+    ("[[0,0],[0,1],[1,1],[1,0],[0,0]]", Turn::Right),
+    ("[[-3,-3],[-2,-3],[-2,-2],[-3,-2],[-3,-3]]", Turn::Left),
+    ("[[0,0],[1,1],[2,2],[0,0]]", Turn::Neither),
+    (
+        "[[0,0],[1,0],[1,1],[0,1],[0,0],[0,1],[1,1],[1,0],[0,0]]",
+        Turn::Neither,
+    ),
+    // The numbers are cut to seven places.
+    (
+        "[[0,0],[0.00000009,0],[0.00000009,0.00000009],[0,0]]",
+        Turn::Neither,
+    ),
+    (
+        "[[0,0],[0.0000001,0],[0.0000001,0.0000001],[0,0]]",
+        Turn::Left,
+    ),
+    // Only the first two numbers count.
+    ("[[0,0,9],[1,0,-9],[1,1,1e40],[0,0,9]]", Turn::Left),
+];
+
 #[test]
 fn rings(rt: HostRuntime) {
-    let rows = [
-        ("[]", Turn::Neither),
-        ("[[1,2]]", Turn::Neither),
-        ("[[0,0],[1,0],[1,1],[0,1],[0,0]]", Turn::Left),
-        ("[[0,0],[0,1],[1,1],[1,0],[0,0]]", Turn::Right),
-        ("[[-3,-3],[-2,-3],[-2,-2],[-3,-2],[-3,-3]]", Turn::Left),
-        ("[[0,0],[1,1],[2,2],[0,0]]", Turn::Neither),
-        (
-            "[[0,0],[1,0],[1,1],[0,1],[0,0],[0,1],[1,1],[1,0],[0,0]]",
-            Turn::Neither,
-        ),
-        // The numbers are cut to seven places.
-        (
-            "[[0,0],[0.00000009,0],[0.00000009,0.00000009],[0,0]]",
-            Turn::Neither,
-        ),
-        (
-            "[[0,0],[0.0000001,0],[0.0000001,0.0000001],[0,0]]",
-            Turn::Left,
-        ),
-        // Only the first two numbers count.
-        ("[[0,0,9],[1,0,-9],[1,1,1e40],[0,0,9]]", Turn::Left),
-    ];
-    for (text, expected) in rows {
-        assert!(rt; turn_of(text) == expected, "{text}");
+    for (text, expected) in RINGS.iter() {
+        equal(&rt, turn_of(text), *expected, text);
     }
 }
 
+static RANGES: [(&str, Turn); 16] = [
+    (
+        "[[180,90],[-180,90],[-180,-90],[180,-90],[180,90]]",
+        Turn::Left,
+    ),
+    (
+        "[[180.00000009,90.00000009],[-180.00000009,-90.00000009],[0,0]]",
+        Turn::Neither,
+    ),
+    ("[[181,0],[1,0],[1,1],[0,1]]", Turn::Neither),
+    ("[[0,0],[1,0],[181,0],[1,1],[0,0]]", Turn::Neither),
+    ("[[0,0],[1,0],[1,1],[181,0]]", Turn::Neither),
+    ("[[180.0000001,90]]", Turn::Neither),
+    ("[[-180.0000001,90]]", Turn::Neither),
+    ("[[180,90.0000001]]", Turn::Neither),
+    ("[[180,-90.0000001]]", Turn::Neither),
+    ("[[90,180]]", Turn::Neither),
+    ("[[1e10,0]]", Turn::Neither),
+    ("[[0,-1e10]]", Turn::Neither),
+    ("[[1e401,0]]", Turn::Neither),
+    ("[[0,1e401]]", Turn::Neither),
+    ("[[0]]", Turn::Neither),
+    ("[[]]", Turn::Neither),
+];
+
 #[test]
 fn ranges(rt: HostRuntime) {
-    let rows = [
-        (
-            "[[180,90],[-180,90],[-180,-90],[180,-90],[180,90]]",
-            Turn::Left,
-        ),
-        (
-            "[[180.00000009,90.00000009],[-180.00000009,-90.00000009],[0,0]]",
-            Turn::Neither,
-        ),
-        ("[[181,0],[1,0],[1,1],[0,1]]", Turn::Neither),
-        ("[[0,0],[1,0],[181,0],[1,1],[0,0]]", Turn::Neither),
-        ("[[0,0],[1,0],[1,1],[181,0]]", Turn::Neither),
-        ("[[180.0000001,90]]", Turn::Neither),
-        ("[[-180.0000001,90]]", Turn::Neither),
-        ("[[180,90.0000001]]", Turn::Neither),
-        ("[[180,-90.0000001]]", Turn::Neither),
-        ("[[90,180]]", Turn::Neither),
-        ("[[1e10,0]]", Turn::Neither),
-        ("[[0,-1e10]]", Turn::Neither),
-        ("[[1e401,0]]", Turn::Neither),
-        ("[[0,1e401]]", Turn::Neither),
-        ("[[0]]", Turn::Neither),
-        ("[[]]", Turn::Neither),
-    ];
-    for (text, expected) in rows {
-        assert!(rt; turn_of(text) == expected, "{text}");
+    for (text, expected) in RANGES.iter() {
+        equal(&rt, turn_of(text), *expected, text);
     }
 }
+
+/// The four corners of the range, the last position, and how the ring of them runs.
+static LONG_RINGS: [(&str, &str, Turn); 2] = [
+    (
+        "[-180,-90],[180,-90],[180,90],[-180,90],",
+        "[-180,-90]]",
+        Turn::Left,
+    ),
+    (
+        "[-180,90],[180,90],[180,-90],[-180,-90],",
+        "[-180,90]]",
+        Turn::Right,
+    ),
+];
 
 /// The four corners of the range many times over.
 #[test]
 fn long_rings(rt: HostRuntime) {
-    let rows = [
-        (
-            "[-180,-90],[180,-90],[180,90],[-180,90],",
-            "[-180,-90]]",
-            Turn::Left,
-        ),
-        (
-            "[-180,90],[180,90],[180,-90],[-180,-90],",
-            "[-180,90]]",
-            Turn::Right,
-        ),
-    ];
-    for (corners, last, expected) in rows {
-        assert!(rt;
-            told_turn(&[("[", 1), (corners, 100_000), (last, 1)]) == expected,
-            "{corners}"
-        );
+    for (corners, last, expected) in LONG_RINGS.iter() {
+        let turn = told_turn(&[("[", 1), (corners, 100_000), (last, 1)]);
+        equal(&rt, turn, *expected, corners);
     }
 }

@@ -1,5 +1,6 @@
 //! Positions given as one `Flat`, beside the same given event by event.
 use super::both::{Both, Row, WarnedRow, faults_of, warnings_of};
+use crate::checks::{equal, holds};
 use crate::coords::sample::tell;
 use gj_coords::{Coordinates, SimpleFaults, Warnings};
 use gj_json::{Event, EventSink, Flat};
@@ -21,10 +22,10 @@ impl Grouped {
     }
 
     /// Tests that it finds what the walk finds that was given each event by itself.
-    pub fn expect_as(&self, rt: &impl Abort, both: &Both) {
-        assert!(rt; self.walk.done(), "done");
-        assert!(rt; self.faults() == both.by_walk(), "the faults");
-        assert!(rt; self.warnings() == both.warned_by_walk(), "the warnings");
+    pub fn expect_as(&self, rt: &impl Abort, both: &Both, row: &str) {
+        holds(rt, self.walk.done(), row);
+        holds(rt, self.faults() == both.by_walk(), row);
+        holds(rt, self.warnings() == both.warned_by_walk(), row);
     }
 
     /// Sees that the six types' faults at once are those one by one, and that it is quiet only where there is no warning.
@@ -39,11 +40,9 @@ impl Grouped {
             at_once.polygon,
             at_once.multi_polygon,
         ];
-        assert!(rt; row == self.faults(), "{text}: the faults at once");
-        assert!(rt;
-            !self.walk.is_quiet() || self.warnings() == [Warnings::none(); 6],
-            "{text}: quiet"
-        );
+        holds(rt, row == self.faults(), text);
+        let none = self.warnings() == [Warnings::none(); 6];
+        holds(rt, !self.walk.is_quiet() || none, text);
     }
 
     fn faults(&self) -> Row {
@@ -90,13 +89,8 @@ fn expect_same(rt: &impl Abort, text: &str, flats: u64) {
     grouped.walk.again();
     grouped.flats = 0;
     read(text, &mut grouped);
-    assert!(rt; grouped.walk.done(), "{text}: done");
-    assert!(rt; grouped.flats == flats, "{text}: told as one");
-    assert!(rt; grouped.faults() == both.by_walk(), "{text}: the faults");
-    assert!(rt;
-        grouped.warnings() == both.warned_by_walk(),
-        "{text}: the warnings"
-    );
+    equal(rt, grouped.flats, flats, text);
+    grouped.expect_as(rt, &both, text);
     grouped.expect_at_once(rt, text);
 }
 
@@ -112,8 +106,8 @@ fn expect_whole(rt: &impl Abort, object: &str, value: &str) {
         *to = *from;
     }
     tell(&piece, &mut only);
-    assert!(rt; only.grouped.flats == 1, "{object}: told as one");
-    only.grouped.expect_as(rt, &both);
+    equal(rt, only.grouped.flats, 1, object);
+    only.grouped.expect_as(rt, &both, object);
     only.grouped.expect_at_once(rt, object);
 }
 
@@ -139,70 +133,68 @@ impl EventSink for OnlyFlats {
     fn pass(&mut self, _left: u16) {}
 }
 
+/// An object, and the value of its one member at its place.
+static WHOLE: [(&str, &str); 5] = [
+    ("{\"a\":[1,2]}", "     [1,2] "),
+    ("{\"a\":[1,2,3]}", "     [1,2,3] "),
+    ("{\"a\":[-180.0,90]}", "     [-180.0,90] "),
+    (
+        "{\"a\":[180.00000001,2,3.123456789]}",
+        "     [180.00000001,2,3.123456789] ",
+    ),
+    ("{\"a\":[1.12345678,90.5]}", "     [1.12345678,90.5] "),
+];
+
 #[test]
 fn a_position_is_the_value(rt: HostRuntime) {
-    let rows = [
-        ("{\"a\":[1,2]}", "     [1,2] "),
-        ("{\"a\":[1,2,3]}", "     [1,2,3] "),
-        ("{\"a\":[-180.0,90]}", "     [-180.0,90] "),
-        (
-            "{\"a\":[180.00000001,2,3.123456789]}",
-            "     [180.00000001,2,3.123456789] ",
-        ),
-        ("{\"a\":[1.12345678,90.5]}", "     [1.12345678,90.5] "),
-    ];
-    for (object, value) in rows {
+    for (object, value) in WHOLE.iter() {
         expect_whole(&rt, object, value);
     }
 }
 
-fn expect_rows(rt: &impl Abort, rows: &[(&'static str, u64)]) {
-    for (text, flats) in rows {
-        expect_same(rt, text, *flats);
-    }
-}
+/// A value, and how many arrays in it are told as one.
+static TOLD: [(&str, u64); 15] = [
+    ("[1,2]", 0),
+    ("[1,2,3]", 0),
+    ("[1e7,2,3.123456789]", 0),
+    ("[1,2,3,4]", 0),
+    ("[1]", 0),
+    ("[1,1e999]", 0),
+    (
+        "[[1,2],[3,4,5],[6,7],[8,9],[10,11],[12,13.00000001],[14,95],[1,2]]",
+        8,
+    ),
+    (
+        "[[1,2],[3,4],[5,6],[7,8],[9,[1,2]],[1,2],{\"a\":[1,2]},[3,4],[1],[5,6]]",
+        9,
+    ),
+    (
+        "[[[0,0],[10,0],[10,10],[5,11],[0,10],[0,0]],[[1,1],[1,2],[2,2],[2,1.5],[2,1],[1,1]]]",
+        12,
+    ),
+    (
+        "[[[0,0],[0,10],[10,10],[11,5],[10,0],[0,0]],[[1,1],[2,1],[2,2],[1.5,2],[1,2],[1,1,1]]]",
+        12,
+    ),
+    (
+        "[[[0,0],[10,0],[10,10],[5,11.123456789],[181,10],[0,0.00],[0,0]],[],[[1,2],[3,4],[5,6],[7,8],[1,2,3],[1,2]]]",
+        13,
+    ),
+    (
+        "[[[[0,0],[10,0],[10,10],[5,11],[0,10],[0,0]],[[1,1],[1,2],[2,2],[2,1.5],[2,1],[1,1]]],[[[0,0],[10,0],[10,10],[5,11],[0,10.12345678],[0,1]]]]",
+        18,
+    ),
+    ("[[[[[1,2],[3,4],[5,6],[7,8],[9,10],[1,2]]]]]", 6),
+    (
+        "[[[1,2],[3,4],[5,6],[7,8],[9,10],7,[1,2],[3,4],[5,6]],[1,2],[3,4]]",
+        10,
+    ),
+    ("{\"a\":[[1,2],[3,4]]}", 2),
+];
 
 #[test]
 fn told_as_one_or_by_events(rt: HostRuntime) {
-    expect_rows(
-        &rt,
-        &[
-            ("[1,2]", 0),
-            ("[1,2,3]", 0),
-            ("[1e7,2,3.123456789]", 0),
-            ("[1,2,3,4]", 0),
-            ("[1]", 0),
-            ("[1,1e999]", 0),
-            (
-                "[[1,2],[3,4,5],[6,7],[8,9],[10,11],[12,13.00000001],[14,95],[1,2]]",
-                8,
-            ),
-            (
-                "[[1,2],[3,4],[5,6],[7,8],[9,[1,2]],[1,2],{\"a\":[1,2]},[3,4],[1],[5,6]]",
-                9,
-            ),
-            (
-                "[[[0,0],[10,0],[10,10],[5,11],[0,10],[0,0]],[[1,1],[1,2],[2,2],[2,1.5],[2,1],[1,1]]]",
-                12,
-            ),
-            (
-                "[[[0,0],[0,10],[10,10],[11,5],[10,0],[0,0]],[[1,1],[2,1],[2,2],[1.5,2],[1,2],[1,1,1]]]",
-                12,
-            ),
-            (
-                "[[[0,0],[10,0],[10,10],[5,11.123456789],[181,10],[0,0.00],[0,0]],[],[[1,2],[3,4],[5,6],[7,8],[1,2,3],[1,2]]]",
-                13,
-            ),
-            (
-                "[[[[0,0],[10,0],[10,10],[5,11],[0,10],[0,0]],[[1,1],[1,2],[2,2],[2,1.5],[2,1],[1,1]]],[[[0,0],[10,0],[10,10],[5,11],[0,10.12345678],[0,1]]]]",
-                18,
-            ),
-            ("[[[[[1,2],[3,4],[5,6],[7,8],[9,10],[1,2]]]]]", 6),
-            (
-                "[[[1,2],[3,4],[5,6],[7,8],[9,10],7,[1,2],[3,4],[5,6]],[1,2],[3,4]]",
-                10,
-            ),
-            ("{\"a\":[[1,2],[3,4]]}", 2),
-        ],
-    );
+    for (text, flats) in TOLD.iter() {
+        expect_same(&rt, text, *flats);
+    }
 }

@@ -2,6 +2,7 @@
 //! six watchers get the same values event by event.
 use super::both::Both;
 use super::flat::Grouped;
+use crate::checks::holds_at;
 use gj_json::{Limits, Reader};
 use std::process::Abort;
 
@@ -108,15 +109,11 @@ fn expect_same(rt: &impl Abort, seed: u64) {
         let _ = reader.feed(one, &mut grouped);
         let _ = reader.feed(other, &mut grouped);
     }
-    grouped.expect_as(rt, &both);
-    assert!(rt;
-        both.by_walk() == both.by_watchers(),
-        "{seed}: the watchers' faults"
-    );
-    assert!(rt;
-        both.warned_by_walk() == both.warned_by_watchers(),
-        "{seed}: the watchers' warnings"
-    );
+    grouped.expect_as(rt, &both, "drawn");
+    let faults = both.by_walk() == both.by_watchers();
+    holds_at(rt, faults, "drawn", seed as usize);
+    let warnings = both.warned_by_walk() == both.warned_by_watchers();
+    holds_at(rt, warnings, "drawn", seed as usize);
 }
 
 #[test]

@@ -1,151 +1,145 @@
 //! Rows of values and their warnings, for the six watchers and for the one walk.
 use super::both::{Both, SIX, Walked};
-use gj_coords::{Kind, Simple, Warned, Warnings};
+use crate::checks::holds;
+use crate::rows::{Found, warnings_at};
+use gj_coords::Kind::{W2, W3, W4, W5, W6, W8, W9};
+use gj_coords::Simple::{LineString, MultiLineString, MultiPoint, MultiPolygon, Point, Polygon};
+use gj_coords::{Simple, Warned, Warnings};
 use std::process::Abort;
 
-fn none() -> Warnings {
-    Warnings::none()
-}
+/// A value, its type, and its warnings.
+type Row = (&'static str, Simple, Found);
 
-fn one(kind: Kind, place: u64) -> Warnings {
-    none().add(kind, place)
-}
-
-type Row = (&'static str, Simple, Warnings);
-
-fn expect(rt: &impl Abort, both: &Both, simple: Simple, expected: Warnings, name: &str) {
-    assert!(rt; both.walked.walk.warnings(simple) == expected, "{name}");
-    let mut warned = Warned::of(one(Kind::W9, 1));
+fn expect(rt: &impl Abort, both: &Both, simple: Simple, found: Found, name: &str) {
+    let expected = warnings_at(found);
+    holds(rt, both.walked.walk.warnings(simple) == expected, name);
+    let mut warned = Warned::of(warnings_at(&[(W9, 1)]));
     both.walked.walk.warn(simple, &mut warned);
-    assert!(rt;
-        warned.all() == expected.add(Kind::W9, 1),
-        "{name}: added to others"
-    );
-    assert!(rt;
-        both.warned_by_walk() == both.warned_by_watchers(),
-        "{name}: the watchers"
-    );
+    holds(rt, warned.all() == expected.add(W9, 1), name);
+    let alike = both.warned_by_walk() == both.warned_by_watchers();
+    holds(rt, alike, name);
 }
 
-fn expect_rows(rt: &impl Abort, rows: &[Row]) {
-    for (text, simple, expected) in rows {
-        expect(rt, &Both::of_text(text), *simple, *expected, text);
-    }
+fn expect_row(rt: &impl Abort, row: &Row) {
+    let (text, simple, found) = row;
+    expect(rt, &Both::of_text(text), *simple, found, text);
 }
+
+static POSITIONS: [Row; 23] = [
+    ("[1,2]", Point, &[]),
+    ("[1,2,3]", Point, &[]),
+    ("[1,2,3,4]", Point, &[(W3, 0)]),
+    ("[1,2,3,4,5]", Point, &[(W3, 0)]),
+    ("[-180,-90]", Point, &[]),
+    ("[180,90,1e9]", Point, &[]),
+    ("[180.0000001,90]", Point, &[(W5, 0)]),
+    ("[-180.0000001,0]", Point, &[(W5, 0)]),
+    ("[0,90.0000001]", Point, &[(W5, 0)]),
+    ("[0,-90.0000001]", Point, &[(W5, 0)]),
+    ("[200,100]", Point, &[(W5, 0)]),
+    ("[1e10,1]", Point, &[(W5, 0)]),
+    ("[1,1e300]", Point, &[(W5, 0)]),
+    ("[1.1234567,2]", Point, &[]),
+    ("[1.12345678,2]", Point, &[(W4, 1)]),
+    ("[1,2.12345678]", Point, &[(W4, 3)]),
+    ("[1,2,3.12345678]", Point, &[(W4, 5)]),
+    ("[1,2,3,4.12345678]", Point, &[(W3, 0)]),
+    ("[1.12345678,2,3.12345678]", Point, &[(W4, 1), (W4, 14)]),
+    ("[180.00000009,90]", Point, &[(W4, 1)]),
+    ("[1.4210854715202004e-14,1]", Point, &[(W4, 1)]),
+    ("[1.500000000000,2]", Point, &[]),
+    ("[1e-8,91,0,7]", Point, &[(W3, 0), (W5, 0), (W4, 1)]),
+];
 
 #[test]
 fn positions(rt: HostRuntime) {
-    let point = Simple::Point;
-    expect_rows(
-        &rt,
-        &[
-            ("[1,2]", point, none()),
-            ("[1,2,3]", point, none()),
-            ("[1,2,3,4]", point, one(Kind::W3, 0)),
-            ("[1,2,3,4,5]", point, one(Kind::W3, 0)),
-            ("[-180,-90]", point, none()),
-            ("[180,90,1e9]", point, none()),
-            ("[180.0000001,90]", point, one(Kind::W5, 0)),
-            ("[-180.0000001,0]", point, one(Kind::W5, 0)),
-            ("[0,90.0000001]", point, one(Kind::W5, 0)),
-            ("[0,-90.0000001]", point, one(Kind::W5, 0)),
-            ("[200,100]", point, one(Kind::W5, 0)),
-            ("[1e10,1]", point, one(Kind::W5, 0)),
-            ("[1,1e300]", point, one(Kind::W5, 0)),
-            ("[1.1234567,2]", point, none()),
-            ("[1.12345678,2]", point, one(Kind::W4, 1)),
-            ("[1,2.12345678]", point, one(Kind::W4, 3)),
-            ("[1,2,3.12345678]", point, one(Kind::W4, 5)),
-            ("[1,2,3,4.12345678]", point, one(Kind::W3, 0)),
-            (
-                "[1.12345678,2,3.12345678]",
-                point,
-                one(Kind::W4, 1).add(Kind::W4, 14),
-            ),
-            ("[180.00000009,90]", point, one(Kind::W4, 1)),
-            ("[1.4210854715202004e-14,1]", point, one(Kind::W4, 1)),
-            ("[1.500000000000,2]", point, none()),
-            (
-                "[1e-8,91,0,7]",
-                point,
-                one(Kind::W3, 0).add(Kind::W5, 0).add(Kind::W4, 1),
-            ),
-        ],
-    );
-}
-
-#[test]
-fn what_breaks_a_rule_gives_none(rt: HostRuntime) {
-    expect_rows(
-        &rt,
-        &[
-            ("[1e-8]", Simple::Point, none()),
-            ("[200,\"a\"]", Simple::Point, none()),
-            ("[1,2,3,4,null]", Simple::Point, none()),
-            ("[1e-8,1e401]", Simple::Point, none()),
-            ("7", Simple::Point, none()),
-            ("{\"a\":[]}", Simple::MultiPoint, none()),
-            ("[200]", Simple::MultiPoint, none()),
-            ("[[200],[200,0]]", Simple::MultiPoint, one(Kind::W5, 7)),
-            ("[7,[200,0]]", Simple::LineString, one(Kind::W5, 3)),
-            ("[[[0,0],[0,1],[1,1],[0,1]]]", Simple::Polygon, none()),
-            ("[[[0,0],[1,1],[0,0]]]", Simple::Polygon, none()),
-        ],
-    );
-}
-
-#[test]
-fn empty_arrays(rt: HostRuntime) {
-    for simple in SIX {
-        expect_rows(
-            &rt,
-            &[
-                ("[]", simple, one(Kind::W6, 0)),
-                (" []", simple, one(Kind::W6, 1)),
-                ("[[]]", simple, none()),
-                ("[[],[]]", simple, none()),
-            ],
-        );
+    for row in POSITIONS.iter() {
+        expect_row(&rt, row);
     }
 }
 
+static BROKEN: [Row; 11] = [
+    ("[1e-8]", Point, &[]),
+    ("[200,\"a\"]", Point, &[]),
+    ("[1,2,3,4,null]", Point, &[]),
+    ("[1e-8,1e401]", Point, &[]),
+    ("7", Point, &[]),
+    ("{\"a\":[]}", MultiPoint, &[]),
+    ("[200]", MultiPoint, &[]),
+    ("[[200],[200,0]]", MultiPoint, &[(W5, 7)]),
+    ("[7,[200,0]]", LineString, &[(W5, 3)]),
+    ("[[[0,0],[0,1],[1,1],[0,1]]]", Polygon, &[]),
+    ("[[[0,0],[1,1],[0,0]]]", Polygon, &[]),
+];
+
+#[test]
+fn what_breaks_a_rule_gives_none(rt: HostRuntime) {
+    for row in BROKEN.iter() {
+        expect_row(&rt, row);
+    }
+}
+
+/// A value, and its warnings as each of the six types.
+static EMPTY: [(&str, Found); 4] = [
+    ("[]", &[(W6, 0)]),
+    (" []", &[(W6, 1)]),
+    ("[[]]", &[]),
+    ("[[],[]]", &[]),
+];
+
+#[test]
+fn empty_arrays(rt: HostRuntime) {
+    for simple in SIX.iter() {
+        for (text, found) in EMPTY.iter() {
+            expect(&rt, &Both::of_text(text), *simple, found, text);
+        }
+    }
+}
+
+static LINES: [Row; 11] = [
+    ("[[1,2,3,4],[1,2,3,4,5]]", LineString, &[(W3, 1), (W3, 11)]),
+    ("[[1,2,3,4],[1,2,3,4,5]]", MultiPoint, &[(W3, 1), (W3, 11)]),
+    ("[[1,2,3,4],[1,2,3,4,5]]", MultiLineString, &[]),
+    ("[[1,2,3,4],[1,2,3,4,5]]", Polygon, &[]),
+    ("[[1,2,3,4],[1,2,3,4,5]]", MultiPolygon, &[]),
+    ("[[1,2,3,4],[1,2,3,4,5]]", Point, &[]),
+    (
+        "[[[1,2,3,4]],[[200,0]]]",
+        MultiLineString,
+        &[(W3, 2), (W5, 14)],
+    ),
+    ("[[[1,2,3,4]],[[200,0]]]", Polygon, &[(W3, 2), (W5, 14)]),
+    ("[[[1,2,3,4]],[[200,0]]]", LineString, &[]),
+    ("[[[1,2,3,4]],[[200,0]]]", MultiPolygon, &[]),
+    (
+        "[[[[1,2,3,4]],[]],[[[0,0],[200,0]]]]",
+        MultiPolygon,
+        &[(W3, 3), (W5, 26)],
+    ),
+];
+
 #[test]
 fn lines(rt: HostRuntime) {
-    let two = one(Kind::W3, 1).add(Kind::W3, 11);
-    let deep = one(Kind::W3, 2).add(Kind::W5, 14);
-    expect_rows(
-        &rt,
-        &[
-            ("[[1,2,3,4],[1,2,3,4,5]]", Simple::LineString, two),
-            ("[[1,2,3,4],[1,2,3,4,5]]", Simple::MultiPoint, two),
-            ("[[1,2,3,4],[1,2,3,4,5]]", Simple::MultiLineString, none()),
-            ("[[1,2,3,4],[1,2,3,4,5]]", Simple::Polygon, none()),
-            ("[[1,2,3,4],[1,2,3,4,5]]", Simple::MultiPolygon, none()),
-            ("[[1,2,3,4],[1,2,3,4,5]]", Simple::Point, none()),
-            ("[[[1,2,3,4]],[[200,0]]]", Simple::MultiLineString, deep),
-            ("[[[1,2,3,4]],[[200,0]]]", Simple::Polygon, deep),
-            ("[[[1,2,3,4]],[[200,0]]]", Simple::LineString, none()),
-            ("[[[1,2,3,4]],[[200,0]]]", Simple::MultiPolygon, none()),
-            (
-                "[[[[1,2,3,4]],[]],[[[0,0],[200,0]]]]",
-                Simple::MultiPolygon,
-                one(Kind::W3, 3).add(Kind::W5, 26),
-            ),
-        ],
-    );
+    for row in LINES.iter() {
+        expect_row(&rt, row);
+    }
 }
+
+const WRONG: &str = "[[0,0],[0,1],[1,1],[0,0]]";
+
+const RIGHT: &str = "[[0,0],[1,1],[0,1],[0,0]]";
+
+/// An exterior ring, a hole, the warnings of the polygon, and what it is.
+static RINGS: [(&str, &str, Found, &str); 4] = [
+    (WRONG, RIGHT, &[(W2, 1), (W2, 27)], "both are wrong"),
+    (WRONG, WRONG, &[(W2, 1)], "the exterior ring is wrong"),
+    (RIGHT, WRONG, &[], "both are right"),
+    (RIGHT, RIGHT, &[(W2, 27)], "the hole is wrong"),
+];
 
 #[test]
 fn rings(rt: HostRuntime) {
-    let wrong = "[[0,0],[0,1],[1,1],[0,0]]";
-    let right = "[[0,0],[1,1],[0,1],[0,0]]";
-    let rows: [(&'static str, &'static str, Warnings); 4] = [
-        (wrong, right, one(Kind::W2, 1).add(Kind::W2, 27)),
-        (wrong, wrong, one(Kind::W2, 1)),
-        (right, wrong, none()),
-        (right, right, one(Kind::W2, 27)),
-    ];
-    for (exterior, hole, expected) in rows {
+    for (exterior, hole, found, name) in RINGS.iter() {
         let both = Both::of(&[
             (b"[", 1),
             (exterior.as_bytes(), 1),
@@ -153,79 +147,85 @@ fn rings(rt: HostRuntime) {
             (hole.as_bytes(), 1),
             (b"]", 1),
         ]);
-        expect(&rt, &both, Simple::Polygon, expected, exterior);
-        expect(&rt, &both, Simple::MultiLineString, none(), "as lines");
+        expect(&rt, &both, Polygon, found, name);
+        expect(&rt, &both, MultiLineString, &[], name);
     }
 }
 
+static POLYGONS: [Row; 10] = [
+    ("[[[0,0],[0,1],[1,1],[0,0]]]", Polygon, &[(W2, 1)]),
+    (
+        "[[[0,0],[4,0],[4,4],[0,0]],[[1,1],[2,1],[2,2],[1,1]]]",
+        Polygon,
+        &[(W2, 27)],
+    ),
+    ("[[[0,0],[0,91],[1,1],[0,0]]]", Polygon, &[(W5, 8)]),
+    ("[[[0,0],[1,0],[2,0],[0,0]]]", Polygon, &[]),
+    (
+        "[[[0,0],[1e-8,1],[2e-8,0],[0,0]]]",
+        Polygon,
+        &[(W4, 9), (W4, 18)],
+    ),
+    ("[[],[[0,0],[0,1],[1,1],[0,0]]]", Polygon, &[]),
+    ("[7,[[0,0],[1,1],[0,1],[0,0]]]", Polygon, &[(W2, 3)]),
+    (
+        "[[[[0,0],[0,1],[1,1],[0,0]]],[[[0,0],[0,1],[1,1],[0,0]]]]",
+        MultiPolygon,
+        &[(W2, 2), (W2, 30)],
+    ),
+    (
+        "[[[[0,0],[0,1],[1,1],[0,0]],[[0,0],[0,1],[1,1],[0,0]]]]",
+        MultiPolygon,
+        &[(W2, 2)],
+    ),
+    (
+        "[[[[0,0],[0,1],[1,1],[0,0]],[[0,0],[0,1],[1,1],[0,0]]]]",
+        Polygon,
+        &[],
+    ),
+];
+
 #[test]
 fn polygons(rt: HostRuntime) {
-    let polygon = Simple::Polygon;
-    expect_rows(
-        &rt,
-        &[
-            ("[[[0,0],[0,1],[1,1],[0,0]]]", polygon, one(Kind::W2, 1)),
-            (
-                "[[[0,0],[4,0],[4,4],[0,0]],[[1,1],[2,1],[2,2],[1,1]]]",
-                polygon,
-                one(Kind::W2, 27),
-            ),
-            ("[[[0,0],[0,91],[1,1],[0,0]]]", polygon, one(Kind::W5, 8)),
-            ("[[[0,0],[1,0],[2,0],[0,0]]]", polygon, none()),
-            (
-                "[[[0,0],[1e-8,1],[2e-8,0],[0,0]]]",
-                polygon,
-                one(Kind::W4, 9).add(Kind::W4, 18),
-            ),
-            ("[[],[[0,0],[0,1],[1,1],[0,0]]]", polygon, none()),
-            ("[7,[[0,0],[1,1],[0,1],[0,0]]]", polygon, one(Kind::W2, 3)),
-            (
-                "[[[[0,0],[0,1],[1,1],[0,0]]],[[[0,0],[0,1],[1,1],[0,0]]]]",
-                Simple::MultiPolygon,
-                one(Kind::W2, 2).add(Kind::W2, 30),
-            ),
-            (
-                "[[[[0,0],[0,1],[1,1],[0,0]],[[0,0],[0,1],[1,1],[0,0]]]]",
-                Simple::MultiPolygon,
-                one(Kind::W2, 2),
-            ),
-            (
-                "[[[[0,0],[0,1],[1,1],[0,0]],[[0,0],[0,1],[1,1],[0,0]]]]",
-                polygon,
-                none(),
-            ),
-        ],
-    );
+    for row in POLYGONS.iter() {
+        expect_row(&rt, row);
+    }
 }
 
 #[test]
 fn warnings_that_are_gathered(rt: HostRuntime) {
     let mut warned = Warned::none();
-    assert!(rt; warned.is_empty());
+    holds(&rt, warned.is_empty(), "none");
     warned.take(&Warned::none());
-    assert!(rt; warned.is_empty());
-    warned.note(Kind::W9, 7);
-    warned.take(&Warned::of(one(Kind::W8, 3)));
-    assert!(rt; !warned.is_empty());
-    assert!(rt; warned.all() == one(Kind::W9, 7).add(Kind::W8, 3));
+    holds(&rt, warned.is_empty(), "none of none");
+    warned.note(W9, 7);
+    warned.take(&Warned::of(warnings_at(&[(W8, 3)])));
+    holds(&rt, !warned.is_empty(), "two");
+    let both = warnings_at(&[(W9, 7), (W8, 3)]);
+    holds(&rt, warned.all() == both, "both");
     warned.clear();
-    assert!(rt; warned.all() == none());
+    holds(&rt, warned.all() == Warnings::none(), "none again");
 }
+
+/// The way around the earth, and the warnings of the polygon.
+static AROUND: [(&str, Found); 2] = [
+    (",[180,-90],[180,90],[-180,90],[-180,-90]", &[]),
+    (",[-180,90],[180,90],[180,-90],[-180,-90]", &[(W2, 1)]),
+];
 
 #[test]
 fn a_hundred_thousand_positions(rt: HostRuntime) {
-    let left: &[u8] = b",[180,-90],[180,90],[-180,90],[-180,-90]";
-    let right: &[u8] = b",[-180,90],[180,90],[180,-90],[-180,-90]";
-    let rows: [(&[u8], Warnings); 2] = [(left, none()), (right, one(Kind::W2, 1))];
-    for (around, expected) in rows {
-        let both = Both::of(&[(b"[[[-180,-90]", 1), (around, 25_000), (b"]]", 1)]);
-        expect(&rt, &both, Simple::Polygon, expected, "around the earth");
+    for (around, found) in AROUND.iter() {
+        let ring = around.as_bytes();
+        let both = Both::of(&[(b"[[[-180,-90]", 1), (ring, 25_000), (b"]]", 1)]);
+        expect(&rt, &both, Polygon, found, around);
     }
 }
 
 #[test]
 fn a_million_numbers(rt: HostRuntime) {
     let walked = Walked::of(&[(b"[0", 1), (b",0", 999_999), (b"]", 1)]);
-    assert!(rt; walked.walk.fault(Simple::Point).is_none());
-    assert!(rt; walked.walk.warnings(Simple::Point) == one(Kind::W3, 0));
+    holds(&rt, walked.walk.fault(Point).is_none(), "no fault");
+    let expected = warnings_at(&[(W3, 0)]);
+    holds(&rt, walked.walk.warnings(Point) == expected, "one warning");
 }
