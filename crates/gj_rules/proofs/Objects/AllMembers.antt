@@ -117,7 +117,8 @@ uses_type Role.Root = refl
 uses_type _ = refl
 
 -- the first `type` sets it
-type_own : (place : ℕ) (v : Tree) (f : MemberSlots) (o : Option Slot) (u : Bool) (more : Option TypeValue) → uses f.role TypeName ≡ true → (f.slots TypeName) ≡ o
+type_own : (place : ℕ) (v : Tree) (f : MemberSlots) (o : Option Slot) (u : Bool) (more : Option TypeValue)
+    → uses f.role TypeName ≡ true → (f.slots TypeName) ≡ o
     → type_from (slot_of TypeName (filled (due_known TypeName o f.role) v (named_known TypeName place o f)))
     (filled (due_known TypeName o f.role) v (named_known TypeName place o f)).type_value more
     ≡ type_from o f.type_value (Some (record { place = place_of v; word = type_of v }))
@@ -125,11 +126,13 @@ type_own place v f (Some slot) u more i e = rw e refl
 type_own place v f None u more i e = rw i refl
 
 type_step : (name : Known) (place : ℕ) (value : Tree) (f : MemberSlots) (b : Bool) (rest : Option TypeValue) → same TypeName name ≡ b
-    → type_from (slot_of TypeName (member_taken place name value f)) (member_taken place name value f).type_value rest ≡ type_from (f.slots TypeName) f.type_value
+    → type_from (slot_of TypeName (member_taken place name value f)) (member_taken place name value f).type_value rest
+    ≡ type_from (f.slots TypeName) f.type_value
     (if b then Some (record { place = place_of value; word = type_of value }) else rest)
 type_step name place value f false rest e = rw (slot-other TypeName name place value f refl e, type_other name place value f e) refl
 type_step name place value f true rest e =
-    subst (λ m. type_from (slot_of TypeName (member_taken place m value f)) (member_taken place m value f).type_value rest ≡ type_from (f.slots TypeName) f.type_value
+    subst (λ m. type_from (slot_of TypeName (member_taken place m value f)) (member_taken place m value f).type_value rest
+    ≡ type_from (f.slots TypeName) f.type_value
     (Some (record { place = place_of value; word = type_of value }))) (same_is TypeName name e)
     (type_own place value f (f.slots TypeName) true rest (uses_type f.role) refl)
 
@@ -152,7 +155,8 @@ type_stays (Some slot) (Some value) x e = refl
 type_stays None (Some value) x e = cc
 
 pub stays_after : (ms : Members) (f : MemberSlots) → IsTyped f → TypeStays f.type_value (members_taken ms f).type_value
-stays_after ms f h = subst (λ (o : Option TypeValue). TypeStays f.type_value o) (sym (type_after ms f)) (type_stays (f.slots TypeName) f.type_value (first_type ms) h)
+stays_after ms f h =
+    subst (λ (o : Option TypeValue). TypeStays f.type_value o) (sym (type_after ms f)) (type_stays (f.slots TypeName) f.type_value (first_type ms) h)
 
 typed_is : (t : Option Slot) (o : Option TypeValue) (b : Bool) (x : TypeValue) (y : First) → is_some o ≡ is_some t
     → is_some (type_from t o (if b then Some x else None)) ≡ is_some (or_slot t (slot_from true (if b then Some y else None)))
@@ -190,7 +194,8 @@ named_shapes m place f true None = refl
 named_shapes m place f false o = refl
 
 shapes_other : (m : Known) (place : ℕ) (v : Tree) (f : MemberSlots) → same Coordinates m ≡ false → (member_taken place m v f).shapes ≡ f.shapes
-shapes_other m place v f e = filled_shapes (due_after m f) v (named m place f) (due_other Coordinates m (is_known m) (uses f.role m) (slot_of m f) f.role refl refl e)
+shapes_other m place v f e =
+    filled_shapes (due_after m f) v (named m place f) (due_other Coordinates m (is_known m) (uses f.role m) (slot_of m f) f.role refl refl e)
     ∙ named_shapes m place f (is_known m) (slot_of m f)
 
 shapes_own : (place : ℕ) (v : Tree) (f : MemberSlots) (o : Option Slot) (u : Bool) → uses f.role Coordinates ≡ u → (f.slots Coordinates) ≡ o
@@ -238,12 +243,14 @@ shapes_after (member place name end value more) f h =
     let x : First = record { name_at = place; value = value; faults = judge Coordinates value } in
     let found : Option First = if same Coordinates m then Some x else None in
     shapes_after more g (typed_after place end name value f h)
-    ∙ (ap (λ (p : Role). asked t (shapes_from (uses p Coordinates) (g.slots Coordinates) None g.shapes (first Coordinates more))) (member_object m place value f).role
+    ∙ (ap (λ (p : Role). asked t (shapes_from (uses p Coordinates) (g.slots Coordinates) None g.shapes (first Coordinates more)))
+    (member_object m place value f).role
     ∙ (ap (λ (o : Option Slot). asked t (shapes_from u o None g.shapes (first Coordinates more)))
     (slots_after Coordinates (member place name end value end_of_object) f refl)
     ∙ (ap (λ (s : Shapes). asked t (shapes_from u (or_slot (f.slots Coordinates) (slot_from u found)) None s (first Coordinates more)))
     (shapes_one m place value f (same Coordinates m) refl)
-    ∙ asked_step t f.type_value u (same Coordinates m) (f.slots Coordinates) f.shapes x (first Coordinates more) (stays_after (member place name end value more) f h))))
+    ∙ asked_step t f.type_value u (same Coordinates m) (f.slots Coordinates) f.shapes x (first Coordinates more)
+    (stays_after (member place name end value more) f h))))
 
 -- ---- repeated names
 

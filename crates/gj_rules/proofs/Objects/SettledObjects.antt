@@ -1,5 +1,6 @@
 -- At its close an object has shown its least fault.
-use Rattle.std.proofs.Common.{◌≡◌, ℕ, Bool, true, false, if◌then◌else◌, List, [], ◌∷◌, ◌++◌, Option, Some, None, is_some, refl, sym, ap, subst, ◌∙◌, append-nil, append_assoc}
+use Rattle.std.proofs.Common.{◌≡◌, ℕ, Bool, true, false, if◌then◌else◌, List, [], ◌∷◌, ◌++◌, Option, Some, None, is_some}
+use Rattle.std.proofs.Common.{refl, sym, ap, subst, ◌∙◌, append-nil, append_assoc}
 use Rattle.std.proofs.Math.Path.{fun_ext}
 use Rattle.std.specs.List.{flat_map}
 use Rattle.gj_json.specs.declared.names.Known.{Known}
@@ -210,14 +211,16 @@ typed_is role Word.Other at place p = none_is role (fault_at at G3) place p
 typed_is Role.Root Word.Feature at place p = feature_is place p _ (members_is (rules_of Word.Feature) Role.Root place _ p tt tt tt tt tt tt tt)
 typed_is Role.Feature Word.Feature at place p = feature_is place p _ (members_is (rules_of Word.Feature) Role.Feature place _ p tt tt tt tt tt tt tt)
 typed_is role Word.Feature at place p = none_is role (fault_at at G3) place p
-typed_is Role.Root Word.FeatureCollection at place p = features_is place p _ (members_is (rules_of Word.FeatureCollection) Role.Root place _ p tt tt tt tt tt tt tt)
+typed_is Role.Root Word.FeatureCollection at place p =
+    features_is place p _ (members_is (rules_of Word.FeatureCollection) Role.Root place _ p tt tt tt tt tt tt tt)
 typed_is role Word.FeatureCollection at place p = none_is role (fault_at at G3) place p
 typed_is Role.Feature word at place p = none_is Role.Feature (fault_at at G3) place p
 typed_is role Word.GeometryCollection at place p = collection_is place p _ (members_is (rules_of Word.GeometryCollection) role place _ p tt tt tt tt tt tt tt)
 typed_is role Word.Point at place p = simple_is Simple.Point place p _ (members_is (rules_of Word.Point) role place _ p tt tt tt tt tt tt tt)
 typed_is role Word.MultiPoint at place p = simple_is Simple.MultiPoint place p _ (members_is (rules_of Word.Point) role place _ p tt tt tt tt tt tt tt)
 typed_is role Word.LineString at place p = simple_is Simple.LineString place p _ (members_is (rules_of Word.Point) role place _ p tt tt tt tt tt tt tt)
-typed_is role Word.MultiLineString at place p = simple_is Simple.MultiLineString place p _ (members_is (rules_of Word.Point) role place _ p tt tt tt tt tt tt tt)
+typed_is role Word.MultiLineString at place p =
+    simple_is Simple.MultiLineString place p _ (members_is (rules_of Word.Point) role place _ p tt tt tt tt tt tt tt)
 typed_is role Word.Polygon at place p = simple_is Simple.Polygon place p _ (members_is (rules_of Word.Point) role place _ p tt tt tt tt tt tt tt)
 typed_is role Word.MultiPolygon at place p = simple_is Simple.MultiPolygon place p _ (members_is (rules_of Word.Point) role place _ p tt tt tt tt tt tt tt)
 
@@ -268,7 +271,8 @@ shown_after role place members = λ i. record {
     slot_after : (n : Known) (k : Bool) → is_known n ≡ k
         → F.slot_of n (members_taken members (F.blank role place)) ≡ (if k then slot_from (F.uses role n) (R.first n members) else None)
     slot_after n true k =
-        slots_after n members (F.blank role place) k ∙ ap (λ (o : Option Slot). or_slot o (slot_from (F.uses role n) (R.first n members))) (none_set role place n)
+        slots_after n members (F.blank role place) k
+        ∙ ap (λ (o : Option Slot). or_slot o (slot_from (F.uses role n) (R.first n members))) (none_set role place n)
     slot_after n false k = rw k refl
 
 -- of the shapes what its type asks for is that of the first coordinates
