@@ -1,6 +1,8 @@
-//! Warnings as rows write them.
+//! Warnings and verdicts as rows write them.
 
-use gj_coords::{Kind, Warnings};
+use gj_coords::{Fault, Kind, Rule, Warnings};
+use gj_json::{Cause, JsonFault};
+use gj_rules::Verdict;
 
 /// Kinds of warnings, each with its place.
 pub type Found = &'static [(Kind, u64)];
@@ -12,4 +14,22 @@ pub fn warnings_at(found: &[(Kind, u64)]) -> Warnings {
         warnings = warnings.add(*kind, *place);
     }
     warnings
+}
+
+/// A verdict: the warnings of a text, the rule that it breaks and where, or why and where it is refused.
+#[derive(Clone, Copy)]
+pub enum Wanted {
+    Valid(Found),
+    Broken(Rule, u64),
+    NotJson(Cause, u64),
+}
+
+impl Wanted {
+    pub fn verdict(self) -> Verdict {
+        match self {
+            Wanted::Valid(found) => Verdict::Valid(warnings_at(found)),
+            Wanted::Broken(rule, place) => Verdict::Broken(Fault { place, rule }),
+            Wanted::NotJson(cause, place) => Verdict::NotJson(JsonFault { place, cause }),
+        }
+    }
 }

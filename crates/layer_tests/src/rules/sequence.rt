@@ -1,7 +1,10 @@
 //! Sequences over pieces: each row whole, byte by byte and cut in two at each place.
 
-use gj_coords::{Fault, Kind, Rule, Warnings};
-use gj_json::{Cause, JsonFault, Limits, MOST_LEVELS};
+use crate::checks::{equal, holds, holds_in};
+use crate::rows::Wanted;
+use crate::rows::Wanted::{Broken, NotJson, Valid};
+use gj_coords::{Kind, Rule};
+use gj_json::{Cause, Limits, MOST_LEVELS};
 use gj_rules::{SeqProgress, SeqVerdict, Sequence, Verdict};
 use std::process::Abort;
 
@@ -21,18 +24,15 @@ fn start(depth: u16, bytes: u64) -> Sequence {
     Sequence::new(Limits::new(depth, bytes).unwrap_or(Limits::usual()))
 }
 
-fn not_json(number: u64, place: u64, cause: Cause) -> SeqVerdict {
-    let verdict = Verdict::NotJson(JsonFault { place, cause });
-    SeqVerdict::Record { number, verdict }
-}
-
-fn broken(number: u64, place: u64, rule: Rule) -> SeqVerdict {
-    let verdict = Verdict::Broken(Fault { place, rule });
-    SeqVerdict::Record { number, verdict }
-}
-
-fn valid(records: u64, warnings: Warnings) -> SeqVerdict {
-    SeqVerdict::Valid { records, warnings }
+/// The verdict of so many records, or that of the record of this number.
+fn verdict_of(number: u64, wanted: Wanted) -> SeqVerdict {
+    match wanted.verdict() {
+        Verdict::Valid(warnings) => SeqVerdict::Valid {
+            records: number,
+            warnings,
+        },
+        verdict => SeqVerdict::Record { number, verdict },
+    }
 }
 
 /// The verdict of an input in two pieces.
@@ -53,143 +53,162 @@ fn by_bytes(depth: u16, bytes: u64, input: &[u8]) -> SeqVerdict {
 }
 
 fn in_any_cutting(rt: &impl Abort, depth: u16, bytes: u64, input: &[u8], verdict: SeqVerdict) {
-    assert!(rt;
-        by_bytes(depth, bytes, input) == verdict,
-        "{input:?} byte by byte"
-    );
+    holds_in(rt, by_bytes(depth, bytes, input) == verdict, input, 0);
     for cut in 0..input.len() + 1 {
         let (first, second) = input.split_at(cut);
-        let cut_verdict = in_two(depth, bytes, first, second);
-        assert!(rt;
-            cut_verdict == verdict,
-            "{input:?} cut at {cut}: {cut_verdict:?}"
-        );
+        let found = in_two(depth, bytes, first, second);
+        holds_in(rt, found == verdict, input, cut);
     }
 }
 
+/// A sequence, and how many valid records it has, or which decides, with its verdict.
+static ROWS: [(&[u8], u64, Wanted); 22] = [
+    (EMPTY, 0, Valid(&[])),
+    (TWO, 2, Valid(&[])),
+    (POINT, 1, NotJson(Cause::Truncated, 37)),
+    (
+        b"\x1E{\x1E{\"type\":\"Point\",\"coordinates\":[1,2]}\n",
+        1,
+        NotJson(Cause::Truncated, 2),
+    ),
+    (b"\x1E[]\n\x1Ex", 1, Broken(Rule::G1, 1)),
+    (
+        b"{\"type\":\"Point\",\"coordinates\":[1,2]}\n",
+        0,
+        NotJson(Cause::Syntax, 0),
+    ),
+    (b"\x1E", 1, NotJson(Cause::Truncated, 1)),
+    (b"\x1E\x1E", 1, NotJson(Cause::Truncated, 2)),
+    (
+        b"\x1E{\"type\":\"Point\",\"coordinates\":[1,2]}\n\x1E",
+        2,
+        NotJson(Cause::Truncated, 39),
+    ),
+    (b"\x1E[]", 1, NotJson(Cause::Truncated, 3)),
+    (MARKED, 2, Valid(&[(Kind::W1, 1), (Kind::W1, 42)])),
+    // a record without its LF, before another
+    (
+        b"\x1E{\"type\":\"Point\",\"coordinates\":[1,2]}\x1E{}\n",
+        1,
+        NotJson(Cause::Truncated, 37),
+    ),
+    // a refusal comes before the lack of an LF, and before a broken rule
+    (b"\x1E[]x", 1, NotJson(Cause::Syntax, 3)),
+    (b"\x1E[]]\n", 1, NotJson(Cause::Syntax, 3)),
+    // white space after the LF
+    (
+        b"\x1E{\"type\":\"Point\",\"coordinates\":[1,2]}\n ",
+        1,
+        NotJson(Cause::Truncated, 39),
+    ),
+    (
+        b"\x1E{\"type\":\"Point\",\"coordinates\":[1,2]}\n\n",
+        1,
+        Valid(&[]),
+    ),
+    // RS between the tokens of a record, in a string and in a number
+    (b"\x1E[1,\x1E2]\n", 1, NotJson(Cause::Truncated, 4)),
+    (b"\x1E\"a\x1Eb\"\n", 1, NotJson(Cause::Truncated, 3)),
+    (b"\x1E1\x1E2\n", 1, NotJson(Cause::Truncated, 2)),
+    // LF alone, and a byte before the first RS
+    (b"\x1E\n", 1, NotJson(Cause::Truncated, 2)),
+    (b"\n\x1E{}\n", 0, NotJson(Cause::Syntax, 0)),
+    (
+        b"\x1E{\"type\":\"Point\",\"coordinates\":[1,2]}\n\x1E\x1E{\"crs\":1,\"type\":\"Point\",\"coordinates\":[1,2]}\n",
+        2,
+        Valid(&[(Kind::W9, 41)]),
+    ),
+];
+
 #[test]
 fn rows(rt: HostRuntime) {
-    let marked = Warnings::none().add(Kind::W1, 1).add(Kind::W1, 42);
-    let crs = Warnings::none().add(Kind::W9, 41);
-    let rows: [(&[u8], SeqVerdict); 22] = [
-        (EMPTY, valid(0, Warnings::none())),
-        (TWO, valid(2, Warnings::none())),
-        (POINT, not_json(1, 37, Cause::Truncated)),
-        (
-            b"\x1E{\x1E{\"type\":\"Point\",\"coordinates\":[1,2]}\n",
-            not_json(1, 2, Cause::Truncated),
-        ),
-        (b"\x1E[]\n\x1Ex", broken(1, 1, Rule::G1)),
-        (
-            b"{\"type\":\"Point\",\"coordinates\":[1,2]}\n",
-            not_json(0, 0, Cause::Syntax),
-        ),
-        (b"\x1E", not_json(1, 1, Cause::Truncated)),
-        (b"\x1E\x1E", not_json(1, 2, Cause::Truncated)),
-        (
-            b"\x1E{\"type\":\"Point\",\"coordinates\":[1,2]}\n\x1E",
-            not_json(2, 39, Cause::Truncated),
-        ),
-        (b"\x1E[]", not_json(1, 3, Cause::Truncated)),
-        (MARKED, valid(2, marked)),
-        // a record without its LF, before another
-        (
-            b"\x1E{\"type\":\"Point\",\"coordinates\":[1,2]}\x1E{}\n",
-            not_json(1, 37, Cause::Truncated),
-        ),
-        // a refusal comes before the lack of an LF, and before a broken rule
-        (b"\x1E[]x", not_json(1, 3, Cause::Syntax)),
-        (b"\x1E[]]\n", not_json(1, 3, Cause::Syntax)),
-        // white space after the LF
-        (
-            b"\x1E{\"type\":\"Point\",\"coordinates\":[1,2]}\n ",
-            not_json(1, 39, Cause::Truncated),
-        ),
-        (
-            b"\x1E{\"type\":\"Point\",\"coordinates\":[1,2]}\n\n",
-            valid(1, Warnings::none()),
-        ),
-        // RS between the tokens of a record, in a string and in a number
-        (b"\x1E[1,\x1E2]\n", not_json(1, 4, Cause::Truncated)),
-        (b"\x1E\"a\x1Eb\"\n", not_json(1, 3, Cause::Truncated)),
-        (b"\x1E1\x1E2\n", not_json(1, 2, Cause::Truncated)),
-        // LF alone, and a byte before the first RS
-        (b"\x1E\n", not_json(1, 2, Cause::Truncated)),
-        (b"\n\x1E{}\n", not_json(0, 0, Cause::Syntax)),
-        (
-            b"\x1E{\"type\":\"Point\",\"coordinates\":[1,2]}\n\x1E\x1E{\"crs\":1,\"type\":\"Point\",\"coordinates\":[1,2]}\n",
-            valid(2, crs),
-        ),
-    ];
-    for (input, verdict) in rows {
+    for (input, number, wanted) in ROWS.iter() {
+        let verdict = verdict_of(*number, *wanted);
         in_any_cutting(&rt, MOST_LEVELS, MOST, input, verdict);
     }
 }
 
+/// How deep and how long a sequence may be, the sequence, and the verdict as above.
+static LIMITED: [(u16, u64, &[u8], u64, Wanted); 13] = [
+    (
+        MOST_LEVELS,
+        4,
+        b"\x1E[]\n\x1E",
+        1,
+        NotJson(Cause::Length, 4),
+    ),
+    (MOST_LEVELS, 5, b"\x1E[]\n\x1E", 1, Broken(Rule::G1, 1)),
+    // inside a run of RS, at an RS, at the byte after
+    (
+        MOST_LEVELS,
+        1,
+        b"\x1E\x1E\x1E[]\n",
+        1,
+        NotJson(Cause::Length, 1),
+    ),
+    (
+        MOST_LEVELS,
+        2,
+        b"\x1E\x1E\x1E[]\n",
+        1,
+        NotJson(Cause::Length, 2),
+    ),
+    (
+        MOST_LEVELS,
+        3,
+        b"\x1E\x1E\x1E[]\n",
+        1,
+        NotJson(Cause::Length, 3),
+    ),
+    (MOST_LEVELS, 38, TWO, 1, NotJson(Cause::Length, 38)),
+    (MOST_LEVELS, 39, TWO, 2, NotJson(Cause::Length, 39)),
+    (MOST_LEVELS, 40, TWO, 2, NotJson(Cause::Length, 40)),
+    (MOST_LEVELS, 77, TWO, 2, Valid(&[])),
+    // a refusal before the limit stands, and the limit comes before a refusal at its byte
+    (MOST_LEVELS, 3, b"\x1E[}]\n", 1, NotJson(Cause::Syntax, 2)),
+    (MOST_LEVELS, 2, b"\x1E[}]\n", 1, NotJson(Cause::Length, 2)),
+    // the depth is allowed to each record
+    (2, MOST, b"\x1E[[]]\n", 1, Broken(Rule::G1, 1)),
+    (2, MOST, b"\x1E[[[", 1, NotJson(Cause::Depth, 3)),
+];
+
 #[test]
 fn limits(rt: HostRuntime) {
-    let rows: [(u16, u64, &[u8], SeqVerdict); 13] = [
-        (
-            MOST_LEVELS,
-            4,
-            b"\x1E[]\n\x1E",
-            not_json(1, 4, Cause::Length),
-        ),
-        (MOST_LEVELS, 5, b"\x1E[]\n\x1E", broken(1, 1, Rule::G1)),
-        // inside a run of RS, at an RS, at the byte after
-        (
-            MOST_LEVELS,
-            1,
-            b"\x1E\x1E\x1E[]\n",
-            not_json(1, 1, Cause::Length),
-        ),
-        (
-            MOST_LEVELS,
-            2,
-            b"\x1E\x1E\x1E[]\n",
-            not_json(1, 2, Cause::Length),
-        ),
-        (
-            MOST_LEVELS,
-            3,
-            b"\x1E\x1E\x1E[]\n",
-            not_json(1, 3, Cause::Length),
-        ),
-        (MOST_LEVELS, 38, TWO, not_json(1, 38, Cause::Length)),
-        (MOST_LEVELS, 39, TWO, not_json(2, 39, Cause::Length)),
-        (MOST_LEVELS, 40, TWO, not_json(2, 40, Cause::Length)),
-        (MOST_LEVELS, 77, TWO, valid(2, Warnings::none())),
-        // a refusal before the limit stands, and the limit comes before a refusal at its byte
-        (MOST_LEVELS, 3, b"\x1E[}]\n", not_json(1, 2, Cause::Syntax)),
-        (MOST_LEVELS, 2, b"\x1E[}]\n", not_json(1, 2, Cause::Length)),
-        // the depth is allowed to each record
-        (2, MOST, b"\x1E[[]]\n", broken(1, 1, Rule::G1)),
-        (2, MOST, b"\x1E[[[", not_json(1, 3, Cause::Depth)),
-    ];
-    for (depth, bytes, input, verdict) in rows {
-        in_any_cutting(&rt, depth, bytes, input, verdict);
+    for (depth, bytes, input, number, wanted) in LIMITED.iter() {
+        let verdict = verdict_of(*number, *wanted);
+        in_any_cutting(&rt, *depth, *bytes, input, verdict);
     }
 }
+
+/// A piece, what it leads to, the offset then, and what it shows.
+static PIECES: [(&[u8], SeqProgress, u64, &str); 5] = [
+    (POINT, SeqProgress::Open, 37, "a record"),
+    (b"\n\x1E[{", SeqProgress::Open, 41, "its end, and another"),
+    (
+        b"}]\n",
+        SeqProgress::Open,
+        44,
+        "a broken rule decides at the RS",
+    ),
+    (b"\x1E", SeqProgress::Decided, 44, "the RS"),
+    (b"[", SeqProgress::Decided, 44, "nothing changes"),
+];
 
 #[test]
 fn progress(rt: HostRuntime) {
     let mut sequence = start(MOST_LEVELS, MOST);
-    assert!(rt; sequence.levels() == 0 && sequence.judged() == 0 && sequence.offset() == 0);
-    assert!(rt; sequence.feed(POINT) == SeqProgress::Open);
-    assert!(rt; sequence.feed(b"\n\x1E[{") == SeqProgress::Open);
-    assert!(rt; (sequence.levels(), sequence.judged(), sequence.offset()) == (2, 0, 41));
-    assert!(rt;
-        sequence.feed(b"}]\n") == SeqProgress::Open,
-        "a broken rule decides at the RS"
-    );
-    assert!(rt; sequence.feed(b"\x1E") == SeqProgress::Decided);
-    assert!(rt; sequence.offset() == 44);
-    assert!(rt;
-        sequence.feed(b"[") == SeqProgress::Decided,
-        "nothing changes"
-    );
-    assert!(rt; sequence.offset() == 44);
-    assert!(rt; sequence.finish() == broken(2, 39, Rule::G1));
+    let begun = (sequence.levels(), sequence.judged(), sequence.offset());
+    equal(&rt, begun, (0, 0, 0), "no byte");
+    for (piece, progress, offset, row) in PIECES.iter() {
+        holds(&rt, sequence.feed(piece) == *progress, row);
+        equal(&rt, sequence.offset(), *offset, row);
+        if *offset == 41 {
+            let open = (sequence.levels(), sequence.judged());
+            equal(&rt, open, (2, 0), row);
+        }
+    }
+    let verdict = verdict_of(2, Broken(Rule::G1, 39));
+    holds(&rt, sequence.finish() == verdict, "the verdict");
 }
 
 #[test]
@@ -201,11 +220,10 @@ fn a_million_records(rt: HostRuntime) {
     }
     match sequence.finish() {
         SeqVerdict::Valid { records, warnings } => {
-            assert!(rt; records == 1_000_000);
-            assert!(rt; warnings.count(Kind::W9) == 500_000);
-            assert!(rt; warnings.first(Kind::W9) == Some(40));
+            let found = (records, warnings.count(Kind::W9), warnings.first(Kind::W9));
+            equal(&rt, found, (1_000_000, 500_000, Some(40)), "all records");
         }
-        SeqVerdict::Record { number, .. } => assert!(rt; number == 0, "record {number}"),
+        SeqVerdict::Record { number, .. } => equal(&rt, number, 0, "a record"),
     }
 }
 
@@ -217,8 +235,11 @@ fn a_record_of_ten_million_bytes(rt: HostRuntime) {
     for _ in 0..1_666_667 {
         sequence.feed(b",[1,2]");
     }
-    assert!(rt; sequence.feed(b"]}\n\x1E[") == SeqProgress::Open);
-    assert!(rt; sequence.levels() == 1);
-    assert!(rt; sequence.feed(b"]\n\x1E") == SeqProgress::Decided);
-    assert!(rt; sequence.finish() == broken(3, 10_000_086, Rule::G1));
+    let open = sequence.feed(b"]}\n\x1E[") == SeqProgress::Open;
+    holds(&rt, open, "the next record is open");
+    equal(&rt, sequence.levels(), 1, "its array is open");
+    let decided = sequence.feed(b"]\n\x1E") == SeqProgress::Decided;
+    holds(&rt, decided, "it breaks a rule");
+    let verdict = verdict_of(3, Broken(Rule::G1, 10_000_086));
+    holds(&rt, sequence.finish() == verdict, "the verdict");
 }

@@ -1,49 +1,35 @@
 //! A text in memory.
 
-use gj_coords::{Fault, Rule, Warnings};
-use gj_json::{Cause, JsonFault, Limits};
-use gj_rules::{Verdict, check_text};
-use std::process::Abort;
+use crate::checks::holds_in;
+use crate::rows::Wanted;
+use crate::rows::Wanted::{Broken, NotJson, Valid};
+use gj_coords::Rule;
+use gj_json::{Cause, Limits};
+use gj_rules::check_text;
 
 /// Texts that a few frames serve, and texts that nest one level deeper.
+static TEXTS: [(&[u8], Wanted); 6] = [
+    (b"{\"type\":\"Point\",\"coordinates\":[1,2]}", Valid(&[])),
+    (
+        b"{\"type\":\"Feature\",\"geometry\":null,\"properties\":{\"a\":[[[[[[0]]]]]]}}",
+        Valid(&[]),
+    ),
+    (
+        b"{\"type\":\"Feature\",\"geometry\":null,\"properties\":{\"a\":[[[[[[[0]]]]]]]}}",
+        Valid(&[]),
+    ),
+    (
+        b"{\"coordinates\":[1],\"type\":\"Point\",\"a\":[[[[[[[[0]]]]]]]]}",
+        Broken(Rule::G12, 15),
+    ),
+    (b"{\"type\":\"Point\",", NotJson(Cause::Truncated, 16)),
+    (b"[[[[[[[[[x", NotJson(Cause::Syntax, 9)),
+];
+
 #[test]
 fn the_depth_changes_no_verdict(rt: HostRuntime) {
-    let rows: [(&[u8], Verdict); 6] = [
-        (
-            b"{\"type\":\"Point\",\"coordinates\":[1,2]}",
-            Verdict::Valid(Warnings::none()),
-        ),
-        (
-            b"{\"type\":\"Feature\",\"geometry\":null,\"properties\":{\"a\":[[[[[[0]]]]]]}}",
-            Verdict::Valid(Warnings::none()),
-        ),
-        (
-            b"{\"type\":\"Feature\",\"geometry\":null,\"properties\":{\"a\":[[[[[[[0]]]]]]]}}",
-            Verdict::Valid(Warnings::none()),
-        ),
-        (
-            b"{\"coordinates\":[1],\"type\":\"Point\",\"a\":[[[[[[[[0]]]]]]]]}",
-            Verdict::Broken(Fault {
-                place: 15,
-                rule: Rule::G12,
-            }),
-        ),
-        (
-            b"{\"type\":\"Point\",",
-            Verdict::NotJson(JsonFault {
-                place: 16,
-                cause: Cause::Truncated,
-            }),
-        ),
-        (
-            b"[[[[[[[[[x",
-            Verdict::NotJson(JsonFault {
-                place: 9,
-                cause: Cause::Syntax,
-            }),
-        ),
-    ];
-    for (text, verdict) in rows {
-        assert_eq!(rt; check_text(text, Limits::usual()), verdict);
+    for (text, wanted) in TEXTS.iter() {
+        let found = check_text(text, Limits::usual());
+        holds_in(&rt, found == wanted.verdict(), text, text.len());
     }
 }

@@ -1,8 +1,11 @@
 //! Inputs that a program makes: long ones, whose levels stay few, and deep ones.
 
 use super::{COLLECTION, HALF, fed};
-use gj_coords::{Fault, Kind, Rule, Warnings};
-use gj_json::{Cause, JsonFault, Limits};
+use crate::checks::{equal, holds};
+use crate::rows::Wanted;
+use crate::rows::Wanted::{Broken, NotJson, Valid};
+use gj_coords::{Kind, Rule};
+use gj_json::{Cause, Limits};
 use gj_rules::{Linter, Verdict};
 use std::process::Abort;
 
@@ -35,120 +38,109 @@ impl Linters {
         }
     }
 
-    fn expect(self, rt: &impl Abort, verdict: Verdict, row: &str) {
-        assert!(rt; self.low, "{row}: levels");
-        assert!(rt; self.single.finish() == verdict, "{row}: byte by byte");
-        assert!(rt; self.pieces.finish() == verdict, "{row}: in pieces");
+    fn expect(self, rt: &impl Abort, wanted: Wanted, row: &str) {
+        let verdict = wanted.verdict();
+        holds(rt, self.low, row);
+        holds(rt, self.single.finish() == verdict, row);
+        holds(rt, self.pieces.finish() == verdict, row);
     }
-}
-
-fn broken(rule: Rule, place: u64) -> Verdict {
-    Verdict::Broken(Fault { place, rule })
-}
-
-/// The verdict of a valid text without warnings.
-fn valid() -> Verdict {
-    Verdict::Valid(Warnings::none())
-}
-
-fn warned(kind: Kind, place: u64) -> Verdict {
-    Verdict::Valid(Warnings::none().add(kind, place))
-}
-
-fn refused(cause: Cause, place: u64) -> Verdict {
-    Verdict::NotJson(JsonFault { place, cause })
 }
 
 /// The number of times that the part stands in a long input.
 const MANY: u32 = 5_000;
 
+const BEYOND: Wanted = Broken(Rule::G16, 31);
+
+/// What a number begins with, what stands in it many times, what comes then, the verdict, and what it is.
+static LONG_NUMBERS: [(&[u8], &[u8], &[u8], Wanted, &str); 6] = [
+    (b"1.", b"0", b",1]}", Valid(&[]), "1.00.."),
+    (b"0.", b"0", b",1]}", Valid(&[]), "0.00.."),
+    (b"0.", b"0", b"1,1]}", BEYOND, "0.00..1"),
+    (b"1", b"0", b",1]}", BEYOND, "100.."),
+    (b"1e", b"9", b",1]}", BEYOND, "1e99.."),
+    (b"0e", b"9", b",1]}", Valid(&[]), "0e99.."),
+];
+
 #[test]
 fn long_numbers(rt: HostRuntime) {
-    let beyond = broken(Rule::G16, 31);
-    let rows: [(&[u8], &[u8], &[u8], Verdict, &str); 6] = [
-        (b"1.", b"0", b",1]}", valid(), "1.00.."),
-        (b"0.", b"0", b",1]}", valid(), "0.00.."),
-        (b"0.", b"0", b"1,1]}", beyond, "0.00..1"),
-        (b"1", b"0", b",1]}", beyond, "100.."),
-        (b"1e", b"9", b",1]}", beyond, "1e99.."),
-        (b"0e", b"9", b",1]}", valid(), "0e99.."),
-    ];
-    for (start, part, end, verdict, row) in rows {
+    for (start, part, end, wanted, row) in LONG_NUMBERS.iter() {
         let mut linters = Linters::new();
         linters.feed(b"{\"type\":\"Point\",\"coordinates\":[", 1);
         linters.feed(start, 1);
         linters.feed(part, MANY);
         linters.feed(end, 1);
-        linters.expect(&rt, verdict, row);
+        linters.expect(&rt, *wanted, row);
     }
 }
 
+/// How a text begins, a part, how many times it stands there, how the text ends, the verdict, and what it is.
+static LONG_LISTS: [(&[u8], &[u8], u32, &[u8], Wanted, &str); 7] = [
+    (
+        b"{\"type\":\"Point\",\"coordinates\":[0",
+        b",0",
+        MANY - 1,
+        b"]}",
+        Valid(&[(Kind::W3, 30)]),
+        "a position of many numbers",
+    ),
+    (
+        b"{\"",
+        b"t",
+        MANY,
+        b"\":0,\"type\":\"Point\",\"coordinates\":[1,2]}",
+        Valid(&[]),
+        "a name of many letters",
+    ),
+    (
+        b"{\"type\":\"MultiPoint\",\"coordinates\":[[0,0]",
+        b",[0,0]",
+        MANY,
+        b"]}",
+        Valid(&[]),
+        "many positions",
+    ),
+    (
+        b"{\"a\":\"",
+        b"x",
+        100,
+        b"\xE2\x82\xAC\"}",
+        Broken(Rule::G2, 0),
+        "a character behind a run",
+    ),
+    (
+        b"{\"a\":\"",
+        b"x",
+        100,
+        b"\xE2\x82\x28",
+        NotJson(Cause::Syntax, 108),
+        "no character behind a run",
+    ),
+    (
+        b"{\"a\":\"",
+        b"x",
+        70,
+        b"\x1F",
+        NotJson(Cause::Syntax, 76),
+        "a control byte behind a run",
+    ),
+    (
+        b"{\"a\":\"",
+        b"x",
+        100,
+        b"\xE2\x82",
+        NotJson(Cause::Truncated, 108),
+        "half a character behind a run",
+    ),
+];
+
 #[test]
 fn long_lists_and_names(rt: HostRuntime) {
-    let rows: [(&[u8], &[u8], u32, &[u8], Verdict, &str); 7] = [
-        (
-            b"{\"type\":\"Point\",\"coordinates\":[0",
-            b",0",
-            MANY - 1,
-            b"]}",
-            warned(Kind::W3, 30),
-            "a position of many numbers",
-        ),
-        (
-            b"{\"",
-            b"t",
-            MANY,
-            b"\":0,\"type\":\"Point\",\"coordinates\":[1,2]}",
-            valid(),
-            "a name of many letters",
-        ),
-        (
-            b"{\"type\":\"MultiPoint\",\"coordinates\":[[0,0]",
-            b",[0,0]",
-            MANY,
-            b"]}",
-            valid(),
-            "many positions",
-        ),
-        (
-            b"{\"a\":\"",
-            b"x",
-            100,
-            b"\xE2\x82\xAC\"}",
-            broken(Rule::G2, 0),
-            "a character behind a run",
-        ),
-        (
-            b"{\"a\":\"",
-            b"x",
-            100,
-            b"\xE2\x82\x28",
-            refused(Cause::Syntax, 108),
-            "no character behind a run",
-        ),
-        (
-            b"{\"a\":\"",
-            b"x",
-            70,
-            b"\x1F",
-            refused(Cause::Syntax, 76),
-            "a control byte behind a run",
-        ),
-        (
-            b"{\"a\":\"",
-            b"x",
-            100,
-            b"\xE2\x82",
-            refused(Cause::Truncated, 108),
-            "half a character behind a run",
-        ),
-    ];
-    for (start, part, times, end, verdict, row) in rows {
+    for (start, part, times, end, wanted, row) in LONG_LISTS.iter() {
         let mut linters = Linters::new();
         linters.feed(start, 1);
-        linters.feed(part, times);
+        linters.feed(part, *times);
         linters.feed(end, 1);
-        linters.expect(&rt, verdict, row);
+        linters.expect(&rt, *wanted, row);
     }
 }
 
@@ -160,9 +152,10 @@ fn as_many_collections_as_can_be_closed(rt: HostRuntime) {
     }
     match linter.finish() {
         Verdict::Valid(warnings) => {
-            assert_eq!(rt; warnings.count(Kind::W7), HALF as u32 - 1);
-            assert_eq!(rt; warnings.first(Kind::W7), Some(COLLECTION.len() as u64));
+            let found = (warnings.count(Kind::W7), warnings.first(Kind::W7));
+            let first = Some(COLLECTION.len() as u64);
+            equal(&rt, found, (HALF as u32 - 1, first), "collections");
         }
-        verdict => assert!(rt; false, "{verdict:?}"),
+        _ => holds(&rt, false, "no valid text"),
     }
 }
