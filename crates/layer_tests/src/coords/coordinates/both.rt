@@ -4,7 +4,7 @@ use gj_coords::{
     Coordinates, Fault, LineStringWatcher, MultiLineStringWatcher, MultiPointWatcher,
     MultiPolygonWatcher, PointWatcher, PolygonWatcher, Simple, Warnings, Watcher,
 };
-use gj_json::{Event, EventSink};
+use gj_json::{Event, EventSink, What};
 
 /// The six types whose value is made of positions.
 pub const SIX: [Simple; 6] = [
@@ -38,7 +38,7 @@ pub fn warnings_of(walk: &Coordinates) -> WarnedRow {
     row
 }
 
-/// The walk, given each event by itself.
+/// The walk, given each event by itself, a number by its value.
 #[derive(Drop)]
 pub struct Walked {
     pub walk: Coordinates,
@@ -62,7 +62,10 @@ impl EventSink for Walked {
 
     fn tell(&mut self, event: Event) {
         self.early = self.early || self.walk.done();
-        self.walk.event(event);
+        match &event.what {
+            What::Number(value) => self.walk.number(event.place, value),
+            _ => self.walk.event(event),
+        }
     }
 
     fn ignored(&self) -> u16 {
