@@ -3,7 +3,7 @@
 use super::*;
 use crate::fault::{ReadFault, WriteFault};
 use crate::run::{run, run_with_path};
-use crate::testing::{ArraySink, Ending, SliceSource};
+use crate::testing::{ArraySink, Ending, SliceSource, equal, holds, holds_at};
 use std::process::Abort;
 
 fn quickly(strict: bool) -> Options {
@@ -23,14 +23,14 @@ fn expect(rt: &impl Abort, input: &[u8], strict: bool, outcome: Outcome, report:
         let mut sink = writer();
         let mut reader = SliceSource::new(input, most, most);
         let answer = run(&mut reader, &mut sink, quickly(strict));
-        assert_eq!(rt; answer, Ok(outcome), "{report}");
-        assert_eq!(rt; sink.bytes(), report.as_bytes(), "{report}");
+        equal(rt, answer, Ok(outcome), report);
+        equal(rt, sink.bytes(), report.as_bytes(), report);
         let mut sink = writer();
         let mut first = SliceSource::new(input, most, most);
         let mut second = SliceSource::failing_after(input, 0);
         let answer = run_with_path(&mut first, &mut second, &mut sink, quickly(strict));
-        assert_eq!(rt; answer, Ok(outcome), "{report}");
-        assert_eq!(rt; sink.bytes(), report.as_bytes(), "{report}");
+        equal(rt, answer, Ok(outcome), report);
+        equal(rt, sink.bytes(), report.as_bytes(), report);
     }
 }
 
@@ -45,17 +45,18 @@ fn a_valid_input_has_its_report(rt: HostRuntime) {
     expect(&rt, turned, true, Outcome::Fail, report);
 }
 
+static OTHERS: [&[u8]; 6] = [
+    b"",
+    b"[]",
+    b"{}",
+    b"{\"type\":\"Polygon\",\"coordinates\":[[[0,0],[1,0],[1,1],[0,0,0]]]}",
+    b"{\"type\":\"Point\"} x",
+    b"{\"type\":\"Point\",\"coordinates\":[1,2]",
+];
+
 #[test]
 fn another_input_has_one_line(rt: HostRuntime) {
-    let rows: [&[u8]; 6] = [
-        b"",
-        b"[]",
-        b"{}",
-        b"{\"type\":\"Polygon\",\"coordinates\":[[[0,0],[1,0],[1,1],[0,0,0]]]}",
-        b"{\"type\":\"Point\"} x",
-        b"{\"type\":\"Point\",\"coordinates\":[1,2]",
-    ];
-    for input in rows {
+    for input in OTHERS.iter() {
         expect(&rt, input, false, Outcome::Fail, "not valid\n");
         expect(&rt, input, true, Outcome::Fail, "not valid\n");
     }
@@ -64,22 +65,23 @@ fn another_input_has_one_line(rt: HostRuntime) {
 #[test]
 fn nothing_is_read_after_the_no(rt: HostRuntime) {
     let input = b"{\"type\":\"Feature\",\"features\":";
+    let line = "not valid\n";
     let mut sink = writer();
     let mut reader = SliceSource::failing_after_one(input);
-    assert_eq!(rt;
-        run(&mut reader, &mut sink, quickly(false)),
-        Ok(Outcome::Fail)
-    );
-    assert_eq!(rt; sink.bytes(), "not valid\n".as_bytes());
+    let answer = run(&mut reader, &mut sink, quickly(false));
+    equal(&rt, answer, Ok(Outcome::Fail), line);
+    equal(&rt, sink.bytes(), line.as_bytes(), line);
     let mut sink = writer();
     let mut reader = SliceSource::failing_after_one(input);
     let fault = RunFault::Read(ReadFault { offset: 29 });
-    assert_eq!(rt; run(&mut reader, &mut sink, Options::usual()), Err(fault));
+    let answer = run(&mut reader, &mut sink, Options::usual());
+    equal(&rt, answer, Err(fault), "a usual run");
     let mut sink = writer();
     let mut reader = SliceSource::failing_after_one(b"{\"features\":");
     let fault = RunFault::Read(ReadFault { offset: 12 });
-    assert_eq!(rt; run(&mut reader, &mut sink, quickly(false)), Err(fault));
-    assert!(rt; sink.bytes().is_empty());
+    let answer = run(&mut reader, &mut sink, quickly(false));
+    equal(&rt, answer, Err(fault), "no answer yet");
+    holds(&rt, sink.bytes().is_empty(), "no line");
 }
 
 #[test]
@@ -91,8 +93,10 @@ fn a_failed_write_leaves_a_front_of_the_line(rt: HostRuntime) {
             let written = room as u64;
             let fault = RunFault::Write(WriteFault { written });
             let mut reader = SliceSource::whole(b"[");
-            assert_eq!(rt; run(&mut reader, &mut sink, quickly(false)), Err(fault));
-            assert_eq!(rt; sink.bytes(), &line.as_bytes()[..room], "room for {room}");
+            let answer = run(&mut reader, &mut sink, quickly(false));
+            equal(&rt, answer, Err(fault), "a failed write");
+            let is_front = sink.bytes() == &line.as_bytes()[..room];
+            holds_at(&rt, is_front, "room", room);
         }
     }
 }

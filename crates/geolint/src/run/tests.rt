@@ -3,7 +3,7 @@
 use super::*;
 use crate::fault::{ReadFault, WriteFault};
 use crate::source::PIECE;
-use crate::testing::{ArraySink, Ending, Endless, SliceSource};
+use crate::testing::{ArraySink, Ending, Endless, SliceSource, equal, holds, holds_at};
 use gj_json::{Cause, JsonFault, Limits, MOST_LEVELS};
 use std::process::Abort;
 
@@ -46,23 +46,17 @@ fn gives_strictly(rt: &impl Abort, input: &[u8], limits: Limits, report: &str) {
         strict: true,
         quick: false,
     };
-    assert_eq!(rt;
-        run(&mut SliceSource::whole(input), &mut sink, strict),
-        Ok(strict_outcome_of(report)),
-        "{report}"
-    );
-    assert_eq!(rt; sink.bytes(), report.as_bytes(), "{report}");
+    let answer = run(&mut SliceSource::whole(input), &mut sink, strict);
+    equal(rt, answer, Ok(strict_outcome_of(report)), report);
+    equal(rt, sink.bytes(), report.as_bytes(), report);
 }
 
 /// One run over a reader, which has to give this line.
 fn gives(rt: &impl Abort, reader: &mut SliceSource, limits: Limits, line: &str) {
     let mut sink = writer();
-    assert_eq!(rt;
-        run(reader, &mut sink, options(limits)),
-        Ok(outcome_of(line)),
-        "{line}"
-    );
-    assert_eq!(rt; sink.bytes(), line.as_bytes(), "{line}");
+    let answer = run(reader, &mut sink, options(limits));
+    equal(rt, answer, Ok(outcome_of(line)), line);
+    equal(rt, sink.bytes(), line.as_bytes(), line);
 }
 
 /// One run over an input whose first piece, and each other piece, has at most this many bytes.
@@ -87,7 +81,7 @@ fn verdict_of(input: &[u8], most: usize) -> Result<Verdict, ReadFault> {
 }
 
 /// A text that ends with the bracket of its object ends too soon wherever it is cut.
-fn fronts_are_truncated(rt: &impl Abort, input: &[u8]) {
+fn fronts_are_truncated(rt: &impl Abort, input: &[u8], line: &str) {
     if !input.ends_with(b"}") {
         return;
     }
@@ -97,7 +91,8 @@ fn fronts_are_truncated(rt: &impl Abort, input: &[u8]) {
             cause: Cause::Truncated,
         };
         let verdict = verdict_of(&input[..length], usize::MAX);
-        assert!(rt; verdict == Ok(Verdict::NotJson(fault)), "cut at {length}");
+        let is_refused = verdict == Ok(Verdict::NotJson(fault));
+        holds_at(rt, is_refused, line, length);
     }
 }
 
@@ -105,7 +100,7 @@ fn fronts_are_truncated(rt: &impl Abort, input: &[u8]) {
 const ROOM: usize = 160;
 
 /// With any byte replaced, the verdict of an input in one piece is that of its bytes one by one.
-fn replaced_bytes_in_pieces(rt: &impl Abort, input: &[u8]) {
+fn replaced_bytes_in_pieces(rt: &impl Abort, input: &[u8], line: &str) {
     let mut bytes = [0; ROOM];
     let count = input.len().min(ROOM);
     bytes[..count].copy_from_slice(&input[..count]);
@@ -114,291 +109,303 @@ fn replaced_bytes_in_pieces(rt: &impl Abort, input: &[u8]) {
             bytes[at] = byte;
             let whole = verdict_of(&bytes[..count], usize::MAX);
             let single = verdict_of(&bytes[..count], 1);
-            assert!(rt; whole == single, "{byte} at {at}");
+            holds_at(rt, whole == single, line, at);
         }
         bytes[at] = input[at];
     }
 }
 
+/// A text, and its report.
+static TEXTS: [(&[u8], &str); 67] = [
+    (b"{\"type\":\"Point\",\"coordinates\":[1,2]}", "valid\n"),
+    (
+        b"{\"coordinates\":[1,2],\"type\":\"LineString\"}",
+        "broken G11 at 16: coordinates of the wrong shape\n",
+    ),
+    (
+        b"{\"type\":\"Point\",\"coordinates\":[]}",
+        "valid\nwarning W6 count 1 first 30: empty coordinates\n",
+    ),
+    (
+        b"{\"type\":\"Polygon\",\"coordinates\":[[[0,0],[0,1],[1,1],[0,0]]]}",
+        "valid\nwarning W2 count 1 first 33: ring runs the wrong way\n",
+    ),
+    (
+        b"{\"type\":\"Polygon\",\"coordinates\":[[[0,0],[1,0],[1,1],[0,0,0]]]}",
+        "broken G15 at 33: ring not closed\n",
+    ),
+    (
+        b"{\"type\":\"Polygon\",\"coordinates\":[[[1.50,0],[2,0],[2,1],[15e-1,-0.0]]]}",
+        "valid\n",
+    ),
+    (
+        b"{\"type\":\"Polygon\",\"coordinates\":[[[0,0],[1,0],[0,0]]]}",
+        "broken G14 at 33: ring of fewer than four elements\n",
+    ),
+    (
+        b"{\"coordinates\":[1,2],\"type\":\"Point\",\"type\":\"Polygon\"}",
+        "broken G10 at 36: name repeated\n",
+    ),
+    (
+        b"{\"\\u0074ype\":\"\\u0050oint\",\"coordinates\":[1,2]}",
+        "valid\n",
+    ),
+    (
+        b"{\"geometry\":{\"type\":\"Nope\"},\"type\":\"Point\",\"coordinates\":[1,2]}",
+        "broken G9 at 1: member forbidden by section 7.1\n",
+    ),
+    (
+        b"{\"features\":[{\"type\":\"Feature\",\"geometry\":null,\"properties\":null},7],\"type\":\"FeatureCollection\"}",
+        "broken G1 at 66: not an object\n",
+    ),
+    (
+        b"{\"type\":\"Point\",\"coordinates\":[1.4210854715202004e-14,1]}",
+        "valid\nwarning W4 count 1 first 31: more than seven decimal places\n",
+    ),
+    (
+        b"{\"type\":\"Point\",\"coordinates\":[1234567890123456789012345678901,1]}",
+        "broken G16 at 31: number beyond the profile\n",
+    ),
+    (
+        b"{\"type\":\"Point\",\"coordinates\":[0e99999,1]}",
+        "valid\n",
+    ),
+    (
+        b"{\"type\":\"FeatureCollection\",\"name\":\"a\",\"crs\":{\"type\":\"name\",\"properties\":{\"name\":\"urn:ogc:def:crs:OGC:1.3:CRS84\"}},\"features\":[]}",
+        "valid\nwarning W9 count 1 first 39: crs is no longer used\n",
+    ),
+    (
+        b"{\"type\":\"Feature\"}",
+        "broken G6 at 0: geometry missing\n",
+    ),
+    (
+        b"{\"type\":\"Feature\",\"geometry\":null}",
+        "broken G7 at 0: properties missing\n",
+    ),
+    (
+        b"{\"type\":\"Feature\",\"geometry\":null,\"properties\":{\"geometry\":7,\"type\":1,\"type\":2}}",
+        "valid\n",
+    ),
+    (
+        b"{\"type\":\"Point\",\"coordinates\":[180.0000001,90]}",
+        "valid\nwarning W5 count 1 first 30: position out of range\n",
+    ),
+    (
+        b"{\"type\":\"Point\",\"coordinates\":[180.00000009,90]}",
+        "valid\nwarning W4 count 1 first 31: more than seven decimal places\n",
+    ),
+    (
+        b"{\"type\":\"Point\",\"coordinates\":[1,2,3,4,5]}",
+        "valid\nwarning W3 count 1 first 30: more than three numbers in a position\n",
+    ),
+    (
+        b"{\"type\":\"Point\",\"coordinates\":[1,2,3,\"x\"]}",
+        "broken G11 at 37: coordinates of the wrong shape\n",
+    ),
+    (
+        b"{\"type\":\"Point\",\"coordinates\":[1]}",
+        "broken G12 at 30: position of fewer than two elements\n",
+    ),
+    (
+        b"{\"type\":\"GeometryCollection\",\"geometries\":[{\"type\":\"GeometryCollection\",\"geometries\":[]}]}",
+        "valid\nwarning W7 count 1 first 43: collection in a collection\n",
+    ),
+    (
+        b"{\"type\":\"Point\",\"coordinates\":[1,2],\"bbox\":[1,2,3]}",
+        "broken G21 at 43: bbox length odd or below 4\n",
+    ),
+    (
+        b"{\"type\":\"Point\",\"coordinates\":[1,2],\"bbox\":[0,20,1,10]}",
+        "valid\nwarning W8 count 1 first 43: bbox south above north\n",
+    ),
+    (
+        b"{\"type\":\"Point\",\"coordinates\":[1,2],\"bbox\":[170,10,-170,20]}",
+        "valid\n",
+    ),
+    (
+        b"{\"type\":\"Point\",\"coordinates\":[1,2],\"bbox\":[1,2,\"a\",4]}",
+        "broken G20 at 48: bbox or its element of the wrong kind\n",
+    ),
+    (
+        b"\xEF\xBB\xBF{\"type\":\"Point\",\"coordinates\":[1,2]}",
+        "valid\nwarning W1 count 1 first 0: byte order mark\n",
+    ),
+    (
+        b"{\"type\":\"Feature\",\"id\":null,\"geometry\":null,\"properties\":null}",
+        "broken G19 at 23: id neither string nor number\n",
+    ),
+    (
+        b"{\"type\":\"MultiPolygon\",\"coordinates\":[[]]}",
+        "valid\n",
+    ),
+    (
+        b"{\"type\":\"Polygon\",\"coordinates\":[[]]}",
+        "broken G14 at 33: ring of fewer than four elements\n",
+    ),
+    (
+        b"{\"type\":\"Polygon\",\"coordinates\":[[[0,0],[4,0],[4,4],[0,0]],[[1,1],[2,1],[2,2],[1,1]]]}",
+        "valid\nwarning W2 count 1 first 59: ring runs the wrong way\n",
+    ),
+    (b"[]", "broken G1 at 0: not an object\n"),
+    (b"{}", "broken G2 at 0: type missing\n"),
+    (
+        b"{\"type\":\"point\"}",
+        "broken G3 at 8: type not allowed here\n",
+    ),
+    (
+        b"{\"type\":\"MultiLineString\",\"coordinates\":[[[1,2]]]}",
+        "broken G13 at 41: line of fewer than two elements\n",
+    ),
+    (
+        b"{\"type\":\"Feature\",\"geometry\":null,\"properties\":[]}",
+        "broken G18 at 47: properties neither object nor null\n",
+    ),
+    (
+        b"{\"type\":\"FeatureCollection\",\"features\":{}}",
+        "broken G17 at 39: not an array\n",
+    ),
+    (
+        b"{\"type\":\"Point\"}",
+        "broken G4 at 0: coordinates missing\n",
+    ),
+    (
+        b"{\"type\":\"GeometryCollection\"}",
+        "broken G5 at 0: geometries missing\n",
+    ),
+    (
+        b"{\"type\":\"FeatureCollection\"}",
+        "broken G8 at 0: features missing\n",
+    ),
+    (b"\"\\ud800\"", "broken G1 at 0: not an object\n"),
+    (
+        b"{\"type\":\"GeometryCollection\",\"geometries\":[{\"type\":\"Point\"},7]}",
+        "broken G4 at 43: coordinates missing\n",
+    ),
+    (
+        b"{\"geometries\":[7],\"type\":\"Point\",\"coordinates\":[1,2]}",
+        "valid\n",
+    ),
+    (
+        b"{\"geometries\":[7],\"type\":\"GeometryCollection\"}",
+        "broken G1 at 15: not an object\n",
+    ),
+    (
+        b"{\"type\":\"GeometryCollection\",\"geometries\":[{\"geometries\":[7],\"type\":\"Point\",\"coordinates\":[1]}]}",
+        "broken G12 at 90: position of fewer than two elements\n",
+    ),
+    (
+        b"{\"type\":\"Feature\",\"geometry\":null,\"properties\":null,\"features\":1}",
+        "broken G9 at 52: member forbidden by section 7.1\n",
+    ),
+    (
+        b"{\"type\":\"Feature\",\"geometry\":7,\"properties\":null}",
+        "broken G1 at 29: not an object\n",
+    ),
+    (
+        b"{\"geometry\":{\"type\":\"Nope\"},\"type\":\"Feature\",\"properties\":null}",
+        "broken G3 at 20: type not allowed here\n",
+    ),
+    (
+        b"{\"type\":\"GeometryCollection\",\"geometries\":[{\"type\":\"Feature\"}]}",
+        "broken G3 at 51: type not allowed here\n",
+    ),
+    (
+        b"{\"bbox\":[1],\"type\":\"x\"}",
+        "broken G21 at 8: bbox length odd or below 4\n",
+    ),
+    (b"{\"bbox\":7}", "broken G2 at 0: type missing\n"),
+    (
+        b"{\"type\":\"Point\",\"coordinates\":[1,2],\"bbox\":[1e999,0,1,1]}",
+        "valid\n",
+    ),
+    (
+        b"{\"type\":\"LineString\",\"coordinates\":[[1,2,3,4],[1,2,3,4,5]]}",
+        "valid\nwarning W3 count 2 first 36: more than three numbers in a position\n",
+    ),
+    (
+        b"{\"crs\":1,\"crs\":2,\"type\":\"Point\",\"coordinates\":[1,2]}",
+        "valid\nwarning W9 count 2 first 1: crs is no longer used\n",
+    ),
+    (
+        b"{\"geometries\":[{\"crs\":1}],\"type\":\"Point\",\"coordinates\":[1,2]}",
+        "valid\n",
+    ),
+    (
+        b"{\"type\":\"Point\",\"coordinates\":[1e10,1]}",
+        "valid\nwarning W5 count 1 first 30: position out of range\n",
+    ),
+    (
+        b"{\"type\":\"Polygon\",\"coordinates\":[[[0,0],[0,91],[1,1],[0,0]]]}",
+        "valid\nwarning W5 count 1 first 40: position out of range\n",
+    ),
+    (
+        b"{\"type\":\"Polygon\",\"coordinates\":[[[0,0],[1,0],[2,0],[0,0]]]}",
+        "valid\n",
+    ),
+    (b" {} \r\n", "broken G2 at 1: type missing\n"),
+    (b"7", "broken G1 at 0: not an object\n"),
+    (b"1.5", "broken G1 at 0: not an object\n"),
+    (b"\"x\"", "broken G1 at 0: not an object\n"),
+    (b"[{}]", "broken G1 at 0: not an object\n"),
+    (b"\xEF\xBB\xBFnull", "broken G1 at 3: not an object\n"),
+    (b"{\"a\":-0}", "broken G2 at 0: type missing\n"),
+];
+
 #[test]
 fn texts_are_judged_by_the_rules(rt: HostRuntime) {
-    let rows: [(&[u8], &str); 67] = [
-        (b"{\"type\":\"Point\",\"coordinates\":[1,2]}", "valid\n"),
-        (
-            b"{\"coordinates\":[1,2],\"type\":\"LineString\"}",
-            "broken G11 at 16: coordinates of the wrong shape\n",
-        ),
-        (
-            b"{\"type\":\"Point\",\"coordinates\":[]}",
-            "valid\nwarning W6 count 1 first 30: empty coordinates\n",
-        ),
-        (
-            b"{\"type\":\"Polygon\",\"coordinates\":[[[0,0],[0,1],[1,1],[0,0]]]}",
-            "valid\nwarning W2 count 1 first 33: ring runs the wrong way\n",
-        ),
-        (
-            b"{\"type\":\"Polygon\",\"coordinates\":[[[0,0],[1,0],[1,1],[0,0,0]]]}",
-            "broken G15 at 33: ring not closed\n",
-        ),
-        (
-            b"{\"type\":\"Polygon\",\"coordinates\":[[[1.50,0],[2,0],[2,1],[15e-1,-0.0]]]}",
-            "valid\n",
-        ),
-        (
-            b"{\"type\":\"Polygon\",\"coordinates\":[[[0,0],[1,0],[0,0]]]}",
-            "broken G14 at 33: ring of fewer than four elements\n",
-        ),
-        (
-            b"{\"coordinates\":[1,2],\"type\":\"Point\",\"type\":\"Polygon\"}",
-            "broken G10 at 36: name repeated\n",
-        ),
-        (
-            b"{\"\\u0074ype\":\"\\u0050oint\",\"coordinates\":[1,2]}",
-            "valid\n",
-        ),
-        (
-            b"{\"geometry\":{\"type\":\"Nope\"},\"type\":\"Point\",\"coordinates\":[1,2]}",
-            "broken G9 at 1: member forbidden by section 7.1\n",
-        ),
-        (
-            b"{\"features\":[{\"type\":\"Feature\",\"geometry\":null,\"properties\":null},7],\"type\":\"FeatureCollection\"}",
-            "broken G1 at 66: not an object\n",
-        ),
-        (
-            b"{\"type\":\"Point\",\"coordinates\":[1.4210854715202004e-14,1]}",
-            "valid\nwarning W4 count 1 first 31: more than seven decimal places\n",
-        ),
-        (
-            b"{\"type\":\"Point\",\"coordinates\":[1234567890123456789012345678901,1]}",
-            "broken G16 at 31: number beyond the profile\n",
-        ),
-        (
-            b"{\"type\":\"Point\",\"coordinates\":[0e99999,1]}",
-            "valid\n",
-        ),
-        (
-            b"{\"type\":\"FeatureCollection\",\"name\":\"a\",\"crs\":{\"type\":\"name\",\"properties\":{\"name\":\"urn:ogc:def:crs:OGC:1.3:CRS84\"}},\"features\":[]}",
-            "valid\nwarning W9 count 1 first 39: crs is no longer used\n",
-        ),
-        (
-            b"{\"type\":\"Feature\"}",
-            "broken G6 at 0: geometry missing\n",
-        ),
-        (
-            b"{\"type\":\"Feature\",\"geometry\":null}",
-            "broken G7 at 0: properties missing\n",
-        ),
-        (
-            b"{\"type\":\"Feature\",\"geometry\":null,\"properties\":{\"geometry\":7,\"type\":1,\"type\":2}}",
-            "valid\n",
-        ),
-        (
-            b"{\"type\":\"Point\",\"coordinates\":[180.0000001,90]}",
-            "valid\nwarning W5 count 1 first 30: position out of range\n",
-        ),
-        (
-            b"{\"type\":\"Point\",\"coordinates\":[180.00000009,90]}",
-            "valid\nwarning W4 count 1 first 31: more than seven decimal places\n",
-        ),
-        (
-            b"{\"type\":\"Point\",\"coordinates\":[1,2,3,4,5]}",
-            "valid\nwarning W3 count 1 first 30: more than three numbers in a position\n",
-        ),
-        (
-            b"{\"type\":\"Point\",\"coordinates\":[1,2,3,\"x\"]}",
-            "broken G11 at 37: coordinates of the wrong shape\n",
-        ),
-        (
-            b"{\"type\":\"Point\",\"coordinates\":[1]}",
-            "broken G12 at 30: position of fewer than two elements\n",
-        ),
-        (
-            b"{\"type\":\"GeometryCollection\",\"geometries\":[{\"type\":\"GeometryCollection\",\"geometries\":[]}]}",
-            "valid\nwarning W7 count 1 first 43: collection in a collection\n",
-        ),
-        (
-            b"{\"type\":\"Point\",\"coordinates\":[1,2],\"bbox\":[1,2,3]}",
-            "broken G21 at 43: bbox length odd or below 4\n",
-        ),
-        (
-            b"{\"type\":\"Point\",\"coordinates\":[1,2],\"bbox\":[0,20,1,10]}",
-            "valid\nwarning W8 count 1 first 43: bbox south above north\n",
-        ),
-        (
-            b"{\"type\":\"Point\",\"coordinates\":[1,2],\"bbox\":[170,10,-170,20]}",
-            "valid\n",
-        ),
-        (
-            b"{\"type\":\"Point\",\"coordinates\":[1,2],\"bbox\":[1,2,\"a\",4]}",
-            "broken G20 at 48: bbox or its element of the wrong kind\n",
-        ),
-        (
-            b"\xEF\xBB\xBF{\"type\":\"Point\",\"coordinates\":[1,2]}",
-            "valid\nwarning W1 count 1 first 0: byte order mark\n",
-        ),
-        (
-            b"{\"type\":\"Feature\",\"id\":null,\"geometry\":null,\"properties\":null}",
-            "broken G19 at 23: id neither string nor number\n",
-        ),
-        (
-            b"{\"type\":\"MultiPolygon\",\"coordinates\":[[]]}",
-            "valid\n",
-        ),
-        (
-            b"{\"type\":\"Polygon\",\"coordinates\":[[]]}",
-            "broken G14 at 33: ring of fewer than four elements\n",
-        ),
-        (
-            b"{\"type\":\"Polygon\",\"coordinates\":[[[0,0],[4,0],[4,4],[0,0]],[[1,1],[2,1],[2,2],[1,1]]]}",
-            "valid\nwarning W2 count 1 first 59: ring runs the wrong way\n",
-        ),
-        (b"[]", "broken G1 at 0: not an object\n"),
-        (b"{}", "broken G2 at 0: type missing\n"),
-        (
-            b"{\"type\":\"point\"}",
-            "broken G3 at 8: type not allowed here\n",
-        ),
-        (
-            b"{\"type\":\"MultiLineString\",\"coordinates\":[[[1,2]]]}",
-            "broken G13 at 41: line of fewer than two elements\n",
-        ),
-        (
-            b"{\"type\":\"Feature\",\"geometry\":null,\"properties\":[]}",
-            "broken G18 at 47: properties neither object nor null\n",
-        ),
-        (
-            b"{\"type\":\"FeatureCollection\",\"features\":{}}",
-            "broken G17 at 39: not an array\n",
-        ),
-        (
-            b"{\"type\":\"Point\"}",
-            "broken G4 at 0: coordinates missing\n",
-        ),
-        (
-            b"{\"type\":\"GeometryCollection\"}",
-            "broken G5 at 0: geometries missing\n",
-        ),
-        (
-            b"{\"type\":\"FeatureCollection\"}",
-            "broken G8 at 0: features missing\n",
-        ),
-        (b"\"\\ud800\"", "broken G1 at 0: not an object\n"),
-        (
-            b"{\"type\":\"GeometryCollection\",\"geometries\":[{\"type\":\"Point\"},7]}",
-            "broken G4 at 43: coordinates missing\n",
-        ),
-        (
-            b"{\"geometries\":[7],\"type\":\"Point\",\"coordinates\":[1,2]}",
-            "valid\n",
-        ),
-        (
-            b"{\"geometries\":[7],\"type\":\"GeometryCollection\"}",
-            "broken G1 at 15: not an object\n",
-        ),
-        (
-            b"{\"type\":\"GeometryCollection\",\"geometries\":[{\"geometries\":[7],\"type\":\"Point\",\"coordinates\":[1]}]}",
-            "broken G12 at 90: position of fewer than two elements\n",
-        ),
-        (
-            b"{\"type\":\"Feature\",\"geometry\":null,\"properties\":null,\"features\":1}",
-            "broken G9 at 52: member forbidden by section 7.1\n",
-        ),
-        (
-            b"{\"type\":\"Feature\",\"geometry\":7,\"properties\":null}",
-            "broken G1 at 29: not an object\n",
-        ),
-        (
-            b"{\"geometry\":{\"type\":\"Nope\"},\"type\":\"Feature\",\"properties\":null}",
-            "broken G3 at 20: type not allowed here\n",
-        ),
-        (
-            b"{\"type\":\"GeometryCollection\",\"geometries\":[{\"type\":\"Feature\"}]}",
-            "broken G3 at 51: type not allowed here\n",
-        ),
-        (
-            b"{\"bbox\":[1],\"type\":\"x\"}",
-            "broken G21 at 8: bbox length odd or below 4\n",
-        ),
-        (b"{\"bbox\":7}", "broken G2 at 0: type missing\n"),
-        (
-            b"{\"type\":\"Point\",\"coordinates\":[1,2],\"bbox\":[1e999,0,1,1]}",
-            "valid\n",
-        ),
-        (
-            b"{\"type\":\"LineString\",\"coordinates\":[[1,2,3,4],[1,2,3,4,5]]}",
-            "valid\nwarning W3 count 2 first 36: more than three numbers in a position\n",
-        ),
-        (
-            b"{\"crs\":1,\"crs\":2,\"type\":\"Point\",\"coordinates\":[1,2]}",
-            "valid\nwarning W9 count 2 first 1: crs is no longer used\n",
-        ),
-        (
-            b"{\"geometries\":[{\"crs\":1}],\"type\":\"Point\",\"coordinates\":[1,2]}",
-            "valid\n",
-        ),
-        (
-            b"{\"type\":\"Point\",\"coordinates\":[1e10,1]}",
-            "valid\nwarning W5 count 1 first 30: position out of range\n",
-        ),
-        (
-            b"{\"type\":\"Polygon\",\"coordinates\":[[[0,0],[0,91],[1,1],[0,0]]]}",
-            "valid\nwarning W5 count 1 first 40: position out of range\n",
-        ),
-        (
-            b"{\"type\":\"Polygon\",\"coordinates\":[[[0,0],[1,0],[2,0],[0,0]]]}",
-            "valid\n",
-        ),
-        (b" {} \r\n", "broken G2 at 1: type missing\n"),
-        (b"7", "broken G1 at 0: not an object\n"),
-        (b"1.5", "broken G1 at 0: not an object\n"),
-        (b"\"x\"", "broken G1 at 0: not an object\n"),
-        (b"[{}]", "broken G1 at 0: not an object\n"),
-        (b"\xEF\xBB\xBFnull", "broken G1 at 3: not an object\n"),
-        (b"{\"a\":-0}", "broken G2 at 0: type missing\n"),
-    ];
-    for (input, line) in rows {
+    for (input, line) in TEXTS.iter() {
         expect(&rt, input, Limits::usual(), line);
-        fronts_are_truncated(&rt, input);
-        replaced_bytes_in_pieces(&rt, input);
+        fronts_are_truncated(&rt, input, line);
+        replaced_bytes_in_pieces(&rt, input, line);
     }
+}
+
+/// Bytes that are no text, and the report of them.
+static NO_TEXTS: [(&[u8], &str); 21] = [
+    (b"", "not JSON at 0: truncated\n"),
+    (b"{\"a\":\"\xE2\x82\x28", "not JSON at 8: syntax\n"),
+    (b"{\"type\":\"Point\"} x", "not JSON at 17: syntax\n"),
+    (b"01", "not JSON at 1: syntax\n"),
+    (b"[1,2", "not JSON at 4: truncated\n"),
+    (b"{\"a\":1,}", "not JSON at 7: syntax\n"),
+    (b"[1 2]", "not JSON at 3: syntax\n"),
+    (b"-", "not JSON at 1: truncated\n"),
+    (b"1.", "not JSON at 2: truncated\n"),
+    (b"1.e", "not JSON at 2: syntax\n"),
+    (b"+1", "not JSON at 0: syntax\n"),
+    (b"tru", "not JSON at 3: truncated\n"),
+    (b"True", "not JSON at 0: syntax\n"),
+    (b"\"\\x\"", "not JSON at 2: syntax\n"),
+    (b"\"\\u12G4\"", "not JSON at 5: syntax\n"),
+    (b"\"\n", "not JSON at 1: syntax\n"),
+    (b"\"\xC0\x80", "not JSON at 1: syntax\n"),
+    (b"\"\xED\xA0\x80", "not JSON at 2: syntax\n"),
+    (b"\"\xF4\x90\x80\x80", "not JSON at 2: syntax\n"),
+    (b"\xEF\xBB", "not JSON at 2: truncated\n"),
+    (b"\xEF\x7B", "not JSON at 1: syntax\n"),
+];
+
+fn expect_no_text(rt: &impl Abort, input: &[u8], line: &str) {
+    expect(rt, input, Limits::usual(), line);
+    replaced_bytes_in_pieces(rt, input, line);
 }
 
 #[test]
 fn other_bytes_are_no_text(rt: HostRuntime) {
+    for (input, line) in NO_TEXTS.iter() {
+        expect_no_text(&rt, input, line);
+    }
+}
+
+#[test]
+fn brackets_without_their_ends_are_no_text(rt: HostRuntime) {
     let most = MOST_LEVELS as usize;
     let open = [b'['; MOST_LEVELS as usize + 1];
     let mut closed_wrongly = open;
     closed_wrongly[most] = b'}';
-    let rows: [(&[u8], &str); 24] = [
-        (b"", "not JSON at 0: truncated\n"),
-        (b"{\"a\":\"\xE2\x82\x28", "not JSON at 8: syntax\n"),
-        (&open, "not JSON at 256: too deep\n"),
-        (&open[..most], "not JSON at 256: truncated\n"),
-        (&closed_wrongly, "not JSON at 256: syntax\n"),
-        (b"{\"type\":\"Point\"} x", "not JSON at 17: syntax\n"),
-        (b"01", "not JSON at 1: syntax\n"),
-        (b"[1,2", "not JSON at 4: truncated\n"),
-        (b"{\"a\":1,}", "not JSON at 7: syntax\n"),
-        (b"[1 2]", "not JSON at 3: syntax\n"),
-        (b"-", "not JSON at 1: truncated\n"),
-        (b"1.", "not JSON at 2: truncated\n"),
-        (b"1.e", "not JSON at 2: syntax\n"),
-        (b"+1", "not JSON at 0: syntax\n"),
-        (b"tru", "not JSON at 3: truncated\n"),
-        (b"True", "not JSON at 0: syntax\n"),
-        (b"\"\\x\"", "not JSON at 2: syntax\n"),
-        (b"\"\\u12G4\"", "not JSON at 5: syntax\n"),
-        (b"\"\n", "not JSON at 1: syntax\n"),
-        (b"\"\xC0\x80", "not JSON at 1: syntax\n"),
-        (b"\"\xED\xA0\x80", "not JSON at 2: syntax\n"),
-        (b"\"\xF4\x90\x80\x80", "not JSON at 2: syntax\n"),
-        (b"\xEF\xBB", "not JSON at 2: truncated\n"),
-        (b"\xEF\x7B", "not JSON at 1: syntax\n"),
-    ];
-    for (input, line) in rows {
-        expect(&rt, input, Limits::usual(), line);
-        replaced_bytes_in_pieces(&rt, input);
-    }
+    expect_no_text(&rt, &open, "not JSON at 256: too deep\n");
+    expect_no_text(&rt, &open[..most], "not JSON at 256: truncated\n");
+    expect_no_text(&rt, &closed_wrongly, "not JSON at 256: syntax\n");
 }
 
 #[test]
@@ -406,24 +413,22 @@ fn a_text_has_at_most_the_bytes_allowed(rt: HostRuntime) {
     let Some(limits) = Limits::new(MOST_LEVELS, 10) else {
         return;
     };
-    expect(&rt, POINT, limits, "not JSON at 10: too long\n");
-    let mut reader = Endless::new(b' ');
+    let line = "not JSON at 10: too long\n";
+    expect(&rt, POINT, limits, line);
     let mut sink = writer();
-    assert_eq!(rt;
-        run(&mut reader, &mut sink, options(limits)),
-        Ok(Outcome::Fail)
-    );
-    assert_eq!(rt; sink.bytes(), "not JSON at 10: too long\n".as_bytes());
+    let answer = run(&mut Endless::new(b' '), &mut sink, options(limits));
+    equal(&rt, answer, Ok(Outcome::Fail), line);
+    equal(&rt, sink.bytes(), line.as_bytes(), line);
 }
 
 #[test]
 fn brackets_without_end_are_too_deep(rt: HostRuntime) {
+    let line = "not JSON at 256: too deep\n";
+    let usual = options(Limits::usual());
     let mut sink = writer();
-    assert_eq!(rt;
-        run(&mut Endless::new(b'['), &mut sink, options(Limits::usual())),
-        Ok(Outcome::Fail)
-    );
-    assert_eq!(rt; sink.bytes(), "not JSON at 256: too deep\n".as_bytes());
+    let answer = run(&mut Endless::new(b'['), &mut sink, usual);
+    equal(&rt, answer, Ok(Outcome::Fail), line);
+    equal(&rt, sink.bytes(), line.as_bytes(), line);
 }
 
 #[test]
@@ -433,11 +438,9 @@ fn a_failed_read_ends_a_run_with_no_report(rt: HostRuntime) {
         let mut reader = SliceSource::failing_after(POINT, offset);
         let mut sink = writer();
         let fault = RunFault::Read(ReadFault { offset });
-        assert_eq!(rt;
-            run(&mut reader, &mut sink, options(Limits::usual())),
-            Err(fault)
-        );
-        assert!(rt; sink.bytes().is_empty(), "after {reads} reads");
+        let answer = run(&mut reader, &mut sink, options(Limits::usual()));
+        equal(&rt, answer, Err(fault), "a failed read");
+        holds_at(&rt, sink.bytes().is_empty(), "no report", reads);
     }
 }
 
@@ -465,8 +468,9 @@ fn a_failed_write_leaves_a_front_of_the_report(rt: HostRuntime) {
             let written = room as u64;
             let fault = RunFault::Write(WriteFault { written });
             let answer = run(&mut reader, &mut sink, options(Limits::usual()));
-            assert_eq!(rt; answer, Err(fault));
-            assert_eq!(rt; sink.bytes(), &report.as_bytes()[..room], "room for {room}");
+            equal(&rt, answer, Err(fault), "a failed write");
+            let written = &report.as_bytes()[..room];
+            holds_at(&rt, sink.bytes() == written, "room", room);
         }
     }
 }
@@ -477,92 +481,93 @@ fn gives_with_path(rt: &impl Abort, input: &[u8], report: &str) {
         let mut first = SliceSource::new(input, most, most);
         let mut second = SliceSource::new(input, most, most);
         let mut sink = writer();
-        assert_eq!(rt;
-            run_with_path(&mut first, &mut second, &mut sink, options(Limits::usual())),
-            Ok(outcome_of(report)),
-            "{report}"
-        );
-        assert_eq!(rt; sink.bytes(), report.as_bytes(), "{report}");
+        let usual = options(Limits::usual());
+        let answer = run_with_path(&mut first, &mut second, &mut sink, usual);
+        equal(rt, answer, Ok(outcome_of(report)), report);
+        equal(rt, sink.bytes(), report.as_bytes(), report);
     }
 }
 
 const OPEN_RING: &[u8] = b"{\"type\":\"Polygon\",\"coordinates\":[[[0,0],[1,0],[1,1],[0,0,0]]]}";
 
+/// A text, and its report with the path.
+static WITH_PATHS: [(&[u8], &str); 12] = [
+    (
+        OPEN_RING,
+        "broken G15 at 33: ring not closed\npath $.coordinates[0]\n",
+    ),
+    (
+        b"{\"coordinates\":[1,2],\"type\":\"Point\",\"type\":\"Polygon\"}",
+        "broken G10 at 36: name repeated\npath $\n",
+    ),
+    (
+        b"{\"features\":[{\"type\":\"Feature\",\"geometry\":null,\"properties\":null},7],\"type\":\"FeatureCollection\"}",
+        "broken G1 at 66: not an object\npath $.features[1]\n",
+    ),
+    (
+        b"{\"type\":\"Point\",\"coordinates\":[1,2,3,\"x\"]}",
+        "broken G11 at 37: coordinates of the wrong shape\npath $.coordinates[3]\n",
+    ),
+    (
+        b"{\"type\":\"Point\",\"coordinates\":[1,2],\"bbox\":[1,2,3]}",
+        "broken G21 at 43: bbox length odd or below 4\npath $.bbox\n",
+    ),
+    (
+        b"{\"type\":\"Feature\",\"id\":null,\"geometry\":null,\"properties\":null}",
+        "broken G19 at 23: id neither string nor number\npath $.id\n",
+    ),
+    (
+        b"{\"type\":\"point\"}",
+        "broken G3 at 8: type not allowed here\npath $.type\n",
+    ),
+    (
+        b"{\"geometry\":{\"type\":\"Nope\"},\"type\":\"Point\",\"coordinates\":[1,2]}",
+        "broken G9 at 1: member forbidden by section 7.1\npath $\n",
+    ),
+    (b"[]", "broken G1 at 0: not an object\npath $\n"),
+    (b" \n7", "broken G1 at 2: not an object\npath $\n"),
+    (b"{\"type\":\"Point\",\"coordinates\":[1,2]}", "valid\n"),
+    (b"{} x", "not JSON at 3: syntax\n"),
+];
+
 #[test]
 fn a_broken_rule_has_the_path_of_its_value(rt: HostRuntime) {
-    let rows: [(&[u8], &str); 12] = [
-        (
-            OPEN_RING,
-            "broken G15 at 33: ring not closed\npath $.coordinates[0]\n",
-        ),
-        (
-            b"{\"coordinates\":[1,2],\"type\":\"Point\",\"type\":\"Polygon\"}",
-            "broken G10 at 36: name repeated\npath $\n",
-        ),
-        (
-            b"{\"features\":[{\"type\":\"Feature\",\"geometry\":null,\"properties\":null},7],\"type\":\"FeatureCollection\"}",
-            "broken G1 at 66: not an object\npath $.features[1]\n",
-        ),
-        (
-            b"{\"type\":\"Point\",\"coordinates\":[1,2,3,\"x\"]}",
-            "broken G11 at 37: coordinates of the wrong shape\npath $.coordinates[3]\n",
-        ),
-        (
-            b"{\"type\":\"Point\",\"coordinates\":[1,2],\"bbox\":[1,2,3]}",
-            "broken G21 at 43: bbox length odd or below 4\npath $.bbox\n",
-        ),
-        (
-            b"{\"type\":\"Feature\",\"id\":null,\"geometry\":null,\"properties\":null}",
-            "broken G19 at 23: id neither string nor number\npath $.id\n",
-        ),
-        (
-            b"{\"type\":\"point\"}",
-            "broken G3 at 8: type not allowed here\npath $.type\n",
-        ),
-        (
-            b"{\"geometry\":{\"type\":\"Nope\"},\"type\":\"Point\",\"coordinates\":[1,2]}",
-            "broken G9 at 1: member forbidden by section 7.1\npath $\n",
-        ),
-        (b"[]", "broken G1 at 0: not an object\npath $\n"),
-        (b" \n7", "broken G1 at 2: not an object\npath $\n"),
-        (b"{\"type\":\"Point\",\"coordinates\":[1,2]}", "valid\n"),
-        (b"{} x", "not JSON at 3: syntax\n"),
-    ];
-    for (input, report) in rows {
+    for (input, report) in WITH_PATHS.iter() {
         gives_with_path(&rt, input, report);
     }
 }
 
+/// How many bytes of the text a second reading gives, whether it fails then, and what it is.
+static SECONDS: [(usize, bool, &str); 4] = [
+    (0, false, "an empty one"),
+    (33, false, "one that ends at the place"),
+    (0, true, "one that fails at once"),
+    (33, true, "one that fails at the place"),
+];
+
+fn gives_no_path(rt: &impl Abort, second: &mut SliceSource, which: &str) {
+    let mut sink = writer();
+    let mut first = SliceSource::whole(OPEN_RING);
+    let usual = options(Limits::usual());
+    let answer = run_with_path(&mut first, second, &mut sink, usual);
+    equal(rt, answer, Ok(Outcome::Fail), which);
+    let line = "broken G15 at 33: ring not closed\n";
+    equal(rt, sink.bytes(), line.as_bytes(), which);
+}
+
 #[test]
 fn without_a_second_reading_there_is_no_path(rt: HostRuntime) {
-    let line = "broken G15 at 33: ring not closed\n";
-    let seconds = [
-        (SliceSource::whole(b""), "an empty one"),
-        (
-            SliceSource::whole(&OPEN_RING[..33]),
-            "one that ends at the place",
-        ),
-        (SliceSource::whole(b"{]"), "one that is refused"),
-        (
-            SliceSource::failing_after(OPEN_RING, 0),
-            "one that fails at once",
-        ),
-        (
-            SliceSource::failing_after(OPEN_RING, 33),
-            "one that fails at the place",
-        ),
-    ];
-    for (second, which) in seconds {
-        let mut reader = second;
-        let mut sink = writer();
-        let mut first = SliceSource::whole(OPEN_RING);
-        assert_eq!(rt;
-            run_with_path(&mut first, &mut reader, &mut sink, options(Limits::usual())),
-            Ok(Outcome::Fail),
-            "{which}"
-        );
-        assert_eq!(rt; sink.bytes(), line.as_bytes(), "{which}");
+    for (given, fails, which) in SECONDS.iter() {
+        if *fails {
+            let mut second = SliceSource::failing_after(OPEN_RING, *given as u64);
+            gives_no_path(&rt, &mut second, which);
+        } else {
+            let rest = OPEN_RING.get(..*given).unwrap_or(OPEN_RING);
+            gives_no_path(&rt, &mut SliceSource::whole(rest), which);
+        }
     }
+    let mut second = SliceSource::whole(b"{]");
+    gives_no_path(&rt, &mut second, "one that is refused");
 }
 
 #[test]
@@ -574,11 +579,11 @@ fn a_second_reading_that_fails_later_leaves_the_path(rt: HostRuntime) {
         let mut second = SliceSource::failing_after(OPEN_RING, reads);
         let mut sink = writer();
         let wanted = if reads < 34 { line } else { report };
-        assert_eq!(rt;
-            run_with_path(&mut first, &mut second, &mut sink, options(Limits::usual())),
-            Ok(Outcome::Fail)
-        );
-        assert_eq!(rt; sink.bytes(), wanted.as_bytes(), "after {reads} reads");
+        let usual = options(Limits::usual());
+        let answer = run_with_path(&mut first, &mut second, &mut sink, usual);
+        equal(&rt, answer, Ok(Outcome::Fail), wanted);
+        let is_wanted = sink.bytes() == wanted.as_bytes();
+        holds_at(&rt, is_wanted, wanted, reads as usize);
     }
 }
 
@@ -587,9 +592,9 @@ fn a_failed_first_reading_ends_a_run_with_a_path(rt: HostRuntime) {
     let mut first = SliceSource::failing_after(OPEN_RING, 5);
     let mut second = SliceSource::whole(OPEN_RING);
     let mut sink = writer();
-    assert_eq!(rt;
-        run_with_path(&mut first, &mut second, &mut sink, options(Limits::usual())),
-        Err(RunFault::Read(ReadFault { offset: 5 }))
-    );
-    assert!(rt; sink.bytes().is_empty());
+    let fault = RunFault::Read(ReadFault { offset: 5 });
+    let usual = options(Limits::usual());
+    let answer = run_with_path(&mut first, &mut second, &mut sink, usual);
+    equal(&rt, answer, Err(fault), "a failed read");
+    holds(&rt, sink.bytes().is_empty(), "no report");
 }

@@ -2,7 +2,7 @@
 
 use super::*;
 use crate::fault::WriteFault;
-use crate::testing::{ArraySink, Ending, Endless, SliceSource};
+use crate::testing::{ArraySink, Ending, Endless, SliceSource, equal, holds, holds_at};
 use gj_json::{Cause, JsonFault, MOST_LEVELS};
 use std::process::Abort;
 
@@ -44,12 +44,9 @@ fn gives<S: Source>(
         strict: options.strict,
         quick: options.quick,
     };
-    assert_eq!(rt;
-        run_sequence(reader, &mut sink, own),
-        Ok(outcome),
-        "{report}"
-    );
-    assert_eq!(rt; sink.bytes(), report.as_bytes(), "{report}");
+    let answer = run_sequence(reader, &mut sink, own);
+    equal(rt, answer, Ok(outcome), report);
+    equal(rt, sink.bytes(), report.as_bytes(), report);
 }
 
 /// The input in one piece, byte by byte and at each cut into two.
@@ -68,104 +65,109 @@ fn expect(rt: &impl Abort, input: &[u8], options: &Options, report: &str, outcom
     }
 }
 
+/// A sequence, its report, and whether it passes.
+static SEQUENCES: [(&[u8], &str, Outcome); 12] = [
+    (b"", "valid\nrecords 0\n", Outcome::Pass),
+    (TWO, "valid\nrecords 2\n", Outcome::Pass),
+    (
+        b"\x1E{\"type\":\"Point\",\"coordinates\":[1,2]}",
+        "record 1\nnot JSON at 37: truncated\n",
+        Outcome::Fail,
+    ),
+    (
+        b"\x1E{\x1E{\"type\":\"Point\",\"coordinates\":[1,2]}\n",
+        "record 1\nnot JSON at 2: truncated\n",
+        Outcome::Fail,
+    ),
+    (
+        b"\x1E[]\n\x1Ex",
+        "record 1\nbroken G1 at 1: not an object\n",
+        Outcome::Fail,
+    ),
+    (
+        b"{\"type\":\"Point\",\"coordinates\":[1,2]}\n",
+        "record 0\nnot JSON at 0: syntax\n",
+        Outcome::Fail,
+    ),
+    (
+        b"\x1E",
+        "record 1\nnot JSON at 1: truncated\n",
+        Outcome::Fail,
+    ),
+    (
+        b"\x1E\x1E",
+        "record 1\nnot JSON at 2: truncated\n",
+        Outcome::Fail,
+    ),
+    (
+        b"\x1E{\"type\":\"Point\",\"coordinates\":[1,2]}\n\x1E",
+        "record 2\nnot JSON at 39: truncated\n",
+        Outcome::Fail,
+    ),
+    (
+        b"\x1E[]",
+        "record 1\nnot JSON at 3: truncated\n",
+        Outcome::Fail,
+    ),
+    (
+        b"\x1E\xEF\xBB\xBF{\"type\":\"Point\",\"coordinates\":[1,2]}\n\x1E\xEF\xBB\xBF{\"type\":\"Point\",\"coordinates\":[1,2]}\n",
+        "valid\nrecords 2\nwarning W1 count 2 first 1: byte order mark\n",
+        Outcome::Pass,
+    ),
+    // the first of these warnings stands in the second record
+    (
+        b"\x1E{\"type\":\"Point\",\"coordinates\":[1,2]}\n\x1E{\"type\":\"Point\",\"coordinates\":[]}\n",
+        "valid\nrecords 2\nwarning W6 count 1 first 69: empty coordinates\n",
+        Outcome::Pass,
+    ),
+];
+
 #[test]
 fn sequences_are_judged_by_their_records(rt: HostRuntime) {
-    let rows: [(&[u8], &str, Outcome); 12] = [
-        (b"", "valid\nrecords 0\n", Outcome::Pass),
-        (TWO, "valid\nrecords 2\n", Outcome::Pass),
-        (
-            b"\x1E{\"type\":\"Point\",\"coordinates\":[1,2]}",
-            "record 1\nnot JSON at 37: truncated\n",
-            Outcome::Fail,
-        ),
-        (
-            b"\x1E{\x1E{\"type\":\"Point\",\"coordinates\":[1,2]}\n",
-            "record 1\nnot JSON at 2: truncated\n",
-            Outcome::Fail,
-        ),
-        (
-            b"\x1E[]\n\x1Ex",
-            "record 1\nbroken G1 at 1: not an object\n",
-            Outcome::Fail,
-        ),
-        (
-            b"{\"type\":\"Point\",\"coordinates\":[1,2]}\n",
-            "record 0\nnot JSON at 0: syntax\n",
-            Outcome::Fail,
-        ),
-        (
-            b"\x1E",
-            "record 1\nnot JSON at 1: truncated\n",
-            Outcome::Fail,
-        ),
-        (
-            b"\x1E\x1E",
-            "record 1\nnot JSON at 2: truncated\n",
-            Outcome::Fail,
-        ),
-        (
-            b"\x1E{\"type\":\"Point\",\"coordinates\":[1,2]}\n\x1E",
-            "record 2\nnot JSON at 39: truncated\n",
-            Outcome::Fail,
-        ),
-        (
-            b"\x1E[]",
-            "record 1\nnot JSON at 3: truncated\n",
-            Outcome::Fail,
-        ),
-        (
-            b"\x1E\xEF\xBB\xBF{\"type\":\"Point\",\"coordinates\":[1,2]}\n\x1E\xEF\xBB\xBF{\"type\":\"Point\",\"coordinates\":[1,2]}\n",
-            "valid\nrecords 2\nwarning W1 count 2 first 1: byte order mark\n",
-            Outcome::Pass,
-        ),
-        // the first of these warnings stands in the second record
-        (
-            b"\x1E{\"type\":\"Point\",\"coordinates\":[1,2]}\n\x1E{\"type\":\"Point\",\"coordinates\":[]}\n",
-            "valid\nrecords 2\nwarning W6 count 1 first 69: empty coordinates\n",
-            Outcome::Pass,
-        ),
-    ];
-    for (input, report, outcome) in rows {
-        expect(&rt, input, &usual(), report, outcome);
+    for (input, report, outcome) in SEQUENCES.iter() {
+        expect(&rt, input, &usual(), report, *outcome);
         let quick = options(MOST_LEVELS, 1 << 60, false, true);
-        gives(&rt, &mut SliceSource::whole(input), &quick, report, outcome);
+        let mut reader = SliceSource::whole(input);
+        gives(&rt, &mut reader, &quick, report, *outcome);
     }
 }
 
+/// A sequence, how deep and how long it may be, and its report.
+static LIMITED: [(&[u8], u16, u64, &str); 7] = [
+    (
+        b"\x1E[]\n\x1E",
+        MOST_LEVELS,
+        4,
+        "record 1\nnot JSON at 4: too long\n",
+    ),
+    (
+        b"\x1E[]\n\x1E",
+        MOST_LEVELS,
+        5,
+        "record 1\nbroken G1 at 1: not an object\n",
+    ),
+    // inside a run of separators, at one, and at the byte after
+    (TWO, MOST_LEVELS, 39, "record 2\nnot JSON at 39: too long\n"),
+    (TWO, MOST_LEVELS, 38, "record 1\nnot JSON at 38: too long\n"),
+    (TWO, MOST_LEVELS, 40, "record 2\nnot JSON at 40: too long\n"),
+    // two levels are allowed to each record
+    (
+        b"\x1E{\"type\":\"Point\",\"coordinates\":[1,2]}\n\x1E[[[",
+        2,
+        1 << 60,
+        "record 2\nnot JSON at 41: too deep\n",
+    ),
+    (TWO, 2, 77, "valid\nrecords 2\n"),
+];
+
 #[test]
 fn limits_end_a_sequence(rt: HostRuntime) {
-    let rows: [(&[u8], u16, u64, &str); 7] = [
-        (
-            b"\x1E[]\n\x1E",
-            MOST_LEVELS,
-            4,
-            "record 1\nnot JSON at 4: too long\n",
-        ),
-        (
-            b"\x1E[]\n\x1E",
-            MOST_LEVELS,
-            5,
-            "record 1\nbroken G1 at 1: not an object\n",
-        ),
-        // inside a run of separators, at one, and at the byte after
-        (TWO, MOST_LEVELS, 39, "record 2\nnot JSON at 39: too long\n"),
-        (TWO, MOST_LEVELS, 38, "record 1\nnot JSON at 38: too long\n"),
-        (TWO, MOST_LEVELS, 40, "record 2\nnot JSON at 40: too long\n"),
-        // two levels are allowed to each record
-        (
-            b"\x1E{\"type\":\"Point\",\"coordinates\":[1,2]}\n\x1E[[[",
-            2,
-            1 << 60,
-            "record 2\nnot JSON at 41: too deep\n",
-        ),
-        (TWO, 2, 77, "valid\nrecords 2\n"),
-    ];
-    for (input, depth, bytes, report) in rows {
+    for (input, depth, bytes, report) in LIMITED.iter() {
         let outcome = match report.starts_with("valid") {
             true => Outcome::Pass,
             false => Outcome::Fail,
         };
-        let options = options(depth, bytes, false, false);
+        let options = options(*depth, *bytes, false, false);
         expect(&rt, input, &options, report, outcome);
     }
 }
@@ -202,7 +204,7 @@ fn a_separator_inside_a_record_truncates_it(rt: HostRuntime) {
         });
         let first = SeqVerdict::Record { number: 1, verdict };
         let given = lint_sequence(&mut SliceSource::whole(&input), Limits::usual());
-        assert!(rt; given == Ok(first), "{at}: {given:?}");
+        holds_at(&rt, given == Ok(first), "a separator", at);
     }
 }
 
@@ -211,15 +213,10 @@ fn a_failed_read_is_no_verdict(rt: HostRuntime) {
     for reads in 0..78 {
         let mut sink = writer();
         let fault = ReadFault { offset: reads };
-        assert_eq!(rt;
-            run_sequence(
-                &mut SliceSource::failing_after(TWO, reads),
-                &mut sink,
-                usual()
-            ),
-            Err(RunFault::Read(fault))
-        );
-        assert!(rt; sink.bytes().is_empty());
+        let mut reader = SliceSource::failing_after(TWO, reads);
+        let answer = run_sequence(&mut reader, &mut sink, usual());
+        equal(&rt, answer, Err(RunFault::Read(fault)), "a failed read");
+        holds_at(&rt, sink.bytes().is_empty(), "no report", reads as usize);
     }
 }
 
@@ -232,11 +229,10 @@ fn a_failed_write_leaves_a_front_of_the_report(rt: HostRuntime) {
             let fault = WriteFault {
                 written: room as u64,
             };
-            assert_eq!(rt;
-                run_sequence(&mut SliceSource::whole(TWO), &mut sink, usual()),
-                Err(RunFault::Write(fault))
-            );
-            assert_eq!(rt; sink.bytes(), &report[..room]);
+            let mut reader = SliceSource::whole(TWO);
+            let answer = run_sequence(&mut reader, &mut sink, usual());
+            equal(&rt, answer, Err(RunFault::Write(fault)), "a failed write");
+            holds_at(&rt, sink.bytes() == &report[..room], "room", room);
         }
     }
 }
@@ -246,7 +242,9 @@ fn a_report_goes_out_in_one_write(rt: HostRuntime) {
     for (input, strict) in [(WARNED, true), (TWO, false), (b"\x1E[]\n", false)] {
         let mut sink = writer();
         let options = options(MOST_LEVELS, 1 << 60, strict, false);
-        assert!(rt; run_sequence(&mut SliceSource::whole(input), &mut sink, options).is_ok());
-        assert_eq!(rt; sink.writes(), 1);
+        let mut reader = SliceSource::whole(input);
+        let answer = run_sequence(&mut reader, &mut sink, options);
+        holds(&rt, answer.is_ok(), "a report");
+        equal(&rt, sink.writes(), 1, "one write");
     }
 }
