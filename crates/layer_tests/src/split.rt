@@ -1,6 +1,7 @@
 //! The features of a text and the records of an input, set apart.
 ghost use Rattle.std.specs.Prelude.{None};
 
+use crate::checks::{equal, holds};
 use gj_json::Limits;
 use gj_rules::{Feature, Framing, Record};
 use gj_split::{BrokenList, Counts, Outputs, Ranges, split, split_records};
@@ -53,51 +54,30 @@ impl BrokenList for Noted {
     }
 }
 
-/// An input with its framing, what both parts hold of it, and how many records each has.
-#[derive(Drop)]
-struct Row {
-    input: &'static str,
-    framing: Option<Framing>,
-    valid: &'static str,
-    broken: &'static str,
-    counts: Counts,
-    case: &'static str,
-}
-
-fn row_of(
-    framing: Option<Framing>,
-    input: &'static str,
-    valid: &'static str,
-    broken: &'static str,
-    case: &'static str,
-) -> Row {
-    Row {
-        input,
-        framing,
-        valid,
-        broken,
-        counts: Counts {
-            valid: count_of(valid),
-            broken: count_of(broken),
-        },
-        case,
-    }
-}
+/// The framing of an input if it has records, the input, what both parts hold of it, and what it is.
+type Row = (
+    Option<Framing>,
+    &'static str,
+    &'static str,
+    &'static str,
+    &'static str,
+);
 
 fn count_of(sequence: &str) -> u64 {
     sequence.bytes().filter(|byte| *byte == 0x1E).count() as u64
 }
 
 fn expect(rt: &impl Abort, alloc: Global, row: &Row) {
+    let (framing, input, valid, broken, case) = row;
     let source = InMemory {
-        bytes: row.input.as_bytes(),
+        bytes: input.as_bytes(),
     };
     let outputs = Outputs {
         valid: Vec::new(alloc),
         broken: Vec::new(alloc),
         list: Noted { count: 0 },
     };
-    let (is_read, counts, outputs) = match row.framing {
+    let (is_read, counts, outputs) = match *framing {
         None => {
             let ended = split(&source, Limits::usual(), outputs);
             (ended.outcome.is_ok(), ended.counts, ended.outputs)
@@ -107,71 +87,66 @@ fn expect(rt: &impl Abort, alloc: Global, row: &Row) {
             (ended.outcome.is_ok(), ended.counts, ended.outputs)
         }
     };
-    assert!(rt; is_read, "{}", row.case);
-    assert_eq!(rt;
-        outputs.valid.as_slice(),
-        row.valid.as_bytes(),
-        "{}",
-        row.case
-    );
-    assert_eq!(rt;
-        outputs.broken.as_slice(),
-        row.broken.as_bytes(),
-        "{}",
-        row.case
-    );
-    assert_eq!(rt; counts, row.counts, "{}", row.case);
-    assert_eq!(rt; outputs.list.count, row.counts.broken, "{}", row.case);
+    holds(rt, is_read, case);
+    equal(rt, outputs.valid.as_slice(), valid.as_bytes(), case);
+    equal(rt, outputs.broken.as_slice(), broken.as_bytes(), case);
+    let wanted = Counts {
+        valid: count_of(valid),
+        broken: count_of(broken),
+    };
+    equal(rt, counts, wanted, case);
+    equal(rt, outputs.list.count, wanted.broken, case);
 }
+
+static OF_FEATURES: Row = (
+    None,
+    "{\"type\":\"FeatureCollection\",\"features\":[{\"type\":\"Feature\",\"geometry\":null,\"properties\":null} ,1,{\"type\":\"Feature\",\"geometry\":null,\"properties\":null}]}",
+    "\u{1e}{\"type\":\"Feature\",\"geometry\":null,\"properties\":null}\n\u{1e}{\"type\":\"Feature\",\"geometry\":null,\"properties\":null}\n",
+    "\u{1e}1\n",
+    "a text",
+);
 
 #[test]
 fn each_feature_goes_to_one_part(rt: HostRuntime) {
-    let text =
-        "{\"type\":\"FeatureCollection\",\"features\":[{\"type\":\"Feature\",\"geometry\":null,\"properties\":null} ,1,{\"type\":\"Feature\",\"geometry\":null,\"properties\":null}]}";
-    let valid =
-        "\u{1e}{\"type\":\"Feature\",\"geometry\":null,\"properties\":null}\n\u{1e}{\"type\":\"Feature\",\"geometry\":null,\"properties\":null}\n";
-    expect(
-        &rt,
-        rt.alloc(),
-        &row_of(None, text, valid, "\u{1e}1\n", "a text"),
-    );
+    expect(&rt, rt.alloc(), &OF_FEATURES);
 }
+
+static OF_RECORDS: [Row; 6] = [
+    (
+        Some(Framing::Sequence),
+        "\u{1e}{\"type\":\"Point\",\"coordinates\":[]}\n\u{1e}[]\n\u{1e}{\"type\":\"Point\",\"coordinates\":[]}\n",
+        "\u{1e}{\"type\":\"Point\",\"coordinates\":[]}\n\u{1e}{\"type\":\"Point\",\"coordinates\":[]}\n",
+        "\u{1e}[]\n",
+        "a broken record in the middle",
+    ),
+    (
+        Some(Framing::Sequence),
+        "\u{1e}{\"type\":\"Point\",\"coordinates\":[]}\n\n\u{1e}{\"type\":\"Point\",\"coordinates\":[]}",
+        "\u{1e}{\"type\":\"Point\",\"coordinates\":[]}\n\n",
+        "\u{1e}{\"type\":\"Point\",\"coordinates\":[]}\n",
+        "two LF, and none at the end",
+    ),
+    (
+        Some(Framing::Sequence),
+        "x\u{1e}\u{1e}{\"type\":\"Point\",\"coordinates\":[]}\n\u{1e}{\u{1e}{\"type\":\"Point\",\"coordinates\":[]}\n\u{1e}",
+        "\u{1e}{\"type\":\"Point\",\"coordinates\":[]}\n\u{1e}{\"type\":\"Point\",\"coordinates\":[]}\n",
+        "\u{1e}x\n\u{1e}{\n\u{1e}\n",
+        "bytes before the first RS, a cut record, and an RS at the end",
+    ),
+    (
+        Some(Framing::Lines),
+        "{\"type\":\"Point\",\"coordinates\":[]}\r\n \t\r\n\n1\n{\"type\":\"Point\",\"coordinates\":[]}",
+        "\u{1e}{\"type\":\"Point\",\"coordinates\":[]}\r\n\u{1e}{\"type\":\"Point\",\"coordinates\":[]}\n",
+        "\u{1e}1\n",
+        "CR LF, blank lines, and no LF at the end",
+    ),
+    (Some(Framing::Lines), "", "", "", "no line"),
+    (Some(Framing::Sequence), "", "", "", "no record"),
+];
 
 #[test]
 fn each_record_goes_to_one_part(rt: HostRuntime) {
-    let rows = [
-        row_of(
-            Some(Framing::Sequence),
-            "\u{1e}{\"type\":\"Point\",\"coordinates\":[]}\n\u{1e}[]\n\u{1e}{\"type\":\"Point\",\"coordinates\":[]}\n",
-            "\u{1e}{\"type\":\"Point\",\"coordinates\":[]}\n\u{1e}{\"type\":\"Point\",\"coordinates\":[]}\n",
-            "\u{1e}[]\n",
-            "a broken record in the middle",
-        ),
-        row_of(
-            Some(Framing::Sequence),
-            "\u{1e}{\"type\":\"Point\",\"coordinates\":[]}\n\n\u{1e}{\"type\":\"Point\",\"coordinates\":[]}",
-            "\u{1e}{\"type\":\"Point\",\"coordinates\":[]}\n\n",
-            "\u{1e}{\"type\":\"Point\",\"coordinates\":[]}\n",
-            "two LF, and none at the end",
-        ),
-        row_of(
-            Some(Framing::Sequence),
-            "x\u{1e}\u{1e}{\"type\":\"Point\",\"coordinates\":[]}\n\u{1e}{\u{1e}{\"type\":\"Point\",\"coordinates\":[]}\n\u{1e}",
-            "\u{1e}{\"type\":\"Point\",\"coordinates\":[]}\n\u{1e}{\"type\":\"Point\",\"coordinates\":[]}\n",
-            "\u{1e}x\n\u{1e}{\n\u{1e}\n",
-            "bytes before the first RS, a cut record, and an RS at the end",
-        ),
-        row_of(
-            Some(Framing::Lines),
-            "{\"type\":\"Point\",\"coordinates\":[]}\r\n \t\r\n\n1\n{\"type\":\"Point\",\"coordinates\":[]}",
-            "\u{1e}{\"type\":\"Point\",\"coordinates\":[]}\r\n\u{1e}{\"type\":\"Point\",\"coordinates\":[]}\n",
-            "\u{1e}1\n",
-            "CR LF, blank lines, and no LF at the end",
-        ),
-        row_of(Some(Framing::Lines), "", "", "", "no line"),
-        row_of(Some(Framing::Sequence), "", "", "", "no record"),
-    ];
-    for row in rows.iter() {
+    for row in OF_RECORDS.iter() {
         expect(&rt, rt.alloc(), row);
     }
 }

@@ -1,5 +1,6 @@
 //! Sequences cut into parts: each row cut in two at each place where it may be, and in three.
 
+use crate::checks::holds_at;
 use gj_join::join;
 use gj_json::{Limits, MOST_LEVELS};
 use gj_rules::{SeqVerdict, Sequence};
@@ -45,13 +46,8 @@ fn is_that_of_its_parts(rt: &impl Abort, bytes: &[u8], most: usize, case: &str) 
         if !may_begin(bytes, end) {
             continue;
         }
-        assert_eq!(rt;
-            joined_from(bytes, 0, end, most),
-            Some(whole),
-            "{} in two at {}",
-            case,
-            end
-        );
+        let all = joined_from(bytes, 0, end, most);
+        holds_at(rt, all == Some(whole), case, end);
         for more in end + 1..bytes.len().min(most) {
             if may_begin(bytes, more) {
                 let first = verdict_of(part(bytes, 0, end), most);
@@ -60,65 +56,60 @@ fn is_that_of_its_parts(rt: &impl Abort, bytes: &[u8], most: usize, case: &str) 
                     Some(rest) => join(first, end as u64, rest),
                     None => None,
                 };
-                assert_eq!(rt;
-                    all,
-                    Some(whole),
-                    "{} in three at {} and {}",
-                    case,
-                    end,
-                    more
-                );
+                holds_at(rt, all == Some(whole), case, more);
             }
         }
     }
 }
 
+/// A sequence, a limit on its bytes, and what it is.
+static SEQUENCES: [(&[u8], usize, &str); 9] = [
+    (b"\x1E", 1 << 20, "one record of no bytes"),
+    (
+        b"\x1E{\"type\":\"Point\",\"coordinates\":[1,2]}\n\x1E{\"type\":\"Point\",\"coordinates\":[1,2]}\n",
+        1 << 20,
+        "two valid records",
+    ),
+    (
+        b"\x1E{\"type\":\"Point\",\"coordinates\":[1,2]}\n\x1E\x1E\x1E{\"type\":\"Point\",\"coordinates\":[181,2]}\n",
+        1 << 20,
+        "a run of separators, and a warning",
+    ),
+    (
+        b"\x1E{\"type\":\"Point\",\"coordinates\":[181,2]}\n\x1E{\"type\":\"Point\",\"coordinates\":[182,2]}\n\x1E{\"type\":\"Point\",\"coordinates\":[1,2,3,4]}\n",
+        1 << 20,
+        "warnings in each of three",
+    ),
+    (
+        b"\x1E{\"type\":\"Point\",\"coordinates\":[1,2]}\n\x1E{\"type\":\"Point\",\"coordinates\":[1]}\n\x1E{\"type\":\"Point\"}\n",
+        1 << 20,
+        "two records that break a rule",
+    ),
+    (
+        b"\x1E{\"type\":\"Point\",\"coordinates\":[1,2]}\n\x1E{\"type\":\n\x1E{\"type\":\"Point\",\"coordinates\":[1,2]}\n",
+        1 << 20,
+        "a record that breaks off",
+    ),
+    (
+        b"x\x1E{}\n\x1E{}\n",
+        1 << 20,
+        "a byte before the first record",
+    ),
+    (
+        b"\x1E{\"type\":\"Point\",\"coordinates\":[1,2]}\n\x1E{\"type\":\"Point\",\"coordinates\":[1,2]}\n",
+        50,
+        "a limit within the second record",
+    ),
+    (
+        b"\x1E{\"type\":\"Point\",\"coordinates\":[1,2]}\n\x1E{\"type\":\"Point\",\"coordinates\":[1,2]}",
+        1 << 20,
+        "a record without LF at the end",
+    ),
+];
+
 #[test]
 fn are_what_one_reading_finds(rt: HostRuntime) {
-    let rows: [(&[u8], usize, &str); 9] = [
-        (b"\x1E", 1 << 20, "one record of no bytes"),
-        (
-            b"\x1E{\"type\":\"Point\",\"coordinates\":[1,2]}\n\x1E{\"type\":\"Point\",\"coordinates\":[1,2]}\n",
-            1 << 20,
-            "two valid records",
-        ),
-        (
-            b"\x1E{\"type\":\"Point\",\"coordinates\":[1,2]}\n\x1E\x1E\x1E{\"type\":\"Point\",\"coordinates\":[181,2]}\n",
-            1 << 20,
-            "a run of separators, and a warning",
-        ),
-        (
-            b"\x1E{\"type\":\"Point\",\"coordinates\":[181,2]}\n\x1E{\"type\":\"Point\",\"coordinates\":[182,2]}\n\x1E{\"type\":\"Point\",\"coordinates\":[1,2,3,4]}\n",
-            1 << 20,
-            "warnings in each of three",
-        ),
-        (
-            b"\x1E{\"type\":\"Point\",\"coordinates\":[1,2]}\n\x1E{\"type\":\"Point\",\"coordinates\":[1]}\n\x1E{\"type\":\"Point\"}\n",
-            1 << 20,
-            "two records that break a rule",
-        ),
-        (
-            b"\x1E{\"type\":\"Point\",\"coordinates\":[1,2]}\n\x1E{\"type\":\n\x1E{\"type\":\"Point\",\"coordinates\":[1,2]}\n",
-            1 << 20,
-            "a record that breaks off",
-        ),
-        (
-            b"x\x1E{}\n\x1E{}\n",
-            1 << 20,
-            "a byte before the first record",
-        ),
-        (
-            b"\x1E{\"type\":\"Point\",\"coordinates\":[1,2]}\n\x1E{\"type\":\"Point\",\"coordinates\":[1,2]}\n",
-            50,
-            "a limit within the second record",
-        ),
-        (
-            b"\x1E{\"type\":\"Point\",\"coordinates\":[1,2]}\n\x1E{\"type\":\"Point\",\"coordinates\":[1,2]}",
-            1 << 20,
-            "a record without LF at the end",
-        ),
-    ];
-    for (bytes, most, case) in rows {
-        is_that_of_its_parts(&rt, bytes, most, case);
+    for (bytes, most, case) in SEQUENCES.iter() {
+        is_that_of_its_parts(&rt, bytes, *most, case);
     }
 }
