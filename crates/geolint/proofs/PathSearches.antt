@@ -1,7 +1,7 @@
 -- Lemmas on a search that takes a part of each piece.
-use Rattle.std.proofs.Common.{◌≡◌, ◌<◌, ◌≤◌, ◌+◌, ◌-◌, ℕ, List, [], ◌∷◌, ◌++◌, inl, inr, Some, None, length, take, drop, refl, sym, ap, ◌∙◌, subst, arith}
+use Rattle.std.proofs.Common.{◌≡◌, ◌<◌, ◌≤◌, ◌+◌, ◌-◌, ℕ, List, ◌++◌, inl, inr, Some, None, length, take, drop, sym, ap, ◌∙◌, subst, arith}
 use Rattle.std.proofs.Common.{append_assoc, append-nil, length-append, take-append-drop}
-use Rattle.std.specs.Prelude.{Option, zero, suc}
+use Rattle.std.specs.Prelude.{Option}
 use Rattle.std.specs.Io.KnownBytes.{Consumes, IsAtEnd}
 use Rattle.std.proofs.Math.Seq.{take-append-add}
 use Rattle.std.proofs.lemmas.List.{take-append-le, length-take-le}
@@ -80,10 +80,3 @@ path_refused limits place (Some all) (Some rest) read piece wanted fault took lo
             (refused (take (place + 1 - length front) behind ++ more))),
       ),
     )
-
--- a front of a front
-pub taken_again : (m n : ℕ) (xs : List ℕ) → m ≤ n → take m (take n xs) ≡ take m xs
-taken_again zero n xs h = refl
-taken_again (suc m) zero xs h = absurd (omega arith)
-taken_again (suc m) (suc n) [] h = refl
-taken_again (suc m) (suc n) (x ∷ xs) h = ap (λ (ys : List ℕ). x ∷ ys) (taken_again m n xs (omega arith))

@@ -92,7 +92,8 @@ abbrev pub IsSpotBy : Option (List ℕ) → Note → Option Mark → Type 0
 IsSpotBy had note None = ⊤
 IsSpotBy had note (Some mark) = IsMarkBy None had note.told.place mark × (mark.path ≡ None)
 
--- what is reported of a source that had these bytes: of its places at most the lines and columns; where its features are not reported, as of a file of which only the report is asked
+-- What is reported of a source that had these bytes: of its places at most the lines and columns.
+-- Where its features are not reported, it is as of a file of which only the report is asked.
 abbrev pub IsListedOnce : Reading → Asked → Allowed → List ℕ → Option (List ℕ) → (failed now_failed : ℕ) → ToldFile → Type 0
 IsListedOnce reading asked limits name had failed now_failed (listed report lines tally) =
     (report.name.now ≡ name) × (report.sites ≡ None) × (now_failed ≡ failed) × ((left : Option (List ℕ)) × Finds reading limits had left report.finding)

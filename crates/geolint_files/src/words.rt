@@ -203,7 +203,8 @@ fn with_parts<'a>(alloc: Global, command: Command<'a>) -> Result<Command<'a>, Al
         .long("split")
         .value_name("PREFIX")
         .help(
-            "Also write the features or records without a fault to PREFIX.valid.geojsons, the others to PREFIX.broken.geojsons, and their faults to PREFIX.broken.json",
+            "Also write the features or records without a fault to PREFIX.valid.geojsons, the others \
+             to PREFIX.broken.geojsons, and their faults to PREFIX.broken.json",
         )
         .action(ArgAction::Set);
     let command = command.arg(split)?;

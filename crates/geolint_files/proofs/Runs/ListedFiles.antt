@@ -7,6 +7,7 @@ use Rattle.std.specs.declared.alloc.Global.{Global}
 use Rattle.std.specs.Io.KnownBytes.{Appends, Keeps}
 use Rattle.std.proofs.KnownBytes.{Appends-trans, Appends-kept, Keeps-refl}
 use Rattle.std.proofs.lemmas.List.{map-append, take_more, take_all}
+use Rattle.std.proofs.lemmas.Option.{none-some}
 use Rattle.gj_json.specs.Limits.{Allowed}
 use Rattle.gj_rules.specs.declared.records.framing.Framing.{Framing}
 use Rattle.geolint_report.specs.declared.every.cursor.Cursors.{Cursors}
@@ -296,21 +297,15 @@ pub asked-every : (options : Options) (reading : Reading) (asked : Asked) → as
     → ⊥
 asked-every options reading asked is nothing = by-reading reading (asked_in options) is (ap (λ (every : Every). asked_by every options.most) nothing)
   where
-    no-none : (asked : Asked) → None ≡ Some asked → ⊥
-    no-none asked is = absurd (cc)
-
     by-reading : (reading : Reading) (given : Option Asked) → asked_when reading given ≡ Some asked → given ≡ None → ⊥
-    by-reading Reading.Text given is none = no-none asked (sym none ∙ is)
-    by-reading Reading.Quick given is none = no-none asked is
-    by-reading Reading.Sequence given is none = no-none asked (sym none ∙ is)
-    by-reading Reading.Lines given is none = no-none asked (sym none ∙ is)
+    by-reading Reading.Text given is none = none-some asked (sym none ∙ is)
+    by-reading Reading.Quick given is none = none-some asked is
+    by-reading Reading.Sequence given is none = none-some asked (sym none ∙ is)
+    by-reading Reading.Lines given is none = none-some asked (sym none ∙ is)
 
 -- nothing is asked of features where only yes or no is asked
 pub asked-slowly : (reading : Reading) (given : Option Asked) (asked : Asked) → asked_when reading given ≡ Some asked → reading ≡ Reading.Quick → ⊥
-asked-slowly reading given asked is quick = no-none asked (sym (ap (λ (r : Reading). asked_when r given) quick) ∙ is)
-  where
-    no-none : (asked : Asked) → None ≡ Some asked → ⊥
-    no-none asked is = absurd (cc)
+asked-slowly reading given asked is quick = none-some asked (sym (ap (λ (r : Reading). asked_when r given) quick) ∙ is)
 
 pub others_of-some : (name : List ℕ) (count : ℕ) → 0 < count → others_of name count ≡ others_line name count ∷ []
 others_of-some name zero some = absurd (omega (arith, some))

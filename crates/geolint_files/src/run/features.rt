@@ -188,8 +188,8 @@ impl<'a, W: Write + Drop> Run<'a, W> {
     ) -> Result<(), Failure>
         requires { asked_for self.now.options name.now ≡ Some asked }
         ensures { OnOk result ((file : ToldFile)
-            × IsListedTwice (reading_of self.old.options name.now) asked self.old.options.most self.old.options.limits name.now (S.remaining source.old) (S.text source.old)
-            (S.failed_reads source.old) (S.failed_reads source.new) file
+            × IsListedTwice (reading_of self.old.options name.now) asked self.old.options.most self.old.options.limits name.now
+            (S.remaining source.old) (S.text source.old) (S.failed_reads source.old) (S.failed_reads source.new) file
             × TellsFile W.contents file self.old self.new) }
     {
         let reading = self.reading(name);
@@ -239,7 +239,9 @@ impl<'a, W: Write + Drop> Run<'a, W> {
     ) -> Result<(), Failure>
         ensures { (self.old.options.every ≡ Every.Nothing → ⊥) → OnOk result ((report : Report) × (report.name.now ≡ name.now) × (report.finding ≡ finding)
             × ((middle : ℕ) × HasSites reading self.old.options.limits (S.text source.old) (S.failed_reads source.old) middle report)
-            × ((lines : List FeatureLine) × ArePlacedLines reading asked self.old.options.most self.old.options.limits name.now (S.text source.old) notes.now.notes.items notes.now.count lines
+            × ((lines : List FeatureLine)
+            × ArePlacedLines reading asked self.old.options.most self.old.options.limits name.now (S.text source.old)
+            notes.now.notes.items notes.now.count lines
             × TellsFile W.contents (listed report lines notes.now.tally) self.old self.new)) }
     {
         let (limits, most) = (self.options.limits, self.options.most);

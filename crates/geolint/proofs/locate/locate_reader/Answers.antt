@@ -1,13 +1,13 @@
 use Rattle.std.proofs.Common.{rules, arith, ℕ, List, ◌++◌, ◌+◌, ◌-◌, ◌≡◌, ◌∙◌, inl, inr, ap, sym, take, length, ◌<◌, ◌≤◌, subst, length-append}
 use Rattle.std.proofs.lemmas.Bool.{cases_lt}
-use Rattle.std.proofs.lemmas.List.{length-take-le}
+use Rattle.std.proofs.lemmas.List.{length-take-le, take-take}
 use Rattle.std.proofs.KnownBytes.{Consumes-trans}
 use Rattle.gj_json.specs.Limits.{Allowed}
 use Rattle.gj_json.specs.Locator.{StandsFor}
 use Rattle.gj_json.specs.Path.{path_at}
 use Rattle.gj_json.specs.Refusal.{IsRefusal}
 use Rattle.gj_json.specs.Text.{IsText, IsViableWithin}
-use Rattle.geolint.proofs.PathSearches.{path_found, path_refused, taken_again}
+use Rattle.geolint.proofs.PathSearches.{path_found, path_refused}
 use Rattle.geolint.proofs.locate.locate_reader.Goals as goal
 use Rattle.geolint_report.proofs.PieceReads.{given_more}
 
@@ -33,7 +33,7 @@ returns-in-Err-feed-clause-path g c =
     let w = wanted_is c.in-Ok.count (c.args.place - c.loop-count.offset) wanted c.wanted-wanted.ensures.all c.wanted-wanted.ensures.some in
     let fed = Consumes-trans _ _ _ read piece took c.in-Ok.ensures.bytes.0 in
     let long : length piece ≡ c.in-Ok.count = length-take-le c.in-Ok.count all c.in-Ok.ensures.bound.0 in
-    let front : take wanted piece ≡ take wanted all = taken_again wanted c.in-Ok.count all w.within in
+    let front : take wanted piece ≡ take wanted all = take-take wanted c.in-Ok.count all w.within in
     let within_all : wanted ≤ length all = omega (arith, w.within, c.in-Ok.ensures.bound.0) in
     let answer = rw (c.in-Err-feed.is) at (c.feed.ensures.answer read stands) in
     path_refused c.args.limits c.args.place _ _ read piece wanted c.in-Err-feed.field-0 fed
@@ -51,7 +51,7 @@ returns-then-place-offset-clause-path g c =
     let w = wanted_is c.in-Ok.count (c.args.place - c.loop-count.offset) wanted c.wanted-wanted.ensures.all c.wanted-wanted.ensures.some in
     let fed = Consumes-trans _ _ _ read piece took c.in-Ok.ensures.bytes.0 in
     let long : length piece ≡ c.in-Ok.count = length-take-le c.in-Ok.count all c.in-Ok.ensures.bound.0 in
-    let front : take wanted piece ≡ take wanted all = taken_again wanted c.in-Ok.count all w.within in
+    let front : take wanted piece ≡ take wanted all = take-take wanted c.in-Ok.count all w.within in
     let within_all : wanted ≤ length all = omega (arith, w.within, c.in-Ok.ensures.bound.0) in
     let taken : length (take wanted all) ≡ wanted = length-take-le wanted all within_all in
     let exact : wanted ≡ c.args.place - c.loop-count.offset + 1 =
