@@ -1,8 +1,8 @@
 -- Lemmas on a search that takes a part of each piece.
-use Rattle.std.proofs.Common.{◌≡◌, ◌<◌, ◌≤◌, ◌+◌, ◌-◌, ℕ, List, ◌++◌, inl, inr, Some, None, length, take, drop, sym, ap, ◌∙◌, subst, arith}
-use Rattle.std.proofs.Common.{append_assoc, append-nil, length-append, take-append-drop}
+use Rattle.std.proofs.Common.{◌≡◌, ◌<◌, ◌≤◌, ◌+◌, ◌-◌, ℕ, List, ◌++◌, inr, Some, None, length, take, drop, sym, ap, ◌∙◌, subst, arith}
+use Rattle.std.proofs.Common.{append_assoc, length-append, take-append-drop}
 use Rattle.std.specs.Prelude.{Option}
-use Rattle.std.specs.Io.KnownBytes.{Consumes, IsAtEnd}
+use Rattle.std.specs.Io.KnownBytes.{Consumes}
 use Rattle.std.proofs.Math.Seq.{take-append-add}
 use Rattle.std.proofs.lemmas.List.{take-append-le, length-take-le}
 use Rattle.gj_json.specs.declared.fault.JsonFault.{JsonFault}
@@ -41,14 +41,6 @@ path_found limits place (Some all) (Some rest) read piece wanted path took long 
         λ text more h. leads text more (subst (λ (xs : List ℕ). IsText text (xs ++ more)) front h),
       ),
     )
-
-pub path_ended : (limits : Allowed) (place : ℕ) (old new : Option (List ℕ)) (read : List ℕ)
-    → Consumes old new read → IsAtEnd new → length read ≤ place → Locates limits place old new None
-path_ended limits place None new read took ended short = ((read, took), tt)
-path_ended limits place (Some all) None read took ended short = absurd took
-path_ended limits place (Some all) (Some rest) read took ended short =
-    let nothing_more : all ≡ read = took ∙ ap (λ (ys : List ℕ). read ++ ys) ended ∙ append-nil read in
-    ((read, took), inl (rw nothing_more short))
 
 -- the bytes up to a place begin with fewer of them
 longer_front : (place : ℕ) (front rest : List ℕ) → length front ≤ place + 1 → up_to place (front ++ rest) ≡ front ++ take (place + 1 - length front) rest

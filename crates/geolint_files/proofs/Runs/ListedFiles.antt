@@ -311,16 +311,6 @@ pub others_of-some : (name : List ℕ) (count : ℕ) → 0 < count → others_of
 others_of-some name zero some = absurd (omega (arith, some))
 others_of-some name (suc count) some = refl
 
--- the same, where the notes are gone through by another name
-pub more-told-in : {W : Type 0} (contents : W → Option (List ℕ)) (Right : Entry → Type 0) (name : List ℕ) (items notes : List Note) (i : ℕ) (d : Note)
-    (line : FeatureLine) (old middle new : Run W) → items ≡ notes
-    → i < length items → (lines : List FeatureLine) × AreEntriesOf Right name (take i notes) lines × TellsLines contents lines old middle
-    → IsEntryOf Right name (get_or items i d) line → TellsLines contents (line ∷ []) middle new
-    → (lines : List FeatureLine) × AreEntriesOf Right name (take (i + 1) notes) lines × TellsLines contents lines old new
-more-told-in contents Right name items notes i d line old middle new same within told is tells =
-    more-told contents Right name notes i d line old middle new (subst (λ (ns : List Note). i < length ns) same within) told
-    (subst (λ (ns : List Note). IsEntryOf Right name (get_or ns i d) line) same is) tells
-
 -- ---- notes of several readings
 
 AreEntriesOf-then : (Right : Entry → Type 0) (name : List ℕ) (notes more : List Note) (lines others : List FeatureLine)
