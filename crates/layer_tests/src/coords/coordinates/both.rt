@@ -120,30 +120,6 @@ fn answer_of<W: Watcher>(parts: &[(&[u8], u32)]) -> Answer {
     }
 }
 
-/// What the watchers of points and lines find, in the order of `Simple`.
-fn first_answers(parts: &[(&[u8], u32)]) -> [Answer; 3] {
-    [
-        answer_of::<PointWatcher>(parts),
-        answer_of::<MultiPointWatcher>(parts),
-        answer_of::<LineStringWatcher>(parts),
-    ]
-}
-
-/// What the other three watchers find.
-fn last_answers(parts: &[(&[u8], u32)]) -> [Answer; 3] {
-    [
-        answer_of::<MultiLineStringWatcher>(parts),
-        answer_of::<PolygonWatcher>(parts),
-        answer_of::<MultiPolygonWatcher>(parts),
-    ]
-}
-
-fn answers_of(parts: &[(&[u8], u32)]) -> [Answer; 6] {
-    let [point, multi_point, line] = first_answers(parts);
-    let [lines, polygon, polygons] = last_answers(parts);
-    [point, multi_point, line, lines, polygon, polygons]
-}
-
 /// What the walk and the six watchers found in a text.
 #[derive(Drop)]
 pub struct Both {
@@ -154,10 +130,16 @@ pub struct Both {
 impl Both {
     /// The results for the text that has these parts in turn, each repeated as its number says.
     pub fn of(parts: &[(&[u8], u32)]) -> Both {
-        let six = answers_of(parts);
         Both {
             walked: Walked::of(parts),
-            six,
+            six: [
+                answer_of::<PointWatcher>(parts),
+                answer_of::<MultiPointWatcher>(parts),
+                answer_of::<LineStringWatcher>(parts),
+                answer_of::<MultiLineStringWatcher>(parts),
+                answer_of::<PolygonWatcher>(parts),
+                answer_of::<MultiPolygonWatcher>(parts),
+            ],
         }
     }
 
