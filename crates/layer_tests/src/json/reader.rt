@@ -13,7 +13,7 @@ use crate::checks::{equal, holds, holds_at, holds_in};
 use arrayvec::ArrayVec;
 use gj_json::{Cause, Event, EventSink, Known, Limits, MOST_LEVELS, Reader, What, Word};
 use gj_number::{Decimal, Literal};
-use std::alloc::{AllocError, Global};
+use std::alloc::AllocError;
 use std::process::Abort;
 
 /// The first events that a reader gave.

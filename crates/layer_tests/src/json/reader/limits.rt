@@ -1,7 +1,7 @@
 //! How deep a text may nest, and how many bytes it may have.
 
 use super::{Refusal, expect};
-use crate::checks::{equal, holds};
+use crate::checks::equal;
 use gj_json::{Cause, Limits, MOST_LEVELS};
 use std::alloc::AllocError;
 
