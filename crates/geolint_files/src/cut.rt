@@ -23,7 +23,7 @@ use crate::outcome::Outcome;
 use crate::run::{Failure, asked_in, tell_joined};
 use crate::walk::framing_by;
 use crate::words::Order;
-use geolint_report::every::listing::Notes;
+use geolint_report::every::listing::{Asked, Notes};
 use geolint_report::progress::Meter;
 use geolint_report::source::{FileSource, Rewind};
 use gj_rules::SeqVerdict;
@@ -94,12 +94,17 @@ fn line_of(rt: &HostRuntime, order: &Order, share: Share, name: &[u8]) -> io::Re
         },
         share,
         checked: found.part,
-        listed: match (asked, found.notes) {
-            (Some(asked), Some(notes)) => Some(Listed { asked, notes }),
-            _ => None,
-        },
+        listed: listed_of(asked, found.notes),
     };
     text_of(alloc, &line)
+}
+
+/// The notes of a part, with what was asked for.
+fn listed_of(asked: Option<Asked>, notes: Option<Notes>) -> Option<Listed> {
+    match (asked, notes) {
+        (Some(asked), Some(notes)) => Some(Listed { asked, notes }),
+        _ => None,
+    }
 }
 
 fn text_of(alloc: Global, line: &PartLine) -> io::Result<Vec<u8>>
