@@ -1,15 +1,15 @@
 -- Lemmas on the counts of files.
+use Rattle.report_forms.proofs.Common.{arith, refl, ◌&&◌, length, ◌≡◌, ◌<◌, ◌+◌, ℕ, Bool, true, false, List, [], ◌∷◌, ◌++◌, get_or, ap, sym, ◌∙◌}
+use Rattle.report_forms.proofs.Common.{kinds, Kind, Cause, Code}
 use Rattle.std.specs.Prelude.{is_none, is_some}
-use Rattle.std.proofs.Common.{arith, refl, not, ◌&&◌, nat_le, ◌≢◌, inl, inr, length, map, ◌≡◌, ◌≤◌, ◌<◌, ◌+◌, ℕ, Bool, true, false, List, []}
-use Rattle.std.proofs.Common.{◌∷◌, ◌++◌, Option, Some, None, get_or, ap, sym, ◌∙◌}
+use Rattle.std.proofs.Common.{not, nat_le, ◌≢◌, inl, inr, map, ◌≤◌}
+use Rattle.std.proofs.Common.{Option, Some, None}
 use Rattle.std.proofs.lemmas.Bool.Decides.{nat_tests, eqb_tells}
 use Rattle.std.proofs.lemmas.List.{get_or-map}
 use Rattle.std.proofs.lemmas.List.FromFn.{get_or-range_with_len}
 use Rattle.std.proofs.Math.Bool.{and-false, or-false}
 use Rattle.gj_coords.specs.Fault.{number_of}
-use Rattle.gj_coords.specs.Warnings.{kind_number, kinds}
-use Rattle.gj_coords.specs.declared.kind.Kind.{Kind}
-use Rattle.gj_json.specs.declared.fault.Cause.{Cause}
+use Rattle.gj_coords.specs.Warnings.{kind_number}
 use Rattle.gj_coords.specs.declared.warnings.Warnings.{Warnings}
 use Rattle.gj_coords.specs.Internal.KeptWarnings.{none_in, first_in}
 use Rattle.gj_coords.specs.Internal.ByKind.{kind_range, one_kind}
@@ -18,7 +18,6 @@ use Rattle.gj_rules.specs.declared.verdict.Verdict.TheVariants.{Valid, Broken, N
 use Rattle.geolint_report.specs.declared.judge.Finding.{Finding}
 use Rattle.geolint_report.specs.declared.report.Told.{Told}
 use Rattle.geolint_report.specs.Finding.{fault_of, warnings_of}
-use Rattle.geolint_report.specs.declared.texts.Code.{Code}
 use Rattle.geolint_report.specs.Texts.{is_cause, cause_number, code_number}
 use Rattle.report_forms.specs.declared.summary.Summary.{Summary}
 use Rattle.report_forms.specs.Counts.{is_valid, is_warned, is_broken, is_refused, is_not_valid, warns, tells}

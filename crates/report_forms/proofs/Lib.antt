@@ -1,3 +1,4 @@
+mod Common
 mod JoinedElements
 mod FileCounts
 pub mod CommasBetween

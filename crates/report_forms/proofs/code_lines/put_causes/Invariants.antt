@@ -1,7 +1,4 @@
-use Rattle.std.proofs.Common.{take, ◌++◌, ◌≡◌, ℕ}
-use Rattle.std.specs.List.{flat_map}
-use Rattle.gj_json.specs.declared.fault.Cause.{Cause}
-use Rattle.geolint_report.specs.declared.texts.Code.{Code}
+use Rattle.report_forms.proofs.Common.{take, ◌++◌, ◌≡◌, ℕ, flat_map, Cause, Code}
 use Rattle.report_forms.specs.CodeLines.{AreCounts, causes, code_line}
 use Rattle.report_forms.proofs.code_lines.put_causes.Given as goal
 

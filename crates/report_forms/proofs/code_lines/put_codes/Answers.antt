@@ -1,6 +1,5 @@
-use Rattle.std.proofs.Common.{ℕ, List, ◌++◌}
+use Rattle.report_forms.proofs.Common.{ℕ, List, ◌++◌, after}
 use Rattle.report_forms.specs.CodeLines.{rule_lines, kind_lines, cause_lines, code_lines}
-use Rattle.report_forms.proofs.JoinedElements.{after}
 use Rattle.report_forms.proofs.code_lines.put_codes.Goals as goal
 
 pub returns : goal.returns

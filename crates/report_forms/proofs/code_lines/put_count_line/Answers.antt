@@ -1,7 +1,5 @@
-use Rattle.std.proofs.Common.{ℕ, List, ◌++◌, codes}
-use Rattle.geolint_report.specs.Texts.{code_name, code_text}
+use Rattle.report_forms.proofs.Common.{ℕ, List, ◌++◌, codes, code_name, code_text, after}
 use Rattle.report_forms.specs.CodeLines.{in_eight_places, count_line}
-use Rattle.report_forms.proofs.JoinedElements.{after}
 use Rattle.report_forms.proofs.code_lines.put_count_line.Goals as goal
 
 pub returns : goal.returns

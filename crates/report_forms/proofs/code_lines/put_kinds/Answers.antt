@@ -1,9 +1,4 @@
-use Rattle.std.proofs.Common.{arith, subst, ◌≡◌, ◌++◌, ℕ, List, length, take, get_or}
-use Rattle.std.specs.List.{flat_map}
-use Rattle.gj_coords.specs.declared.kind.Kind.{Kind}
-use Rattle.gj_coords.specs.declared.kind.Kind.TheVariants.{W1}
-use Rattle.gj_coords.specs.Warnings.{kinds}
-use Rattle.geolint_report.specs.declared.texts.Code.{Code}
+use Rattle.report_forms.proofs.Common.{arith, subst, ◌≡◌, ◌++◌, ℕ, List, length, take, get_or, flat_map, Kind, W1, kinds, Code}
 use Rattle.report_forms.specs.CodeLines.{code_line, kind_lines}
 use Rattle.geolint_report.proofs.CodeSlots.{kind-slot}
 use Rattle.report_forms.proofs.JoinedElements.{one-more}

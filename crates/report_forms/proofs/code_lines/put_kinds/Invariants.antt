@@ -1,8 +1,4 @@
-use Rattle.std.proofs.Common.{take, ◌++◌, ◌≡◌, ℕ}
-use Rattle.std.specs.List.{flat_map}
-use Rattle.gj_coords.specs.declared.kind.Kind.{Kind}
-use Rattle.gj_coords.specs.Warnings.{kinds}
-use Rattle.geolint_report.specs.declared.texts.Code.{Code}
+use Rattle.report_forms.proofs.Common.{take, ◌++◌, ◌≡◌, ℕ, flat_map, Kind, kinds, Code}
 use Rattle.report_forms.specs.CodeLines.{AreCounts, code_line}
 use Rattle.report_forms.proofs.code_lines.put_kinds.Given as goal
 

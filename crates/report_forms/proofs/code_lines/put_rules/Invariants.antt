@@ -1,7 +1,5 @@
-use Rattle.std.proofs.Common.{take, ◌++◌, ◌≡◌, ℕ}
-use Rattle.std.specs.List.{flat_map}
+use Rattle.report_forms.proofs.Common.{take, ◌++◌, ◌≡◌, ℕ, flat_map, Code}
 use Rattle.gj_coords.specs.declared.fault.Rule.{Rule}
-use Rattle.geolint_report.specs.declared.texts.Code.{Code}
 use Rattle.report_forms.specs.CodeLines.{AreCounts, rules, code_line}
 use Rattle.report_forms.proofs.code_lines.put_rules.Given as goal
 

@@ -1,5 +1,4 @@
-use Rattle.std.proofs.Common.{take, ◌++◌, ◌≡◌}
-use Rattle.std.specs.List.{flat_map}
+use Rattle.report_forms.proofs.Common.{take, ◌++◌, ◌≡◌, flat_map}
 use Rattle.report_forms.specs.Names.{by_number}
 use Rattle.report_forms.proofs.formats.put_numbers.Given as goal
 

@@ -1,10 +1,8 @@
-use Rattle.std.proofs.Common.{arith, ap, ◌∙◌, subst, ◌≡◌, ◌<◌, ◌++◌, ℕ, List, length, take, get_or, sym, append_assoc}
-use Rattle.std.specs.List.{flat_map}
+use Rattle.report_forms.proofs.Common.{arith, ap, ◌∙◌, subst, ◌≡◌, ◌<◌, ◌++◌, ℕ, List, length, take, get_or, sym, append_assoc, flat_map, steps_of}
 use Rattle.std.proofs.lemmas.List.{take_all}
 use Rattle.std.proofs.lemmas.Option.{get_or_from_slice_get, slice_get-get_or}
 use Rattle.gj_json.specs.declared.path.PathStep.{PathStep}
 use Rattle.gj_json.specs.declared.path.PathStep.TheVariants.{Index}
-use Rattle.gj_json.specs.Path.{steps_of}
 use Rattle.report_forms.specs.Forms.Messages.{step_text, steps_text}
 use Rattle.report_forms.proofs.formats.put_steps.Goals as goal
 use Rattle.report_forms.proofs.formats.put_steps.Goals.{in-Some+in_ok-put_step, in_default}

@@ -1,6 +1,4 @@
-use Rattle.std.proofs.Common.{take, ◌++◌, ◌≡◌}
-use Rattle.std.specs.List.{flat_map}
-use Rattle.gj_json.specs.Path.{steps_of}
+use Rattle.report_forms.proofs.Common.{take, ◌++◌, ◌≡◌, flat_map, steps_of}
 use Rattle.report_forms.specs.Forms.Messages.{step_text}
 use Rattle.report_forms.proofs.formats.put_steps.Given as goal
 

@@ -1,5 +1,4 @@
-use Rattle.std.proofs.Common.{◌++◌, ◌≡◌}
-use Rattle.std.specs.List.{flat_map}
+use Rattle.report_forms.proofs.Common.{◌++◌, ◌≡◌, flat_map}
 use Rattle.report_forms.specs.Names.{shown_char}
 use Rattle.report_forms.proofs.formats.put_text.Given as goal
 

@@ -1,10 +1,8 @@
-use Rattle.std.proofs.Common.{ℕ, List, ◌++◌, ◌∙◌, ap}
+use Rattle.report_forms.proofs.Common.{ℕ, List, ◌++◌, ◌∙◌, ap, Code, after}
 use Rattle.geolint_report.specs.declared.every.tally.Tally.{Tally}
-use Rattle.geolint_report.specs.declared.texts.Code.{Code}
 use Rattle.geolint_report.specs.Tallies.{total, count_of}
 use Rattle.report_forms.specs.CodeLines.{code_lines}
 use Rattle.report_forms.specs.Items.{items_line, items_summary}
-use Rattle.report_forms.proofs.JoinedElements.{after}
 use Rattle.report_forms.proofs.items.put_items.Goals as goal
 
 pub returns : goal.returns

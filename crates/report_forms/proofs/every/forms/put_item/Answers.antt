@@ -1,9 +1,6 @@
-use Rattle.std.proofs.Common.{ℕ, List, ◌++◌, ◌∙◌, ap, codes}
-use Rattle.std.proofs.lemmas.Result.{on_ok_weaker}
+use Rattle.report_forms.proofs.Common.{ℕ, List, ◌++◌, ◌∙◌, ap, codes, on_ok_weaker, decimal, after}
 use Rattle.geolint_report.specs.Items.{item_number, item_word}
 use Rattle.report_forms.specs.Forms.Features.{item_text}
-use Rattle.std.specs.Fmt.{decimal}
-use Rattle.report_forms.proofs.JoinedElements.{after}
 use Rattle.report_forms.proofs.every.forms.put_item.Goals as goal
 
 pub returns : goal.returns

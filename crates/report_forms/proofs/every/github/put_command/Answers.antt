@@ -1,8 +1,6 @@
-use Rattle.std.proofs.Common.{ℕ, List, ◌++◌, codes}
-use Rattle.geolint_report.specs.Texts.{code_name}
+use Rattle.report_forms.proofs.Common.{ℕ, List, ◌++◌, codes, code_name, after}
 use Rattle.report_forms.specs.Forms.Features.{github_entry, github_text, spot_at}
 use Rattle.report_forms.specs.Forms.Github.{github_file, github_spot}
-use Rattle.report_forms.proofs.JoinedElements.{after}
 use Rattle.report_forms.proofs.every.github.put_command.Goals as goal
 
 pub returns : goal.returns

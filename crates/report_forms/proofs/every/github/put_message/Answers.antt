@@ -1,8 +1,6 @@
-use Rattle.std.proofs.Common.{ℕ, List, ◌++◌, codes}
+use Rattle.report_forms.proofs.Common.{ℕ, List, ◌++◌, codes, code_text, after}
 use Rattle.report_forms.specs.Forms.Features.{and_byte, item_text, github_id, github_text, path_at}
 use Rattle.report_forms.specs.Forms.Messages.{and_path}
-use Rattle.geolint_report.specs.Texts.{code_text}
-use Rattle.report_forms.proofs.JoinedElements.{after}
 use Rattle.report_forms.proofs.every.github.put_message.Goals as goal
 
 pub returns : goal.returns

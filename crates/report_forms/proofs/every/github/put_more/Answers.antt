@@ -1,7 +1,6 @@
-use Rattle.std.proofs.Common.{ℕ, List, ◌++◌, codes}
+use Rattle.report_forms.proofs.Common.{ℕ, List, ◌++◌, codes, after}
 use Rattle.report_forms.specs.Forms.Features.{and_more, github_more}
 use Rattle.report_forms.specs.Forms.Github.{github_file}
-use Rattle.report_forms.proofs.JoinedElements.{after}
 use Rattle.report_forms.proofs.every.github.put_more.Goals as goal
 
 pub returns : goal.returns

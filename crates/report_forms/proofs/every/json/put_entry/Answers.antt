@@ -1,6 +1,4 @@
-use Rattle.std.specs.Prelude.{string_bytes}
-use Rattle.std.proofs.Common.{◌∙◌, ◌++◌, ap, List, ℕ}
-use Rattle.std.proofs.lemmas.Result.{on_ok_weaker}
+use Rattle.report_forms.proofs.Common.{string_bytes, ◌∙◌, ◌++◌, ap, List, ℕ, on_ok_weaker}
 use Rattle.report_forms.specs.Forms.Features.{json_entry}
 use Rattle.report_forms.proofs.every.json.put_entry.Goals as goal
 

@@ -1,7 +1,6 @@
-use Rattle.std.proofs.Common.{ℕ, List, ◌++◌, codes}
+use Rattle.report_forms.proofs.Common.{ℕ, List, ◌++◌, codes, after}
 use Rattle.report_forms.specs.Forms.Features.{item_members, json_entry, path_at, spot_at}
 use Rattle.report_forms.specs.Forms.Json.{json_told}
-use Rattle.report_forms.proofs.JoinedElements.{after}
 use Rattle.report_forms.proofs.every.json.put_line.Goals as goal
 
 pub returns : goal.returns

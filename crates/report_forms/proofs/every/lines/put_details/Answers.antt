@@ -1,7 +1,6 @@
-use Rattle.std.proofs.Common.{ℕ, List, ◌++◌, codes}
+use Rattle.report_forms.proofs.Common.{ℕ, List, ◌++◌, codes, after}
 use Rattle.report_forms.specs.Forms.Features.{byte_behind, feature_details, item_text, id_behind, path_at, spot_at}
 use Rattle.report_forms.specs.Forms.Messages.{and_path}
-use Rattle.report_forms.proofs.JoinedElements.{after}
 use Rattle.report_forms.proofs.every.lines.put_details.Goals as goal
 
 pub returns : goal.returns

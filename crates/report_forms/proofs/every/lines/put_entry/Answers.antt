@@ -1,7 +1,6 @@
-use Rattle.std.proofs.Common.{ℕ, List, ◌++◌}
+use Rattle.report_forms.proofs.Common.{ℕ, List, ◌++◌, after}
 use Rattle.report_forms.specs.Forms.Features.{feature_details, lines_entry, lines_where, note_part, note_word, spot_at}
 use Rattle.report_forms.specs.Forms.Lines.{beginning, lines_code}
-use Rattle.report_forms.proofs.JoinedElements.{after}
 use Rattle.report_forms.proofs.every.lines.put_entry.Goals as goal
 
 pub returns : goal.returns

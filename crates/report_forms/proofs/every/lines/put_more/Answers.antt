@@ -1,7 +1,6 @@
-use Rattle.std.proofs.Common.{ℕ, List, ◌++◌, codes}
+use Rattle.report_forms.proofs.Common.{ℕ, List, ◌++◌, codes, after}
 use Rattle.std.specs.Prelude.{None}
 use Rattle.report_forms.specs.Forms.Features.{and_more, lines_more, lines_where}
-use Rattle.report_forms.proofs.JoinedElements.{after}
 use Rattle.report_forms.proofs.every.lines.put_more.Goals as goal
 
 pub returns : goal.returns

@@ -1,9 +1,8 @@
-use Rattle.std.proofs.Common.{ℕ, List, ◌++◌, codes}
+use Rattle.report_forms.proofs.Common.{ℕ, List, ◌++◌, codes, after}
 use Rattle.report_forms.specs.Forms.Features.{lines_where, spot_at}
 use Rattle.report_forms.specs.Forms.Lines.{and_spot, beginning, ending}
 use Rattle.report_forms.specs.Names.{shown_name}
 use Rattle.report_forms.specs.declared.formats.lines.Part.{Part}
-use Rattle.report_forms.proofs.JoinedElements.{after}
 use Rattle.report_forms.proofs.every.lines.put_where.Goals as goal
 
 pub returns : goal.returns

@@ -1,6 +1,5 @@
-use Rattle.std.specs.Prelude.{string_bytes, Bool}
-use Rattle.std.proofs.Common.{◌∙◌, ◌++◌, ap, List, ℕ}
-use Rattle.std.proofs.lemmas.Result.{on_ok_weaker}
+use Rattle.report_forms.proofs.Common.{string_bytes, ◌∙◌, ◌++◌, ap, List, ℕ, on_ok_weaker}
+use Rattle.std.specs.Prelude.{Bool}
 use Rattle.report_forms.specs.Forms.Features.{sarif_entry}
 use Rattle.report_forms.specs.Forms.Messages.{level_of}
 use Rattle.report_forms.proofs.every.sarif.put_entry.Goals as goal

@@ -1,7 +1,5 @@
-use Rattle.std.proofs.Common.{ℕ, List, ◌++◌, codes}
+use Rattle.report_forms.proofs.Common.{ℕ, List, ◌++◌, codes, code_text, after}
 use Rattle.report_forms.specs.Forms.Features.{item_text, sarif_text}
-use Rattle.geolint_report.specs.Texts.{code_text}
-use Rattle.report_forms.proofs.JoinedElements.{after}
 use Rattle.report_forms.proofs.every.sarif.put_message.Goals as goal
 
 pub returns : goal.returns

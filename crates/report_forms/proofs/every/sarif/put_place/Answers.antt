@@ -1,7 +1,6 @@
-use Rattle.std.proofs.Common.{ℕ, List, ◌++◌, codes}
+use Rattle.report_forms.proofs.Common.{ℕ, List, ◌++◌, codes, after}
 use Rattle.report_forms.specs.Forms.Features.{path_at, sarif_place, sarif_region, spot_at}
 use Rattle.report_forms.specs.Forms.Sarif.{location, logical_location_of}
-use Rattle.report_forms.proofs.JoinedElements.{after}
 use Rattle.report_forms.proofs.every.sarif.put_place.Goals as goal
 
 pub returns : goal.returns

@@ -1,6 +1,5 @@
-use Rattle.std.proofs.Common.{ℕ, List, ◌++◌, codes}
+use Rattle.report_forms.proofs.Common.{ℕ, List, ◌++◌, codes, after}
 use Rattle.report_forms.specs.Forms.Features.{item_members, sarif_properties}
-use Rattle.report_forms.proofs.JoinedElements.{after}
 use Rattle.report_forms.proofs.every.sarif.put_properties.Goals as goal
 
 pub returns : goal.returns

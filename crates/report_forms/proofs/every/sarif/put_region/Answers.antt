@@ -1,8 +1,6 @@
-use Rattle.std.proofs.Common.{ℕ, List, ◌++◌, codes}
-use Rattle.std.specs.Fmt.{decimal}
+use Rattle.report_forms.proofs.Common.{ℕ, List, ◌++◌, codes, decimal, after}
 use Rattle.report_forms.specs.Forms.Features.{sarif_region, spot_at}
 use Rattle.report_forms.specs.Forms.Sarif.{region_start_of}
-use Rattle.report_forms.proofs.JoinedElements.{after}
 use Rattle.report_forms.proofs.every.sarif.put_region.Goals as goal
 
 pub returns : goal.returns

@@ -1,7 +1,5 @@
-use Rattle.std.proofs.Common.{ℕ, List, ◌++◌, codes}
-use Rattle.geolint_report.specs.Texts.{code_name}
+use Rattle.report_forms.proofs.Common.{ℕ, List, ◌++◌, codes, code_name, after}
 use Rattle.report_forms.specs.Forms.Features.{sarif_entry, sarif_place, sarif_properties, sarif_text}
-use Rattle.report_forms.proofs.JoinedElements.{after}
 use Rattle.report_forms.proofs.every.sarif.put_result.Goals as goal
 
 pub returns : goal.returns

@@ -1,7 +1,5 @@
-use Rattle.std.proofs.Common.{ℕ, List, ◌++◌, codes}
+use Rattle.report_forms.proofs.Common.{ℕ, List, ◌++◌, codes, code_name, code_text, after}
 use Rattle.report_forms.specs.Forms.Features.{item_text, id_behind, note_word, text_entry, text_place}
-use Rattle.geolint_report.specs.Texts.{code_name, code_text}
-use Rattle.report_forms.proofs.JoinedElements.{after}
 use Rattle.report_forms.proofs.every.text.put_entry.Goals as goal
 
 pub returns : goal.returns

@@ -1,8 +1,6 @@
-use Rattle.std.proofs.Common.{ℕ, List, ◌++◌, codes}
-use Rattle.std.specs.Fmt.{decimal}
+use Rattle.report_forms.proofs.Common.{ℕ, List, ◌++◌, codes, decimal, after}
 use Rattle.report_forms.specs.Forms.Features.{path_at, spot_at, text_place, text_spot}
 use Rattle.report_forms.specs.Forms.Messages.{and_path}
-use Rattle.report_forms.proofs.JoinedElements.{after}
 use Rattle.report_forms.proofs.every.text.put_place.Goals as goal
 
 pub returns : goal.returns

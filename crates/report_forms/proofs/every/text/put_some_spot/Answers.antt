@@ -1,7 +1,5 @@
-use Rattle.std.proofs.Common.{ℕ, List, ◌++◌, codes}
-use Rattle.std.specs.Fmt.{decimal}
+use Rattle.report_forms.proofs.Common.{ℕ, List, ◌++◌, codes, decimal, after}
 use Rattle.report_forms.specs.Forms.Features.{text_some_spot}
-use Rattle.report_forms.proofs.JoinedElements.{after}
 use Rattle.report_forms.proofs.every.text.put_some_spot.Goals as goal
 
 pub returns : goal.returns

@@ -1,5 +1,4 @@
-use Rattle.std.proofs.Common.{take, ◌++◌, ◌≡◌}
-use Rattle.std.specs.List.{flat_map}
+use Rattle.report_forms.proofs.Common.{take, ◌++◌, ◌≡◌, flat_map}
 use Rattle.report_forms.specs.Forms.Github.{escaped_in_property}
 use Rattle.report_forms.proofs.formats.github.put_in_property.Given as goal
 

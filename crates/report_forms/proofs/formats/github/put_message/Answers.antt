@@ -1,13 +1,9 @@
-use Rattle.std.proofs.Common.{ℕ, List, ◌++◌, ◌∙◌, ap, codes}
-use Rattle.std.specs.Prelude.{Option}
-use Rattle.std.specs.Fmt.{decimal}
+use Rattle.report_forms.proofs.Common.{ℕ, List, ◌++◌, ◌∙◌, ap, codes, Option, decimal, code_text, after}
 use Rattle.gj_json.specs.declared.path.Path.{Path}
 use Rattle.geolint_report.specs.Finding.{record_of}
 use Rattle.geolint_report.specs.Report.{path_of}
-use Rattle.geolint_report.specs.Texts.{code_text}
 use Rattle.report_forms.specs.Forms.Github.{github_mark, github_message}
 use Rattle.report_forms.specs.Forms.Messages.{and_record, and_times, and_path}
-use Rattle.report_forms.proofs.JoinedElements.{after}
 use Rattle.report_forms.proofs.formats.github.put_message.Goals as goal
 
 pub returns : goal.returns

@@ -1,6 +1,5 @@
-use Rattle.std.proofs.Common.{ℕ, List, codes}
+use Rattle.report_forms.proofs.Common.{ℕ, List, codes, after}
 use Rattle.report_forms.specs.Forms.Github.{github_file, github_not_valid}
-use Rattle.report_forms.proofs.JoinedElements.{after}
 use Rattle.report_forms.proofs.formats.github.put_not_valid.Goals as goal
 
 pub returns : goal.returns

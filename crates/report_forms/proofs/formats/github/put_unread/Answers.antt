@@ -1,7 +1,5 @@
-use Rattle.std.proofs.Common.{ℕ, List, ◌++◌, ◌∙◌, ap, codes}
-use Rattle.std.specs.List.{flat_map}
+use Rattle.report_forms.proofs.Common.{ℕ, List, ◌++◌, ◌∙◌, ap, codes, flat_map, after}
 use Rattle.report_forms.specs.Forms.Github.{github_file, github_unread, escaped_in_message}
-use Rattle.report_forms.proofs.JoinedElements.{after}
 use Rattle.report_forms.proofs.formats.github.put_unread.Goals as goal
 
 pub returns : goal.returns

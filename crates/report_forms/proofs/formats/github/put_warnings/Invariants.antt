@@ -1,6 +1,4 @@
-use Rattle.std.proofs.Common.{take, ◌++◌, ◌≡◌}
-use Rattle.std.specs.List.{flat_map}
-use Rattle.gj_coords.specs.Warnings.{kinds}
+use Rattle.report_forms.proofs.Common.{take, ◌++◌, ◌≡◌, flat_map, kinds}
 use Rattle.report_forms.specs.Forms.Github.{github_warning}
 use Rattle.report_forms.proofs.formats.github.put_warnings.Given as goal
 

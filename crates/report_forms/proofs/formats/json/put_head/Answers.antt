@@ -1,8 +1,7 @@
-use Rattle.std.proofs.Common.{ℕ, List, ◌++◌, codes}
+use Rattle.report_forms.proofs.Common.{ℕ, List, ◌++◌, codes, after}
 use Rattle.geolint_report.specs.Finding.{word_of, record_of, records_of}
 use Rattle.geolint_report.specs.Line.{optional_number, truth}
 use Rattle.report_forms.specs.Forms.Json.{json_head}
-use Rattle.report_forms.proofs.JoinedElements.{after}
 use Rattle.report_forms.proofs.formats.json.put_head.Goals as goal
 
 pub returns : goal.returns

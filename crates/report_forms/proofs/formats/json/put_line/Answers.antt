@@ -1,8 +1,6 @@
-use Rattle.std.proofs.Common.{ℕ, List, ◌++◌, codes}
-use Rattle.std.proofs.lemmas.Result.{on_ok_weaker}
+use Rattle.report_forms.proofs.Common.{ℕ, List, ◌++◌, codes, on_ok_weaker, after}
 use Rattle.geolint_report.specs.Finding.{fault_of, warnings_of}
 use Rattle.report_forms.specs.Forms.Json.{json_head, json_fault, json_hint, json_warnings_of, json_line}
-use Rattle.report_forms.proofs.JoinedElements.{after}
 use Rattle.report_forms.proofs.formats.json.put_line.Goals as goal
 
 pub returns : goal.returns

@@ -1,6 +1,4 @@
-use Rattle.std.specs.Prelude.{string_bytes}
-use Rattle.std.proofs.Common.{◌∙◌, ◌++◌, ap, List, ℕ}
-use Rattle.std.proofs.lemmas.Result.{on_ok_weaker}
+use Rattle.report_forms.proofs.Common.{string_bytes, ◌∙◌, ◌++◌, ap, List, ℕ, on_ok_weaker}
 use Rattle.report_forms.specs.Forms.Json.{json_line}
 use Rattle.report_forms.proofs.formats.json.put_report.Goals as goal
 

@@ -1,6 +1,4 @@
-use Rattle.std.specs.Prelude.{string_bytes}
-use Rattle.std.proofs.Common.{◌∙◌, ◌++◌, ap, subst, List, ℕ}
-use Rattle.std.proofs.lemmas.Result.{on_ok_weaker}
+use Rattle.report_forms.proofs.Common.{string_bytes, ◌∙◌, ◌++◌, ap, subst, List, ℕ, on_ok_weaker}
 use Rattle.gj_places.specs.Strings.{SpellsString}
 use Rattle.report_forms.specs.Forms.Json.{json_unread}
 use Rattle.report_forms.proofs.formats.json.put_unread.Goals as goal

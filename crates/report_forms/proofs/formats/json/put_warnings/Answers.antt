@@ -1,7 +1,5 @@
-use Rattle.std.proofs.Common.{arith, ap, sym, subst, ◌∙◌, ◌≡◌, ◌++◌, ◌+◌, ◌&&◌, ℕ, Bool, List, length, take, get_or, append_assoc}
-use Rattle.std.specs.List.{flat_map}
-use Rattle.gj_coords.specs.declared.kind.Kind.TheVariants.{W1}
-use Rattle.gj_coords.specs.Warnings.{kinds}
+use Rattle.report_forms.proofs.Common.{arith, ap, sym, subst, ◌∙◌, ◌≡◌, ◌++◌, ◌+◌, ◌&&◌, ℕ, Bool, List, length, take, get_or, append_assoc, flat_map}
+use Rattle.report_forms.proofs.Common.{W1, kinds}
 use Rattle.report_forms.specs.Forms.Json.{json_kind, json_warnings, with_commas}
 use Rattle.report_forms.specs.Internal.WrittenCommas.{is_none_yet, next_items}
 use Rattle.report_forms.proofs.CommasBetween.{commas-more, none-more}

@@ -1,9 +1,8 @@
-use Rattle.std.proofs.Common.{ℕ, List, ◌++◌, ◌∙◌, ◌≡◌, ap, sym, subst, false}
+use Rattle.report_forms.proofs.Common.{ℕ, List, ◌++◌, ◌∙◌, ◌≡◌, ap, sym, subst, false, after}
 use Rattle.std.specs.Prelude.{OnOk}
 use Rattle.report_forms.specs.Forms.Lines.{record_detail, times_detail, byte_detail, path_detail, details, in_parentheses}
 use Rattle.report_forms.specs.Internal.WrittenDetails.{next_details, end}
 use Rattle.report_forms.proofs.DetailsInParentheses.{four_details}
-use Rattle.report_forms.proofs.JoinedElements.{after}
 use Rattle.report_forms.proofs.formats.lines.put_details.Goals as goal
 
 pub returns : goal.returns

@@ -1,8 +1,7 @@
-use Rattle.std.proofs.Common.{ℕ, List, ◌++◌, codes}
+use Rattle.report_forms.proofs.Common.{ℕ, List, ◌++◌, codes, after}
 use Rattle.report_forms.specs.declared.formats.lines.Part.{Part}
 use Rattle.report_forms.specs.Forms.Lines.{beginning, ending, lines_not_valid}
 use Rattle.report_forms.specs.Names.{shown_name}
-use Rattle.report_forms.proofs.JoinedElements.{after}
 use Rattle.report_forms.proofs.formats.lines.put_not_valid.Goals as goal
 
 pub returns : goal.returns

@@ -1,8 +1,7 @@
-use Rattle.std.proofs.Common.{ℕ, List, ◌++◌, codes}
+use Rattle.report_forms.proofs.Common.{ℕ, List, ◌++◌, codes, after}
 use Rattle.std.specs.Prelude.{replicate}
 use Rattle.report_forms.specs.declared.formats.lines.Part.{Part}
 use Rattle.report_forms.specs.Forms.Lines.{beginning, ending, lines_excerpt}
-use Rattle.report_forms.proofs.JoinedElements.{after}
 use Rattle.report_forms.proofs.formats.lines.put_shown.Goals as goal
 
 pub returns : goal.returns

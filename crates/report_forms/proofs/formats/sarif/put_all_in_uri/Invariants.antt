@@ -1,5 +1,4 @@
-use Rattle.std.proofs.Common.{take, ◌++◌, ◌≡◌}
-use Rattle.std.specs.List.{flat_map}
+use Rattle.report_forms.proofs.Common.{take, ◌++◌, ◌≡◌, flat_map}
 use Rattle.report_forms.specs.Forms.Sarif.{in_uri}
 use Rattle.report_forms.proofs.formats.sarif.put_all_in_uri.Given as goal
 

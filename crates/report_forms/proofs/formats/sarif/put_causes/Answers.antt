@@ -1,8 +1,5 @@
-use Rattle.std.proofs.Common.{arith, subst, ◌≡◌, ◌++◌, ℕ, List, length, take}
-use Rattle.std.specs.List.{flat_map}
-use Rattle.gj_json.specs.declared.fault.Cause.{Cause}
+use Rattle.report_forms.proofs.Common.{arith, subst, ◌≡◌, ◌++◌, ℕ, List, length, take, flat_map, Cause, Code}
 use Rattle.gj_json.specs.declared.fault.Cause.TheVariants.{Syntax}
-use Rattle.geolint_report.specs.declared.texts.Code.{Code}
 use Rattle.report_forms.specs.Forms.Sarif.{rule_and_break, sarif_causes}
 use Rattle.report_forms.specs.CodeLines.{causes}
 use Rattle.report_forms.proofs.JoinedElements.{one-more}

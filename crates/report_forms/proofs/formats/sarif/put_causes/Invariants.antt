@@ -1,7 +1,4 @@
-use Rattle.std.proofs.Common.{take, ◌++◌, ◌≡◌}
-use Rattle.std.specs.List.{flat_map}
-use Rattle.gj_json.specs.declared.fault.Cause.{Cause}
-use Rattle.geolint_report.specs.declared.texts.Code.{Code}
+use Rattle.report_forms.proofs.Common.{take, ◌++◌, ◌≡◌, flat_map, Cause, Code}
 use Rattle.report_forms.specs.Forms.Sarif.{rule_and_break}
 use Rattle.report_forms.specs.CodeLines.{causes}
 use Rattle.report_forms.proofs.formats.sarif.put_causes.Given as goal

@@ -1,9 +1,4 @@
-use Rattle.std.proofs.Common.{arith, subst, ◌≡◌, ◌++◌, ℕ, List, length, take}
-use Rattle.std.specs.List.{flat_map}
-use Rattle.gj_coords.specs.declared.kind.Kind.{Kind}
-use Rattle.gj_coords.specs.declared.kind.Kind.TheVariants.{W1}
-use Rattle.gj_coords.specs.Warnings.{kinds}
-use Rattle.geolint_report.specs.declared.texts.Code.{Code}
+use Rattle.report_forms.proofs.Common.{arith, subst, ◌≡◌, ◌++◌, ℕ, List, length, take, flat_map, Kind, W1, kinds, Code}
 use Rattle.report_forms.specs.Forms.Sarif.{break_and_warning, sarif_kinds}
 use Rattle.report_forms.proofs.JoinedElements.{one-more}
 use Rattle.report_forms.proofs.formats.sarif.put_kinds.Goals as goal

@@ -1,8 +1,4 @@
-use Rattle.std.proofs.Common.{take, ◌++◌, ◌≡◌}
-use Rattle.std.specs.List.{flat_map}
-use Rattle.gj_coords.specs.declared.kind.Kind.{Kind}
-use Rattle.gj_coords.specs.Warnings.{kinds}
-use Rattle.geolint_report.specs.declared.texts.Code.{Code}
+use Rattle.report_forms.proofs.Common.{take, ◌++◌, ◌≡◌, flat_map, Kind, kinds, Code}
 use Rattle.report_forms.specs.Forms.Sarif.{break_and_warning}
 use Rattle.report_forms.proofs.formats.sarif.put_kinds.Given as goal
 

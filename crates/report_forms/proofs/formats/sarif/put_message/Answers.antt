@@ -1,9 +1,7 @@
-use Rattle.std.proofs.Common.{ℕ, List, ◌++◌}
+use Rattle.report_forms.proofs.Common.{ℕ, List, ◌++◌, code_text, after}
 use Rattle.geolint_report.specs.Finding.{record_of}
-use Rattle.geolint_report.specs.Texts.{code_text}
 use Rattle.report_forms.specs.Forms.Messages.{and_record, and_times}
 use Rattle.report_forms.specs.Forms.Sarif.{sarif_message}
-use Rattle.report_forms.proofs.JoinedElements.{after}
 use Rattle.report_forms.proofs.formats.sarif.put_message.Goals as goal
 
 pub returns : goal.returns

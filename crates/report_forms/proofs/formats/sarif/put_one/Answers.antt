@@ -1,9 +1,7 @@
-use Rattle.std.proofs.Common.{ℕ, List, ◌++◌, ◌∙◌, ap, codes}
-use Rattle.std.specs.Prelude.{Option}
+use Rattle.report_forms.proofs.Common.{ℕ, List, ◌++◌, ◌∙◌, ap, codes, Option, after}
 use Rattle.gj_json.specs.declared.path.Path.{Path}
 use Rattle.geolint_report.specs.Report.{path_of}
 use Rattle.report_forms.specs.Forms.Sarif.{id_of, sarif_message, location, region, region_if, logical_location_of, sarif_result}
-use Rattle.report_forms.proofs.JoinedElements.{after}
 use Rattle.report_forms.proofs.formats.sarif.put_one.Goals as goal
 
 pub returns : goal.returns

@@ -1,7 +1,5 @@
-use Rattle.std.proofs.Common.{ℕ, List, ◌++◌, codes}
-use Rattle.std.specs.Fmt.{decimal}
+use Rattle.report_forms.proofs.Common.{ℕ, List, ◌++◌, codes, decimal, after}
 use Rattle.report_forms.specs.Forms.Sarif.{region_start}
-use Rattle.report_forms.proofs.JoinedElements.{after}
 use Rattle.report_forms.proofs.formats.sarif.put_region_start.Goals as goal
 
 pub returns : goal.returns

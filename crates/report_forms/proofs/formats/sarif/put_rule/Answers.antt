@@ -1,7 +1,5 @@
-use Rattle.std.proofs.Common.{ℕ, List, ◌++◌, codes}
-use Rattle.geolint_report.specs.Texts.{code_text}
+use Rattle.report_forms.proofs.Common.{ℕ, List, ◌++◌, codes, code_text, after}
 use Rattle.report_forms.specs.Forms.Sarif.{id_of, section_of, sarif_rule}
-use Rattle.report_forms.proofs.JoinedElements.{after}
 use Rattle.report_forms.proofs.formats.sarif.put_rule.Goals as goal
 
 pub returns : goal.returns

@@ -1,8 +1,6 @@
-use Rattle.std.proofs.Common.{arith, subst, ◌≡◌, ◌++◌, ℕ, List, length, take}
-use Rattle.std.specs.List.{flat_map}
+use Rattle.report_forms.proofs.Common.{arith, subst, ◌≡◌, ◌++◌, ℕ, List, length, take, flat_map, Code}
 use Rattle.gj_coords.specs.declared.fault.Rule.{Rule}
 use Rattle.gj_coords.specs.declared.fault.Rule.TheVariants.{G1}
-use Rattle.geolint_report.specs.declared.texts.Code.{Code}
 use Rattle.report_forms.specs.Forms.Sarif.{rule_and_break, sarif_rules}
 use Rattle.report_forms.specs.CodeLines.{rules}
 use Rattle.report_forms.proofs.JoinedElements.{one-more}

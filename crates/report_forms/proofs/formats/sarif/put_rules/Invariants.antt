@@ -1,7 +1,5 @@
-use Rattle.std.proofs.Common.{take, ◌++◌, ◌≡◌}
-use Rattle.std.specs.List.{flat_map}
+use Rattle.report_forms.proofs.Common.{take, ◌++◌, ◌≡◌, flat_map, Code}
 use Rattle.gj_coords.specs.declared.fault.Rule.{Rule}
-use Rattle.geolint_report.specs.declared.texts.Code.{Code}
 use Rattle.report_forms.specs.Forms.Sarif.{rule_and_break}
 use Rattle.report_forms.specs.CodeLines.{rules}
 use Rattle.report_forms.proofs.formats.sarif.put_rules.Given as goal

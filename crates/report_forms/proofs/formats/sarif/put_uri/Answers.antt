@@ -1,7 +1,5 @@
-use Rattle.std.proofs.Common.{ℕ, List, ◌++◌, ◌∙◌, ap, codes}
-use Rattle.std.specs.List.{flat_map}
+use Rattle.report_forms.proofs.Common.{ℕ, List, ◌++◌, ◌∙◌, ap, codes, flat_map, after}
 use Rattle.report_forms.specs.Forms.Sarif.{in_uri, scheme_of, uri_of}
-use Rattle.report_forms.proofs.JoinedElements.{after}
 use Rattle.report_forms.proofs.formats.sarif.put_uri.Goals as goal
 
 pub returns : goal.returns

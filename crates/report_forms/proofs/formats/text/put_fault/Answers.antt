@@ -1,11 +1,8 @@
-use Rattle.std.proofs.Common.{ℕ, List, ◌++◌, ◌≡◌, ap, subst, codes}
-use Rattle.std.specs.Prelude.{OnOk, Option}
-use Rattle.std.specs.Fmt.{decimal}
+use Rattle.report_forms.proofs.Common.{ℕ, List, ◌++◌, ◌≡◌, ap, subst, codes, Option, decimal, code_text, after}
+use Rattle.std.specs.Prelude.{OnOk}
 use Rattle.gj_json.specs.declared.path.Path.{Path}
 use Rattle.geolint_report.specs.Report.{path_of}
-use Rattle.geolint_report.specs.Texts.{code_text}
 use Rattle.report_forms.specs.Forms.Text.{broken_or_refused, path_line_of, text_fault}
-use Rattle.report_forms.proofs.JoinedElements.{after}
 use Rattle.report_forms.proofs.formats.text.put_fault.Goals as goal
 
 pub returns : goal.returns

@@ -1,8 +1,6 @@
-use Rattle.std.proofs.Common.{ℕ, List, ◌++◌, codes}
-use Rattle.gj_json.specs.Path.{steps_of}
+use Rattle.report_forms.proofs.Common.{ℕ, List, ◌++◌, codes, steps_of, after}
 use Rattle.report_forms.specs.Forms.Text.{path_line}
 use Rattle.report_forms.specs.Forms.Messages.{path_text}
-use Rattle.report_forms.proofs.JoinedElements.{after}
 use Rattle.report_forms.proofs.formats.text.put_path_line.Goals as goal
 
 pub returns : goal.returns

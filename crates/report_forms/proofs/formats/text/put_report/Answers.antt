@@ -1,8 +1,7 @@
-use Rattle.std.proofs.Common.{ℕ, List, ◌++◌, codes}
+use Rattle.report_forms.proofs.Common.{ℕ, List, ◌++◌, codes, after}
 use Rattle.geolint_report.specs.Finding.{record_of, fault_of}
 use Rattle.report_forms.specs.Forms.Text.{number_line, text_found, text_told}
 use Rattle.report_forms.specs.Names.{shown_name}
-use Rattle.report_forms.proofs.JoinedElements.{after}
 use Rattle.report_forms.proofs.formats.text.put_report.Goals as goal
 
 pub returns : goal.returns

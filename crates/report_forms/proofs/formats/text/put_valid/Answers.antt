@@ -1,7 +1,6 @@
-use Rattle.std.proofs.Common.{ℕ, List, ◌++◌, codes}
+use Rattle.report_forms.proofs.Common.{ℕ, List, ◌++◌, codes, after}
 use Rattle.geolint_report.specs.Finding.{records_of}
 use Rattle.report_forms.specs.Forms.Text.{number_line, text_warnings, text_valid}
-use Rattle.report_forms.proofs.JoinedElements.{after}
 use Rattle.report_forms.proofs.formats.text.put_valid.Goals as goal
 
 pub returns : goal.returns

@@ -1,8 +1,5 @@
-use Rattle.std.proofs.Common.{ℕ, List, ◌++◌, codes}
-use Rattle.std.specs.Fmt.{decimal}
-use Rattle.geolint_report.specs.Texts.{code_name, code_text}
+use Rattle.report_forms.proofs.Common.{ℕ, List, ◌++◌, codes, decimal, code_name, code_text, after}
 use Rattle.report_forms.specs.Forms.Text.{text_warning}
-use Rattle.report_forms.proofs.JoinedElements.{after}
 use Rattle.report_forms.proofs.formats.text.put_warning.Goals as goal
 
 pub returns : goal.returns

@@ -1,7 +1,4 @@
-use Rattle.std.proofs.Common.{arith, subst, ◌≡◌, ◌++◌, ℕ, length, take}
-use Rattle.std.specs.List.{flat_map}
-use Rattle.gj_coords.specs.declared.kind.Kind.TheVariants.{W1}
-use Rattle.gj_coords.specs.Warnings.{kinds}
+use Rattle.report_forms.proofs.Common.{arith, subst, ◌≡◌, ◌++◌, ℕ, length, take, flat_map, W1, kinds}
 use Rattle.report_forms.specs.Forms.Text.{text_kind, text_warnings}
 use Rattle.report_forms.proofs.JoinedElements.{one-more}
 use Rattle.report_forms.proofs.formats.text.put_warnings.Goals as goal

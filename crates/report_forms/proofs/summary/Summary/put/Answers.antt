@@ -1,9 +1,7 @@
-use Rattle.std.proofs.Common.{ℕ}
-use Rattle.geolint_report.specs.declared.texts.Code.{Code}
+use Rattle.report_forms.proofs.Common.{ℕ, Code, after}
 use Rattle.report_forms.specs.CodeLines.{code_lines}
 use Rattle.report_forms.specs.Counts.{tells}
 use Rattle.report_forms.specs.Summary.{counted, files_line, summary_of}
-use Rattle.report_forms.proofs.JoinedElements.{after}
 use Rattle.report_forms.proofs.summary.Summary.put.Goals as goal
 
 pub returns : goal.returns

@@ -1,10 +1,8 @@
-use Rattle.std.specs.Prelude.{Option, is_none}
-use Rattle.std.proofs.Common.{ℕ, List, ◌++◌, ◌∙◌, ap, codes}
-use Rattle.std.specs.Fmt.{decimal}
+use Rattle.report_forms.proofs.Common.{Option, ℕ, List, ◌++◌, ◌∙◌, ap, codes, decimal, after}
+use Rattle.std.specs.Prelude.{is_none}
 use Rattle.geolint_report.specs.declared.judge.Finding.{Finding}
 use Rattle.report_forms.specs.Counts.{is_valid, is_warned, is_broken, is_refused, is_not_valid}
 use Rattle.report_forms.specs.Summary.{counted, and_not_valid, files_line}
-use Rattle.report_forms.proofs.JoinedElements.{after}
 use Rattle.report_forms.proofs.summary.Summary.put_files.Goals as goal
 
 pub returns : goal.returns

@@ -1,7 +1,5 @@
-use Rattle.std.proofs.Common.{ℕ, List, ◌++◌, codes}
-use Rattle.geolint_report.specs.declared.texts.Code.{Code}
+use Rattle.report_forms.proofs.Common.{ℕ, List, ◌++◌, codes, Code, after}
 use Rattle.report_forms.specs.Forms.Sarif.{sarif_begin, sarif_head, sarif_rules, sarif_causes, sarif_rule, sarif_kinds}
-use Rattle.report_forms.proofs.JoinedElements.{after}
 use Rattle.report_forms.proofs.formats.sarif.Log.begin.Goals as goal
 
 pub returns : goal.returns

@@ -1,8 +1,7 @@
-use Rattle.std.proofs.Common.{ℕ, List, ◌++◌, ◌∙◌, ap, codes}
+use Rattle.report_forms.proofs.Common.{ℕ, List, ◌++◌, ◌∙◌, ap, codes, after}
 use Rattle.std.specs.Prelude.{Bool}
 use Rattle.geolint_report.specs.Line.{truth}
 use Rattle.report_forms.specs.Forms.Sarif.{is_nothing, sarif_end}
-use Rattle.report_forms.proofs.JoinedElements.{after}
 use Rattle.report_forms.proofs.formats.sarif.Log.end.Goals as goal
 
 pub returns : goal.returns

@@ -1,7 +1,6 @@
-use Rattle.std.proofs.Common.{subst, ◌≡◌, ◌++◌, ℕ, List}
+use Rattle.report_forms.proofs.Common.{subst, ◌≡◌, ◌++◌, ℕ, List, after}
 use Rattle.std.specs.Prelude.{OnOk}
 use Rattle.report_forms.specs.Forms.Sarif.{sarif_result, break_unless}
-use Rattle.report_forms.proofs.JoinedElements.{after}
 use Rattle.report_forms.proofs.ResultsBetween.{one-result}
 use Rattle.report_forms.proofs.formats.sarif.Log.put_result.Goals as goal
 

@@ -1,7 +1,5 @@
-use Rattle.std.proofs.Common.{arith, ap, sym, subst, ◌∙◌, ◌≡◌, ◌++◌, ◌+◌, ◌&&◌, ℕ, Bool, List, length, take, get_or, append_assoc}
-use Rattle.std.specs.List.{flat_map}
-use Rattle.gj_coords.specs.declared.kind.Kind.TheVariants.{W1}
-use Rattle.gj_coords.specs.Warnings.{kinds}
+use Rattle.report_forms.proofs.Common.{arith, ap, sym, subst, ◌∙◌, ◌≡◌, ◌++◌, ◌+◌, ◌&&◌, ℕ, Bool, List, length, take, get_or, append_assoc, flat_map}
+use Rattle.report_forms.proofs.Common.{W1, kinds}
 use Rattle.report_forms.specs.Forms.Sarif.{sarif_kind, sarif_warnings, next_results}
 use Rattle.report_forms.specs.Internal.WrittenCommas.{is_none_yet}
 use Rattle.report_forms.proofs.ResultsBetween.{results-more, none-of-more}
