@@ -1,12 +1,15 @@
--- Lines and characters of bytes behind others.
+-- Lines and characters of bytes behind others, and of one byte behind others.
 use Rattle.std.proofs.Common.{arith, ◌≡◌, ◌<◌, ◌≤◌, ◌∙◌, ℕ, suc, ◌+◌, ◌++◌, ◌∷◌, [], List, ap, sym, refl, length, take, drop}
 use Rattle.std.proofs.Common.{get_or, append_assoc, length-drop}
 use Rattle.std.proofs.lemmas.List.{take_more, get_or-drop, take-append-drop}
 use Rattle.std.specs.Prelude.{Bool, true, false, if◌then◌else◌}
 use Rattle.std.proofs.lemmas.Bool.{or_parts, false_from_ne_true}
 use Rattle.gj_places.specs.Lines.{is_line_feed, begins_character, line_feeds, characters, has_line_feed, last_line, line_of, column_of}
-use Rattle.gj_places.proofs.CountedBytes.{counted, line_feeds-more, characters-more, column_of-feed}
-use Rattle.gj_places.proofs.KeptLines.{last_line-longer}
+use Rattle.gj_places.proofs.KeptLines.{has-one, last_line-behind, last_line-longer}
+
+-- what a byte adds to a count, by whether it counts
+abbrev pub counted : Bool → ℕ
+counted b = if b then 1 else 0
 
 pub line_feeds-append : (xs ys : List ℕ) → line_feeds (xs ++ ys) ≡ line_feeds xs + line_feeds ys
 line_feeds-append [] ys = omega arith
@@ -15,6 +18,18 @@ line_feeds-append (x ∷ xs) ys = let rest = line_feeds-append xs ys in omega (a
 pub characters-append : (xs ys : List ℕ) → characters (xs ++ ys) ≡ characters xs + characters ys
 characters-append [] ys = omega arith
 characters-append (x ∷ xs) ys = let rest = characters-append xs ys in omega (arith, rest)
+
+line_feeds-more : (bytes : List ℕ) (byte : ℕ) → line_feeds (bytes ++ byte ∷ []) ≡ line_feeds bytes + (if is_line_feed byte then 1 else 0)
+line_feeds-more bytes byte = omega (arith, line_feeds-append bytes (byte ∷ []))
+
+characters-more : (bytes : List ℕ) (byte : ℕ) → characters (bytes ++ byte ∷ []) ≡ characters bytes + (if begins_character byte then 1 else 0)
+characters-more bytes byte = omega (arith, characters-append bytes (byte ∷ []))
+
+pub last_line-feed : (bytes : List ℕ) (byte : ℕ) → is_line_feed byte ≡ true → last_line (bytes ++ byte ∷ []) ≡ []
+last_line-feed bytes byte is = last_line-behind bytes (byte ∷ []) (has-one byte true is) ∙ rw is refl
+
+column_of-feed : (bytes : List ℕ) (byte : ℕ) → is_line_feed byte ≡ true → column_of (bytes ++ byte ∷ []) ≡ 1
+column_of-feed bytes byte is = ap (λ (line : List ℕ). characters line + 1) (last_line-feed bytes byte is)
 
 at-most-by : (counts : Bool) (some all : ℕ) → some ≤ all → counted counts + some ≤ suc all
 at-most-by true some all within = omega (arith, within)

@@ -164,10 +164,6 @@ pub has-one : (x : ℕ) (b : Bool) → is_line_feed x ≡ b → has_line_feed (x
 has-one x true is = rw is refl
 has-one x false is = rw is refl
 
-pub contrary : (b : Bool) → b ≡ true → b ≡ false → ⊥
-contrary true is isnt = cc
-contrary false is isnt = cc
-
 -- ---- characters, one more
 
 pub encodes-more : (xs : List ℕ) (i c : ℕ) → i < length xs → c ≡ get_or xs i c →

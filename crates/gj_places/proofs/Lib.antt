@@ -1,5 +1,4 @@
 pub mod Blocks
-mod CountedBytes
 mod CountedPieces
 mod KeptLines
 mod Lanes

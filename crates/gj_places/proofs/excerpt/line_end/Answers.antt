@@ -2,9 +2,8 @@ use Rattle.std.proofs.Common.{arith, ◌≡◌, ◌+◌, ◌++◌, ◌∷◌, []
 use Rattle.std.proofs.lemmas.Bool.Decides.{nat_tests}
 use Rattle.std.proofs.lemmas.List.{take_rest}
 use Rattle.gj_places.specs.Lines.{last_line, has_line_feed}
-use Rattle.gj_places.proofs.CountedPieces.{rest_has, parted}
+use Rattle.gj_places.proofs.CountedPieces.{last_line-feed, rest_has, parted}
 use Rattle.gj_places.proofs.KeptLines.{last_line-none, last_line-longer}
-use Rattle.gj_places.proofs.CountedBytes.{last_line-feed}
 use Rattle.gj_places.proofs.excerpt.line_end.Goals as goal
 
 pub returns-in-Some : goal.returns-in-Some

@@ -1,8 +1,7 @@
 use Rattle.std.proofs.Common.{rules, arith, ◌≡◌, ap, get_or}
 use Rattle.std.specs.Prelude.{true, false}
 use Rattle.gj_places.specs.Lines.{begins_character}
-use Rattle.gj_places.proofs.CountedBytes.{counted}
-use Rattle.gj_places.proofs.CountedPieces.{characters-take}
+use Rattle.gj_places.proofs.CountedPieces.{counted, characters-take}
 use Rattle.gj_places.proofs.lines.characters_in_block.Goals as goal
 use Rattle.gj_places.proofs.lines.characters_in_block.Goals.{then-begins_character, else-begins_character}
 

@@ -1,8 +1,7 @@
 use Rattle.std.proofs.Common.{rules, arith, ◌≡◌, ap, get_or}
 use Rattle.std.specs.Prelude.{true, false}
 use Rattle.gj_places.specs.Lines.{is_line_feed}
-use Rattle.gj_places.proofs.CountedBytes.{counted}
-use Rattle.gj_places.proofs.CountedPieces.{line_feeds-take}
+use Rattle.gj_places.proofs.CountedPieces.{counted, line_feeds-take}
 use Rattle.gj_places.proofs.lines.few_line_feeds.Goals as goal
 use Rattle.gj_places.proofs.lines.few_line_feeds.Goals.{then-byte-eq-LINE_FEED, else-byte-eq-LINE_FEED}
 

@@ -1,5 +1,5 @@
 use Rattle.std.proofs.Common.{rules, arith, ap, sym, ◌∙◌, subst, ◌≤◌, ℕ, List, length, take}
-use Rattle.gj_places.proofs.KeptLines.{first_line-ended, first-full, has-before, contrary}
+use Rattle.gj_places.proofs.KeptLines.{first_line-ended, first-full, has-before}
 use Rattle.gj_places.proofs.excerpt.Excerpt.is_whole.Goals as goal
 
 pub returns-then-self-clause-whole : goal.returns-then-self-clause-whole
@@ -9,7 +9,7 @@ returns-then-self-clause-whole c = λ before after more keeps is.
       front = keeps.front;
       rest = keeps.rest ∙ ap (take 256) (sym (first_line-ended after more has));
       whole = λ ended. has-before after more has;
-      goes_on = λ goes room. absurd (contrary c.args.self.now.is_whole is goes);
+      goes_on = λ goes room. absurd (cc);
     }
 
 pub returns-else-self-clause-whole : goal.returns-else-self-clause-whole

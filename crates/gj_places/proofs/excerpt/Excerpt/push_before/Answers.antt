@@ -2,8 +2,8 @@ use Rattle.std.proofs.Common.{rules, arith, ap, sym, ◌∙◌, subst, ◌≡◌
 use Rattle.std.specs.Prelude.{true, false}
 use Rattle.gj_places.specs.Lines.{is_line_feed, last_line}
 use Rattle.gj_places.specs.Excerpts.{last_of}
-use Rattle.gj_places.proofs.CountedBytes.{last_line-feed, last_line-other}
-use Rattle.gj_places.proofs.KeptLines.{last_of-room, last_of-full}
+use Rattle.gj_places.proofs.CountedPieces.{last_line-feed}
+use Rattle.gj_places.proofs.KeptLines.{has-one, last_line-longer, last_of-room, last_of-full}
 use Rattle.gj_places.proofs.excerpt.Excerpt.push_before.Goals as goal
 use Rattle.gj_places.proofs.excerpt.Excerpt.push_before.Goals.{then-is_full, else-is_full}
 
@@ -23,7 +23,7 @@ returns c = λ before keeps.
     let other : is_line_feed byte ≡ false = search rules in
     let items = c.args.self.now.before.items in
     let line = last_line before in
-    let longer = ap (last_of 256) (last_line-other before byte other) in
+    let longer = ap (last_of 256) (last_line-longer before (byte ∷ []) (has-one byte false other)) in
     elim c.if-is_full.branch [
       | then-is_full w ↦
           let full : 256 ≤ length items = search (arith, rules) in
