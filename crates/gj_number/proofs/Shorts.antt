@@ -11,4 +11,9 @@ pub mod OrdinaryNumbers
 pub mod WrittenExponents
 pub mod LongNumbers
 pub mod NumberPairs
+pub mod CutLanes
+pub mod FirstMarks
+pub mod CutPlaces
+pub mod CutPairs
+pub mod UsualMarks
 pub mod PointedNumbers

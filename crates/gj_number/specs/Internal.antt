@@ -4,4 +4,5 @@ pub mod KeptParts
 pub mod KeptDigits
 pub mod DigitRuns
 pub mod DigitLanes
+pub mod CutLanes
 pub mod MovedPoint

@@ -6,4 +6,5 @@ pub mod Value
 pub mod Denotation
 pub mod Literal
 pub mod Short
+pub mod Cuts
 pub mod Internal

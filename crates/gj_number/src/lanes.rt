@@ -78,7 +78,7 @@ static POINTED: [u8; 768] = [
 
 /// A bit for each lane that is 10 or more.
 #[inline(always)]
-fn from_ten(lanes: u8x16) -> u64
+pub(crate) fn from_ten(lanes: u8x16) -> u64
     ensures { result ≡ mask_l (map (nat_le 10) lanes) }
 {
     lanes.simd_ge(u8x16::splat(10)).to_bitmask()
@@ -199,7 +199,7 @@ pub(crate) fn numbers_of(first: u8x16, second: u8x16) -> (u64, u64)
 
 /// The first sixteen bytes of a piece, each less the byte of the digit 0: the lanes of digits are below 10.
 #[inline(always)]
-fn lanes_of(piece: &[u8]) -> u8x16
+pub(crate) fn lanes_of(piece: &[u8]) -> u8x16
     requires { 16 ≤ length piece.now }
     ensures { result ≡ map lane_of (take 16 piece.now) }
 {

@@ -3,6 +3,8 @@ ghost use Rattle.std.specs.Prelude.{◌≡◌, ◌≢◌, ◌↔◌, ◌-◌, �
 ghost use Rattle.gj_number.specs.Exact.{SameValue, signed, cut_limit, cut_magnitude, cut_of, cut_places, cut_within, places_of};
 ghost use Rattle.gj_number.specs.Internal.KeptParts.{limited_cut, limited_to};
 
+pub(crate) mod cut_lanes;
+pub(crate) mod cuts;
 pub(crate) mod pair;
 pub(crate) mod prefix;
 

@@ -11,11 +11,11 @@ use Rattle.gj_number.specs.declared.state.Class.TheVariants.{Other}
 use Rattle.gj_number.specs.Short.{short_value, StartsWithNumber, StartsWithPair}
 use Rattle.gj_number.proofs.Shorts.WrittenExponents.{plain_front}
 
-comma_other : class_of comma ≡ Other
+pub comma_other : class_of comma ≡ Other
 unfolding class_of
 comma_other = refl
 
-bracket_other : class_of close_bracket ≡ Other
+pub bracket_other : class_of close_bracket ≡ Other
 unfolding class_of
 bracket_other = refl
 

@@ -150,7 +150,7 @@ first_some piece first (suc n) ends h = omega arith
 
 -- ---- digits that are read apart
 
-apart : (n : ℕ) (xs : List ℕ) → fold with_digit n xs ≡ n * 10 ^ length xs + fold with_digit 0 xs
+pub apart : (n : ℕ) (xs : List ℕ) → fold with_digit n xs ≡ n * 10 ^ length xs + fold with_digit 0 xs
 apart n [] = omega arith
 apart n (b ∷ xs) = rw (pow-suc 10 (length xs)) (omega (arith, apart (with_digit n b) xs, apart (with_digit 0 b) xs))
 

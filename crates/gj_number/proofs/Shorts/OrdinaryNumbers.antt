@@ -97,7 +97,7 @@ sign_of negative true sign rest s e n = let t : negative ≡ true = sym e ∙ rw
 sign_of true false sign rest s e n = absurd (n (let f : (get_or rest 0 0 == minus_sign) ≡ true = rw s at e in grind (arith, nat_tests)))
 sign_of false false sign rest s e n = rw s refl
 
-first_digit : (natural ys : List ℕ) → IsNatural natural → get_or (natural ++ ys) 0 0 ≡ minus_sign → ⊥
+pub first_digit : (natural ys : List ℕ) → IsNatural natural → get_or (natural ++ ys) 0 0 ≡ minus_sign → ⊥
 first_digit [] ys h e = absurd h
 first_digit (b ∷ xs) ys h e = let k = natural_digits (b ∷ xs) h in let l = k.0.0 in omega arith
 
@@ -120,7 +120,7 @@ laid piece negative n s o =
       point = rw d k.point;
     }
 
-sign_size : (negative minus : Bool) (sign rest : List ℕ) → SpellsSign minus sign → (get_or (sign ++ rest) 0 0 == minus_sign) ≡ negative
+pub sign_size : (negative minus : Bool) (sign rest : List ℕ) → SpellsSign minus sign → (get_or (sign ++ rest) 0 0 == minus_sign) ≡ negative
     → (get_or rest 0 0 ≡ minus_sign → ⊥) → length sign ≡ bool_byte negative
 sign_size negative true sign rest s e n = let t : negative ≡ true = sym e ∙ rw s refl in rw (s, t) refl
 sign_size true false sign rest s e n = absurd (n (let f : (get_or rest 0 0 == minus_sign) ≡ true = rw s at e in grind (arith, nat_tests)))

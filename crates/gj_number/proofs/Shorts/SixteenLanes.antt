@@ -210,19 +210,19 @@ eights_small xs ys fs gs e k len more all others =
 -- ---- moved to the end
 
 -- what holds of each number below n
-abbrev Below : (ℕ → Type 0) → ℕ → Type 0
+abbrev pub Below : (ℕ → Type 0) → ℕ → Type 0
 Below P zero = Unit {0}
 Below P (suc n) = Below P n × P n
 
-below_at : (P : ℕ → Type 0) (n k : ℕ) → Below P n → k < n → P k
+pub below_at : (P : ℕ → Type 0) (n k : ℕ) → Below P n → k < n → P k
 below_at P zero k h l = absurd (omega arith)
 below_at P (suc n) k h l = elim (cases_lt k n) [ inl m ↦ below_at P n k h.0 m | inr m ↦ let e : n ≡ k = omega arith in subst P e h.1 ]
 
-abbrev every : (ℕ → Bool) → List ℕ → Bool
+abbrev pub every : (ℕ → Bool) → List ℕ → Bool
 every p [] = true
 every p (x ∷ xs) = p x && every p xs
 
-every_each : (p : ℕ → Bool) (xs : List ℕ) → T (every p xs) → Each1 (λ x. T (p x)) xs
+pub every_each : (p : ℕ → Bool) (xs : List ℕ) → T (every p xs) → Each1 (λ x. T (p x)) xs
 every_each p [] h = tt
 every_each p (x ∷ xs) h = go (every_each p xs) (p x) h
   where
@@ -327,12 +327,12 @@ each_on : (xs ys : List ℕ) → Each1 (λ x. x < 10) xs → Each1 (λ x. x < 10
 each_on [] ys h k = k
 each_on (x ∷ xs) ys h k = (h.0, each_on xs ys h.1 k)
 
-fold_zeros : (n : ℕ) (xs : List ℕ) → fold with_value 0 (replicate n 0 ++ xs) ≡ fold with_value 0 xs
+pub fold_zeros : (n : ℕ) (xs : List ℕ) → fold with_value 0 (replicate n 0 ++ xs) ≡ fold with_value 0 xs
 fold_zeros zero xs = refl
 fold_zeros (suc n) xs = fold_zeros n xs
 
 -- lanes of digits are digits, and spell what the bytes do
-lanes_spell : (n : ℕ) (xs : List ℕ) → Each1 (Fits w8) xs → Each1 (λ x. x < 10) (map lane_of xs) → AllByRecursion IsDigit xs
+pub lanes_spell : (n : ℕ) (xs : List ℕ) → Each1 (Fits w8) xs → Each1 (λ x. x < 10) (map lane_of xs) → AllByRecursion IsDigit xs
     × (fold with_value n (map lane_of xs) ≡ fold with_digit n xs)
 lanes_spell n [] fits h = (tt, refl)
 lanes_spell n (x ∷ xs) fits h =

@@ -1,0 +1,180 @@
+-- The first marks of a piece, by the bits of its bytes.
+use Rattle.std.proofs.Common.{zero, suc, ◌≡◌, ℕ, ◌+◌, ◌-◌, ◌*◌, ◌%◌, ◌^◌, ◌<◌, ◌≤◌, ◌++◌, Bool, true, false, List, [], ◌∷◌, length, map, take, drop}
+use Rattle.std.proofs.Common.{replicate, cond, refl, ◌&&◌, eqb, Fits, inl, inr, sym, ◌∙◌, ap, subst, arith, length-drop, w8, w64}
+use lib.Bits.{bit_and, bit_or}
+use lib.Lanes.{Each1, mask_l, top, zip2}
+use Rattle.std.specs.Bool.{beq}
+use Rattle.std.proofs.Math.Seq.{take-add}
+use Rattle.std.proofs.lemmas.List.{drop-drop, length-map, length-take-le, map-append}
+use Rattle.std.proofs.lemmas.Simd.{mask_l-lt}
+use Rattle.gj_number.proofs.Value.SameDecimals.{beq_decides}
+use Rattle.std.specs.Int.{bit_at}
+use lib.Count.{count_trailing_zeros}
+use Rattle.std.proofs.Math.Nat.{pow-suc, mul_assoc}
+use Rattle.std.proofs.lemmas.Bool.{cases_lt}
+use Rattle.std.proofs.lemmas.Nat.{or_comm, or_shifted, and_block, and_le_l, and_le_r, pow-add, pow_pos}
+use Rattle.std.proofs.lemmas.Nat.Bits.{bit_at_and, bit_at_lowest, bit_at-zero, bit_at_cat_low, bit_at_cat_high, bit_at-trailing_zeros, same_from_bits}
+use Rattle.gj_number.specs.Internal.CutLanes.{is_mark, AreMarks, HasMarks}
+
+-- ---- the lowest bit of a number
+
+and_same : (r : ℕ) → bit_and r r ≡ r
+and_same r = same_from_bits (bit_and r r) r (λ i. bit_at_and r r i ∙ omega arith)
+
+and_next : (r : ℕ) → bit_and (1 + 2 * r) (2 * r) ≡ 2 * r
+and_next r =
+    let a : 1 + 2 * r ≡ r * 2 ^ 1 + 1 = omega arith in
+    let b : 2 * r ≡ r * 2 ^ 1 + 0 = omega arith in
+    (λ i. bit_and (a i) (b i)) ∙ and_block 1 r r 1 0 (omega arith) (omega arith) ∙ ap (λ n. n * 2 ^ 1 + bit_and 1 0) (and_same r)
+    ∙ omega (arith, and_le_r 1 0)
+
+pub lowest_off : (bits k r : ℕ) → bits < 2 ^ 64 → bits ≡ (1 + 2 * r) * 2 ^ k → bit_and bits ((bits + (2 ^ 64 - 1)) % 2 ^ 64) ≡ r * 2 ^ (k + 1)
+lowest_off bits k r small is =
+    let p : 0 < 2 ^ k = pow_pos k in
+    let e : 2 ^ (k + 1) ≡ 2 ^ k * 2 = pow-add 2 k 1 in
+    let double : r * 2 ^ (k + 1) ≡ 2 * r * 2 ^ k = ap (λ n. r * n) e ∙ omega arith in
+    let whole : bits ≡ (1 + 2 * r) * 2 ^ k + 0 = omega arith in
+    let split : (1 + 2 * r) * 2 ^ k ≡ 2 * r * 2 ^ k + 2 ^ k = omega arith in
+    let less : (bits + (2 ^ 64 - 1)) % 2 ^ 64 ≡ 2 * r * 2 ^ k + (2 ^ k - 1) = omega arith in
+    (λ i. bit_and (whole i) (less i)) ∙ and_block k (1 + 2 * r) (2 * r) 0 (2 ^ k - 1) p (omega arith)
+    ∙ ap (λ n. n * 2 ^ k + bit_and 0 (2 ^ k - 1)) (and_next r) ∙ omega (arith, and_le_l 0 (2 ^ k - 1), double)
+
+pub lowest_at : (bits k r : ℕ) → bits < 2 ^ 64 → bits ≡ (1 + 2 * r) * 2 ^ k → count_trailing_zeros 64 bits ≡ k
+lowest_at bits k r small is =
+    let p : 0 < 2 ^ k = pow_pos k in
+    let split : (1 + 2 * r) * 2 ^ k ≡ 2 * r * 2 ^ k + 2 ^ k = omega arith in
+    let t = bit_at-trailing_zeros w64 bits (omega arith) small in
+    let n : ℕ = count_trailing_zeros 64 bits in
+    let whole : bits ≡ (1 + 2 * r) * 2 ^ k + 0 = omega arith in
+    let back : k - k ≡ 0 = omega arith in
+    let odd : bit_at (1 + 2 * r) 0 ≡ 1 = bit_at_lowest (1 + 2 * r) ∙ omega arith in
+    let at : bit_at bits k ≡ 1 = ap (λ m. bit_at m k) whole ∙ bit_at_cat_high (1 + 2 * r) k 0 k p (omega arith) ∙ ap (bit_at (1 + 2 * r)) back ∙ odd in
+    elim (cases_lt n k) [
+      | inl l ↦
+          let none : bit_at bits n ≡ 0 = ap (λ m. bit_at m n) whole ∙ bit_at_cat_low (1 + 2 * r) k 0 n l ∙ bit_at-zero n in
+          let some = t.1 in
+          absurd (omega arith)
+      | inr m ↦ elim (cases_lt k n) [ inl l ↦ (let none = t.2 k l in absurd (omega arith)) | inr o ↦ omega arith ]
+    ]
+
+-- ---- marks as bits
+
+mask_after_none : (k : ℕ) (ms : List Bool) → mask_l (replicate k false ++ ms) ≡ mask_l ms * 2 ^ k
+mask_after_none zero ms = omega arith
+mask_after_none (suc k) ms = rw (pow-suc 2 k) (let e = mask_after_none k ms in omega arith)
+
+-- the number of a mark after so many bytes
+one_mark : (k : ℕ) (ms : List Bool) → mask_l (replicate k false ++ true ∷ ms) ≡ (1 + 2 * mask_l ms) * 2 ^ k
+one_mark k ms = mask_after_none k (true ∷ ms)
+
+-- the next mark, once the one before is off
+next_mark : (k j : ℕ) (ms : List Bool) → mask_l (replicate j false ++ true ∷ ms) * 2 ^ k ≡ (1 + 2 * mask_l ms) * 2 ^ (k + j)
+next_mark k j ms =
+    ap (λ n. n * 2 ^ k) (one_mark j ms) ∙ mul_assoc (1 + 2 * mask_l ms) (2 ^ j) (2 ^ k)
+    ∙ ap (λ n. (1 + 2 * mask_l ms) * n) (sym (pow-add 2 j k) ∙ ap (λ n. 2 ^ n) {x = j + k} {y = k + j} (omega arith))
+
+module _ (marks second third fourth : ℕ) (small : marks < 2 ^ 64) (small_second : second < 2 ^ 64) (small_third : third < 2 ^ 64)
+    (small_fourth : fourth < 2 ^ 64)
+    (off : (k r : ℕ) → marks ≡ (1 + 2 * r) * 2 ^ k → second ≡ r * 2 ^ (k + 1))
+    (off_second : (k r : ℕ) → second ≡ (1 + 2 * r) * 2 ^ k → third ≡ r * 2 ^ (k + 1))
+    (off_third : (k r : ℕ) → third ≡ (1 + 2 * r) * 2 ^ k → fourth ≡ r * 2 ^ (k + 1)) where
+  pub marks_found : (ms : List Bool) → marks ≡ mask_l ms → (a b c d : ℕ) → AreMarks ms a b c d
+      → HasMarks (count_trailing_zeros 64 marks) (count_trailing_zeros 64 second) (count_trailing_zeros 64 third) (count_trailing_zeros 64 fourth) a b c d
+  marks_found ms is a b c d m =
+      let fours : List Bool = replicate d false ++ true ∷ m.0 in
+      let threes : List Bool = replicate c false ++ true ∷ fours in
+      let twos : List Bool = replicate b false ++ true ∷ threes in
+      let one : marks ≡ (1 + 2 * mask_l twos) * 2 ^ a = is ∙ ap mask_l m.1 ∙ one_mark a twos in
+      let two : second ≡ (1 + 2 * mask_l threes) * 2 ^ (a + 1 + b) = off a (mask_l twos) one ∙ next_mark (a + 1) b threes in
+      let three : third ≡ (1 + 2 * mask_l fours) * 2 ^ (a + 1 + b + 1 + c) = off_second (a + 1 + b) (mask_l threes) two ∙ next_mark (a + 1 + b + 1) c fours in
+      let four : fourth ≡ (1 + 2 * mask_l m.0) * 2 ^ (a + 1 + b + 1 + c + 1 + d) =
+      off_third (a + 1 + b + 1 + c) (mask_l fours) three ∙ next_mark (a + 1 + b + 1 + c + 1) d m.0 in
+      record {
+        point_is = lowest_at marks a (mask_l twos) small one;
+        comma_is = lowest_at second (a + 1 + b) (mask_l threes) small_second two;
+        other_point_is = lowest_at third (a + 1 + b + 1 + c) (mask_l fours) small_third three;
+        end_is = lowest_at fourth (a + 1 + b + 1 + c + 1 + d) (mask_l m.0) small_fourth four;
+      }
+
+-- ---- sixteen bytes after sixteen
+
+mask_joined : (ms ns : List Bool) → mask_l (ms ++ ns) ≡ mask_l ms + 2 ^ length ms * mask_l ns
+mask_joined [] ns = omega arith
+mask_joined (m ∷ ms) ns =
+    let e = mask_joined ms ns in
+    let p : 2 ^ length (m ∷ ms) * mask_l ns ≡ 2 * (2 ^ length ms * mask_l ns) =
+    ap (λ n. n * mask_l ns) (ap (λ n. 2 ^ n) {x = length (m ∷ ms)} {y = suc (length ms)} (omega arith) ∙ pow-suc 2 (length ms)) ∙ omega arith in
+    omega arith
+
+parts_joined : (x y z : ℕ) → x < 65536 → y < 65536 → z < 65536
+    → bit_or (bit_or x (y * 65536 % 18446744073709551616)) (z * 4294967296 % 18446744073709551616) ≡ x + 65536 * (y + 65536 * z)
+parts_joined x y z X Y Z =
+    let a : y * 65536 % 18446744073709551616 ≡ y * 2 ^ 16 = omega arith in
+    let b : z * 4294967296 % 18446744073709551616 ≡ z * 2 ^ 32 = omega arith in
+    let low : bit_or x (y * 65536 % 18446744073709551616) ≡ y * 2 ^ 16 + x = ap (bit_or x) a ∙ or_comm x (y * 2 ^ 16) ∙ or_shifted y 16 x X in
+    (λ i. bit_or (low i) (b i)) ∙ or_comm (y * 2 ^ 16 + x) (z * 2 ^ 32) ∙ or_shifted z 32 (y * 2 ^ 16 + x) (omega arith) ∙ omega arith
+
+sixteen_long : (p : ℕ → Bool) (xs : List ℕ) → 16 ≤ length xs → length (map p (take 16 xs)) ≡ 16
+sixteen_long p xs long = length-map (take 16 xs) p ∙ length-take-le 16 xs long
+
+sixteen_small : (p : ℕ → Bool) (xs : List ℕ) → 16 ≤ length xs → mask_l (map p (take 16 xs)) < 65536
+sixteen_small p xs long =
+    let P : ℕ → Type 0 = λ n. mask_l (map p (take 16 xs)) < 2 ^ n in
+    subst P (sixteen_long p xs long) (mask_l-lt (map p (take 16 xs)))
+
+pub parts_are : (piece : List ℕ) (x y z : ℕ) → 48 ≤ length piece → x ≡ mask_l (map is_mark (take 16 piece))
+    → y ≡ mask_l (map is_mark (take 16 (drop 16 piece))) → z ≡ mask_l (map is_mark (take 16 (drop 32 piece)))
+    → bit_or (bit_or x (y * 65536 % 18446744073709551616)) (z * 4294967296 % 18446744073709551616) ≡ mask_l (map is_mark (take 48 piece))
+parts_are piece x y z long xe ye ze =
+    let first = take 16 piece in
+    let second = take 16 (drop 16 piece) in
+    let third = take 16 (drop 32 piece) in
+    let a = sixteen_small is_mark piece (omega arith) in
+    let b = sixteen_small is_mark (drop 16 piece) (omega (arith, length-drop 16 piece)) in
+    let c = sixteen_small is_mark (drop 32 piece) (omega (arith, length-drop 32 piece)) in
+    let rest : take 32 (drop 16 piece) ≡ second ++ third = take-add 16 16 (drop 16 piece) ∙ ap (λ xs. second ++ take 16 xs) (drop-drop 16 16 piece) in
+    let whole : take 48 piece ≡ first ++ (second ++ third) = take-add 16 32 piece ∙ ap (λ xs. first ++ xs) rest in
+    let bits : map is_mark (take 48 piece) ≡ map is_mark first ++ (map is_mark second ++ map is_mark third) =
+    ap (map is_mark) whole ∙ map-append is_mark first (second ++ third) ∙ ap (λ xs. map is_mark first ++ xs) (map-append is_mark second third) in
+    let k = sixteen_long is_mark piece (omega arith) in
+    let l = sixteen_long is_mark (drop 16 piece) (omega (arith, length-drop 16 piece)) in
+    let upper : mask_l (map is_mark second ++ map is_mark third) ≡ mask_l (map is_mark second) + 65536 * mask_l (map is_mark third) =
+    mask_joined (map is_mark second) (map is_mark third) ∙ ap (λ n. mask_l (map is_mark second) + 2 ^ n * mask_l (map is_mark third)) l in
+    parts_joined x y z (omega arith) (omega arith) (omega arith)
+    ∙ sym (ap mask_l bits ∙ mask_joined (map is_mark first) (map is_mark second ++ map is_mark third)
+    ∙ ap (λ n. mask_l (map is_mark first) + 2 ^ n * mask_l (map is_mark second ++ map is_mark third)) k ∙ omega arith)
+
+pub parts_fit : (piece : List ℕ) (n : ℕ) → 48 ≤ length piece → n ≡ mask_l (map is_mark (take 48 piece)) → n < 2 ^ 64
+parts_fit piece n long e =
+    let P : ℕ → Type 0 = λ k. mask_l (map is_mark (take 48 piece)) < 2 ^ k in
+    let size : length (map is_mark (take 48 piece)) ≡ 48 = length-map (take 48 piece) is_mark ∙ length-take-le 48 piece long in
+    let l = subst P size (mask_l-lt (map is_mark (take 48 piece))) in
+    omega arith
+
+-- ---- the bit of a byte
+
+abbrev marked : ℕ → Bool
+marked x = top 7 (bit_or (cond (eqb (bit_and x 253) 44) 255 0) (cond (eqb x 93) 255 0))
+
+-- a test of each number below n
+abbrev holds_below : (ℕ → Bool) → ℕ → Bool
+holds_below p zero = true
+holds_below p (suc n) = p n && holds_below p n
+
+holds_at : (p : ℕ → Bool) (n k : ℕ) → holds_below p n ≡ true → k < n → p k ≡ true
+holds_at p zero k h l = absurd (omega arith)
+holds_at p (suc n) k h l = go (holds_at p n k) (p n) refl h
+  where
+    go : (holds_below p n ≡ true → k < n → p k ≡ true) → (b : Bool) → p n ≡ b → (b && holds_below p n) ≡ true → p k ≡ true
+    go rest true e t = elim (cases_lt k n) [ inl m ↦ rest t m | inr m ↦ (let s : k ≡ n = omega arith in ap p s ∙ e) ]
+    go rest false e t = cc
+
+marked_is : (x : ℕ) → x < 256 → marked x ≡ is_mark x
+marked_is x h = (beq_decides (marked x) (is_mark x)).0 (holds_at (λ b. beq (marked b) (is_mark b)) 256 x refl h)
+
+pub marks_are : (xs : List ℕ) (n : ℕ) → length xs ≡ n → Each1 (Fits w8) xs
+    → map (top 7) (zip2 (λ a b. bit_or a b) (zip2 (λ a b. cond (eqb a b) 255 0) (zip2 (λ a b. bit_and a b) xs (replicate n 253)) (replicate n 44))
+    (zip2 (λ a b. cond (eqb a b) 255 0) xs (replicate n 93))) ≡ map is_mark xs
+marks_are [] n len fits = refl
+marks_are (x ∷ xs) (suc n) len fits = (λ i. marked_is x fits.0.fits i ∷ marks_are xs n (omega arith) fits.1 i)
+marks_are (x ∷ xs) zero len fits = absurd (omega arith)

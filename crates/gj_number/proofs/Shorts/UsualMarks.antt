@@ -1,0 +1,270 @@
+-- Where two usual numbers have their marks, and that they are found.
+use Rattle.std.proofs.Common.{zero, suc, ◌≡◌, ℕ, ◌+◌, ◌-◌, ◌<◌, ◌≤◌, ◌==◌, ◌++◌, Bool, true, false, List, [], ◌∷◌, length, map, take, drop, get_or, All, Fits}
+use Rattle.std.proofs.Common.{replicate, refl, inl, inr, sym, ◌∙◌, ap, subst, arith, append_assoc, length-drop, w8}
+use mir.Val.{bool_byte}
+use lib.Lanes.{Each1}
+use Rattle.std.specs.List.{AllByRecursion}
+use Rattle.std.proofs.Math.Seq.{drop-cons}
+use Rattle.std.proofs.lemmas.Bool.Decides.{nat_tests}
+use Rattle.std.proofs.lemmas.List.{drop-drop, get_or-drop, map-append, replicate-append-replicate, take-append-drop, take-map, take_rest}
+use Rattle.gj_number.specs.Bytes.{comma, minus_sign, decimal_point, close_bracket, IsDigit}
+use Rattle.gj_number.specs.Denotation.{SpellsSign}
+use Rattle.gj_number.specs.Short.{StartsUsual, StartsUsualPair}
+use Rattle.gj_number.specs.Internal.CutLanes.{is_mark, before_point, after_point, in_lanes, AreMarks, HasMarks, IsMarkedSpan, IsSpan}
+use Rattle.gj_number.specs.Internal.DigitLanes.{lane_of}
+use Rattle.gj_number.specs.Internal.DigitRuns.{IsPointed}
+use Rattle.gj_number.proofs.Grammar.FoundParts.{natural_digits, all_digits}
+use Rattle.gj_number.proofs.Shorts.CutPlaces.{lanes_small}
+use Rattle.gj_number.proofs.Shorts.NumberPrefixes.{sign_length}
+use Rattle.gj_number.proofs.Shorts.OrdinaryNumbers.{first_digit, laid, laid_length, pointed, sign_size}
+
+-- ---- the marks of bytes
+
+digits_unmarked : (xs : List ℕ) → AllByRecursion IsDigit xs → map is_mark xs ≡ replicate (length xs) false
+digits_unmarked [] d = refl
+digits_unmarked (x ∷ xs) d =
+    let low = d.0.0 in
+    let high = d.0.1 in
+    let e : is_mark x ≡ false = grind (arith, nat_tests) in
+    (λ i. e i ∷ digits_unmarked xs d.1 i)
+
+sign_unmarked : (negative : Bool) (sign : List ℕ) → SpellsSign negative sign → map is_mark sign ≡ replicate (length sign) false
+sign_unmarked false sign s = rw s refl
+sign_unmarked true sign s = rw s refl
+
+number_marks : (sign natural fraction more : List ℕ) (b : ℕ) → map is_mark sign ≡ replicate (length sign) false → AllByRecursion IsDigit natural
+    → AllByRecursion IsDigit fraction → is_mark b ≡ true
+    → map is_mark (sign ++ (natural ++ ((decimal_point ∷ fraction) ++ (b ∷ more))))
+    ≡ replicate (length sign + length natural) false ++ true ∷ (replicate (length fraction) false ++ true ∷ map is_mark more)
+number_marks sign natural fraction more b s n f e =
+    let rest : List ℕ = (decimal_point ∷ fraction) ++ (b ∷ more) in
+    let tail : map is_mark (fraction ++ (b ∷ more)) ≡ replicate (length fraction) false ++ true ∷ map is_mark more =
+    map-append is_mark fraction (b ∷ more) ∙ (λ i. digits_unmarked fraction f i ++ e i ∷ map is_mark more) in
+    let back : map is_mark rest ≡ true ∷ (replicate (length fraction) false ++ true ∷ map is_mark more) = ap (λ ms. true ∷ ms) tail in
+    map-append is_mark sign (natural ++ rest) ∙ (λ i. s i ++ map-append is_mark natural rest i)
+    ∙ (λ i. replicate (length sign) false ++ (digits_unmarked natural n i ++ back i))
+    ∙ sym (append_assoc (replicate (length sign) false) (replicate (length natural) false) _)
+    ∙ ap (λ ms. ms ++ true ∷ (replicate (length fraction) false ++ true ∷ map is_mark more)) (replicate-append-replicate (length sign) (length natural) false)
+
+take_past : (k a : ℕ) (ms : List Bool) → a + 1 ≤ k → take k (replicate a false ++ true ∷ ms) ≡ replicate a false ++ true ∷ take (k - (a + 1)) ms
+take_past zero a ms h = absurd (omega arith)
+take_past (suc k) zero ms h = let e : k ≡ suc k - (0 + 1) = omega arith in ap (λ n. true ∷ take n ms) e
+take_past (suc k) (suc a) ms h =
+    let e : k - (a + 1) ≡ suc k - (suc a + 1) = omega arith in
+    ap (λ zs. false ∷ zs) (take_past k a ms (omega arith) ∙ ap (λ n. replicate a false ++ true ∷ take n ms) e)
+
+-- ---- one usual number
+
+module _ (xs : List ℕ) (n behind : ℕ) (u : StartsUsual xs n behind) where
+  abbrev pub negative : Bool
+  negative = get_or xs 0 0 == minus_sign
+
+  abbrev pub before : ℕ
+  before = length u.number.ordinary.natural
+
+  abbrev pub after : ℕ
+  after = length u.number.ordinary.fraction
+
+  pub length_is : n ≡ bool_byte negative + (before + 1 + after)
+  length_is = laid_length xs negative n refl u.number u.some_after
+
+  pub digits : IsPointed (drop (bool_byte negative) xs) before after
+  digits = pointed xs negative n behind refl u
+
+  pub marks_are : is_mark behind ≡ true → map is_mark xs ≡ replicate (bool_byte negative + before) false
+      ++ true ∷ (replicate after false ++ true ∷ map is_mark (drop (suc n) xs))
+  marks_are marked =
+      let x = u.number.ordinary in
+      let more = drop (suc n) xs in
+      let b = get_or xs n 0 in
+      let whole : xs ≡ x.sign ++ (x.natural ++ (x.after_natural ++ (b ∷ more))) =
+      sym (take-append-drop n xs) ∙ (λ i. x.joined i ++ drop-cons xs n 0 u.number.within i) ∙ simp append_assoc in
+      elim x.spells_fraction [
+        | inl h ↦ absurd (let some = u.some_after in omega (arith, ap length h.1))
+        | inr h ↦
+            let rest : List ℕ = x.natural ++ ((decimal_point ∷ x.fraction) ++ (b ∷ more)) in
+            let all : xs ≡ x.sign ++ rest = whole ∙ ap (λ ys. x.sign ++ (x.natural ++ (ys ++ (b ∷ more)))) h.0 in
+            let e : (get_or (x.sign ++ rest) 0 0 == minus_sign) ≡ negative = ap (λ ys. get_or ys 0 0 == minus_sign) (sym all) in
+            let size = sign_size negative x.negative x.sign rest x.spells_sign e (first_digit x.natural _ x.spells_natural) in
+            ap (map is_mark) all
+            ∙ number_marks x.sign x.natural x.fraction more b (sign_unmarked x.negative x.sign x.spells_sign) (natural_digits x.natural x.spells_natural)
+            (all_digits x.fraction h.1) (ap is_mark u.ends ∙ marked)
+            ∙ ap (λ k. replicate (k + before) false ++ true ∷ (replicate after false ++ true ∷ map is_mark more)) size
+      ]
+
+-- where it stands in a piece
+module _ (piece : List ℕ) (at point end n behind : ℕ) (u : StartsUsual (drop at piece) n behind)
+    (point_is : point ≡ at + bool_byte (negative (drop at piece) n behind u) + before (drop at piece) n behind u)
+    (end_is : end ≡ point + 1 + after (drop at piece) n behind u) where
+  abbrev sign : ℕ
+  sign = bool_byte (negative (drop at piece) n behind u)
+
+  head : get_or (drop at piece) 0 0 ≡ get_or piece at 0
+  head = get_or-drop at piece 0 0 ∙ ap (λ i. get_or piece i 0) {x = at + 0} {y = at} (omega arith)
+
+  sign_is : sign ≡ bool_byte (get_or piece at 0 == minus_sign)
+  sign_is = ap (λ b. bool_byte (b == minus_sign)) head
+
+  pub span_at : IsMarkedSpan piece at point end behind
+  span_at =
+      let s = sign_is in
+      let l = length_is (drop at piece) n behind u in
+      let d = digits (drop at piece) n behind u in
+      let few = u.few_after in
+      record {
+        natural = before (drop at piece) n behind u;
+        fraction = after (drop at piece) n behind u;
+        some = d.some;
+        few = d.few;
+        some_after = d.some_more;
+        few_after = omega arith;
+        point_is = omega arith;
+        end_is = end_is;
+        point_there =
+            ap (λ i. get_or piece i 0) {x = point} {y = at + (sign + before (drop at piece) n behind u)} (omega arith)
+            ∙ sym (get_or-drop at piece (sign + before (drop at piece) n behind u) 0)
+            ∙ sym (get_or-drop sign (drop at piece) (before (drop at piece) n behind u) 0) ∙ d.point;
+        ends = ap (λ i. get_or piece i 0) {x = end} {y = at + n} (omega arith) ∙ sym (get_or-drop at piece n 0) ∙ u.ends;
+        one =
+            λ z. (laid (drop at piece) (negative (drop at piece) n behind u) n refl u.number).one
+            (get_or-drop sign (drop at piece) 0 0 ∙ get_or-drop at piece (sign + 0) 0
+            ∙ ap (λ i. get_or piece i 0) {x = at + (sign + 0)} {y = at + bool_byte (get_or piece at 0 == minus_sign)} (omega arith) ∙ z);
+      }
+
+  module _ (fits : (k : ℕ) → Fits w8 (get_or piece k 0)) (minus : Bool) (first natural fraction : ℕ)
+      (s : IsSpan piece at minus first natural fraction end behind)
+      (there : point ≡ first + natural) (room : at ≤ 32) (long : 64 ≤ length piece) (lanes : List ℕ)
+      (placed : lanes ≡ in_lanes (before_point natural (map lane_of (take 16 (take (length piece - first) (drop first piece)))))
+      (after_point natural fraction (map lane_of (take 16 (take (length piece - first) (drop first piece)))))) where
+    sign_same : sign ≡ bool_byte minus
+    sign_same = ap bool_byte s.sign
+
+    natural_is : before (drop at piece) n behind u ≡ natural
+    natural_is = let a = sign_same in let b = s.first_is in omega arith
+
+    fraction_is : after (drop at piece) n behind u ≡ fraction
+    fraction_is = let a = natural_is in let b = s.end_is in omega arith
+
+    pub fraction_few : fraction ≤ 12
+    fraction_few = let a = fraction_is in let b = u.few_after in omega arith
+
+    pub lanes_are_small : Each1 (λ x. x < 10) lanes
+    lanes_are_small =
+        let d = digits (drop at piece) n behind u in
+        let a = sign_same in
+        let b = s.first_is in
+        let few = sign_length minus in
+        let digit_bytes : List ℕ = drop first piece in
+        let same : drop sign (drop at piece) ≡ digit_bytes = drop-drop sign at piece ∙ ap (λ i. drop i piece) {x = at + sign} {y = first} (omega arith) in
+        let P : List ℕ → Type 0 = λ xs. Each1 (λ x. x < 10) xs in
+        let Q : List ℕ → ℕ → Type 0 = λ ys k. All IsDigit (take k ys) in
+        let R : List ℕ → ℕ → ℕ → Type 0 = λ ys k f. All IsDigit (take f (drop (k + 1) ys)) in
+        let front : Q digit_bytes natural = subst (λ ys. Q ys natural) same (subst (λ k. Q (drop sign (drop at piece)) k) natural_is d.digits.digits) in
+        let back : R digit_bytes natural fraction =
+        subst (λ ys. R ys natural fraction) same
+        (subst (λ f. R (drop sign (drop at piece)) natural f) fraction_is
+        (subst (λ k. R (drop sign (drop at piece)) k (after (drop at piece) n behind u)) natural_is d.more.digits)) in
+        let fits_on : (k : ℕ) → Fits w8 (get_or digit_bytes k 0) = λ k. rw (get_or-drop first piece k 0) (fits (first + k)) in
+        let size : 19 ≤ length digit_bytes = omega (arith, length-drop first piece) in
+        let is : lanes ≡ in_lanes (before_point natural (map lane_of (take 16 digit_bytes)))
+        (after_point natural fraction (map lane_of (take 16 digit_bytes))) =
+        placed ∙ ap (λ ys. in_lanes (before_point natural (map lane_of (take 16 ys))) (after_point natural fraction (map lane_of (take 16 ys))))
+        (take_rest piece first) in
+        subst P (sym is) (lanes_small digit_bytes fits_on natural fraction s.some s.few s.few_after size front back)
+
+-- ---- both
+
+module _ (piece : List ℕ) (u : StartsUsualPair piece) (tight : u.second_at ≡ u.comma_at + 1) where
+  abbrev pub point_at : ℕ
+  point_at = bool_byte (negative piece u.comma_at comma u.one) + before piece u.comma_at comma u.one
+
+  abbrev pub places : ℕ
+  places = after piece u.comma_at comma u.one
+
+  abbrev pub other_point_at : ℕ
+  other_point_at = bool_byte (negative (drop u.second_at piece) u.length_other close_bracket u.other)
+      + before (drop u.second_at piece) u.length_other close_bracket u.other
+
+  abbrev pub other_places : ℕ
+  other_places = after (drop u.second_at piece) u.length_other close_bracket u.other
+
+  pub pair_marks : AreMarks (map is_mark (take 48 piece)) point_at places other_point_at other_places
+  pair_marks =
+      let end : List Bool = map is_mark (drop (suc u.length_other) (drop u.second_at piece)) in
+      let fours : List Bool = replicate other_places false ++ true ∷ end in
+      let threes : List Bool = replicate other_point_at false ++ true ∷ fours in
+      let twos : List Bool = replicate places false ++ true ∷ threes in
+      let whole : map is_mark piece ≡ replicate point_at false ++ true ∷ twos =
+      marks_are piece u.comma_at comma u.one refl
+      ∙ ap (λ ms. replicate point_at false ++ true ∷ (replicate places false ++ true ∷ ms))
+      (ap (λ i. map is_mark (drop i piece)) {x = suc u.comma_at} {y = u.second_at} (omega arith)
+      ∙ marks_are (drop u.second_at piece) u.length_other close_bracket u.other refl) in
+      let a = u.one.few in
+      let b = u.one.few_after in
+      let c = u.other.few in
+      let d = u.other.few_after in
+      let s = sign_length (negative piece u.comma_at comma u.one) in
+      let t = sign_length (negative (drop u.second_at piece) u.length_other close_bracket u.other) in
+      let k : ℕ = 48 - (point_at + 1) in
+      let l : ℕ = k - (places + 1) in
+      let m : ℕ = l - (other_point_at + 1) in (
+        take (m - (other_places + 1)) end,
+        sym (take-map is_mark 48 piece) ∙ ap (take 48) whole ∙ take_past 48 point_at twos (omega arith)
+            ∙ ap (λ ms. replicate point_at false ++ true ∷ ms) (take_past k places threes (omega arith)
+            ∙ ap (λ ms. replicate places false ++ true ∷ ms) (take_past l other_point_at fours (omega arith)
+            ∙ ap (λ ms. replicate other_point_at false ++ true ∷ ms) (take_past m other_places end (omega arith)))),
+      )
+
+  module _ (point comma_is other_point end_is : ℕ) (h : HasMarks point comma_is other_point end_is point_at places other_point_at other_places) where
+    second_there : u.second_at ≡ comma_is + 1
+    second_there = let a = h.comma_is in let l = length_is piece u.comma_at comma u.one in omega arith
+
+    one_point : point ≡ 0 + bool_byte (negative piece u.comma_at comma u.one) + before piece u.comma_at comma u.one
+    one_point = let a = h.point_is in omega arith
+
+    one_end : comma_is ≡ point + 1 + places
+    one_end = let a = h.point_is in let b = h.comma_is in omega arith
+
+    other_from : other_point ≡ u.second_at + bool_byte (negative (drop u.second_at piece) u.length_other close_bracket u.other)
+        + before (drop u.second_at piece) u.length_other close_bracket u.other
+    other_from = let a = second_there in let b = h.comma_is in let d = h.other_point_is in omega arith
+
+    other_end : end_is ≡ other_point + 1 + other_places
+    other_end = let a = h.other_point_is in let b = h.end_is in omega arith
+
+    pub one_span : IsMarkedSpan piece 0 point comma_is comma
+    one_span = span_at piece 0 point comma_is u.comma_at comma u.one one_point one_end
+
+    pub other_span : IsMarkedSpan piece (comma_is + 1) other_point end_is close_bracket
+    other_span =
+        let P : ℕ → Type 0 = λ at. IsMarkedSpan piece at other_point end_is close_bracket in
+        subst P second_there (span_at piece u.second_at other_point end_is u.length_other close_bracket u.other other_from other_end)
+
+    module _ (fits : (k : ℕ) → Fits w8 (get_or piece k 0)) (minus : Bool) (first natural fraction : ℕ) (long : 64 ≤ length piece) (lanes : List ℕ)
+        (placed : lanes ≡ in_lanes (before_point natural (map lane_of (take 16 (take (length piece - first) (drop first piece)))))
+        (after_point natural fraction (map lane_of (take 16 (take (length piece - first) (drop first piece)))))) where
+      pub one_small : IsSpan piece 0 minus first natural fraction comma_is comma → point ≡ first + natural → Each1 (λ x. x < 10) lanes × (fraction ≤ 12)
+      one_small s there = let room : 0 ≤ 32 = omega arith in (
+        lanes_are_small piece 0 point comma_is u.comma_at comma u.one one_point one_end fits minus first natural fraction s there room long lanes placed,
+        fraction_few piece 0 point comma_is u.comma_at comma u.one one_point one_end fits minus first natural fraction s there room long lanes placed,
+      )
+
+      pub other_small : IsSpan piece (comma_is + 1) minus first natural fraction end_is close_bracket → other_point ≡ first + natural → u.second_at ≤ 32
+          → Each1 (λ x. x < 10) lanes × (fraction ≤ 12)
+      other_small t there room =
+          let P : ℕ → Type 0 = λ at. IsSpan piece at minus first natural fraction end_is close_bracket in
+          let s : P u.second_at = subst P (sym second_there) t in (
+            lanes_are_small piece u.second_at other_point end_is u.length_other close_bracket u.other other_from other_end fits minus first natural
+                fraction s there room long lanes placed,
+            fraction_few piece u.second_at other_point end_is u.length_other close_bracket u.other other_from other_end fits minus first natural fraction
+                s there room long lanes placed,
+          )
+
+    pub second_few : u.second_at ≤ 32
+    second_few =
+        let a = second_there in
+        let b = h.comma_is in
+        let s = sign_length (negative piece u.comma_at comma u.one) in
+        let few = u.one.few in
+        let few_after = u.one.few_after in
+        omega arith

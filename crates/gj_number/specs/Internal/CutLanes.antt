@@ -1,0 +1,88 @@
+-- The digits of a number in lanes from which its cut value is read.
+use Rattle.std.specs.Prelude.{◌≡◌, ℕ, ◌+◌, ◌-◌, ◌*◌, ◌<◌, ◌≤◌, Bool, true, false, ◌==◌, ◌||◌, List, [], ◌∷◌, ◌++◌, take, drop, get_or, replicate}
+use Rattle.std.specs.List.{fold}
+use Rattle.std.specs.Simd.Lanes.{pick_l}
+use mir.Val.{bool_byte}
+use Rattle.gj_number.specs.Bytes.{comma, minus_sign, decimal_point, close_bracket, zero_digit, IsDigit}
+use Rattle.gj_number.specs.Internal.DigitLanes.{with_value}
+use Rattle.gj_number.specs.Internal.DigitRuns.{StartsSigned}
+
+-- three digits, the first of them zeros where fewer stand before the point
+abbrev pub before_point : ℕ → List ℕ → List ℕ
+before_point natural lanes = replicate (3 - natural) 0 ++ take natural lanes
+
+-- thirteen digits, the last of them zeros where fewer of the lanes after the point have one
+abbrev pub after_point : ℕ → ℕ → List ℕ → List ℕ
+after_point natural fraction lanes = take 13 (take fraction (drop (natural + 1) lanes) ++ replicate 13 0)
+
+-- these in their lanes: those after the seventh after the point stand between the others
+abbrev pub in_lanes : List ℕ → List ℕ → List ℕ
+in_lanes before after = pick_l 0 (before ++ after) (0 ∷ 1 ∷ 2 ∷ 10 ∷ 3 ∷ 4 ∷ 5 ∷ 11 ∷ 6 ∷ 7 ∷ 8 ∷ 12 ∷ 9 ∷ 13 ∷ 14 ∷ 15 ∷ [])
+
+-- the number that the other lanes spell
+abbrev pub cut_in : List ℕ → ℕ
+cut_in lanes = fold with_value 0 (pick_l 0 lanes (0 ∷ 1 ∷ 2 ∷ 4 ∷ 5 ∷ 6 ∷ 8 ∷ 9 ∷ 10 ∷ 12 ∷ []))
+
+-- the lanes between
+abbrev pub rests_in : List ℕ → List ℕ
+rests_in lanes = pick_l 0 lanes (3 ∷ 7 ∷ 11 ∷ 13 ∷ 14 ∷ 15 ∷ [])
+
+-- the numbers of three lanes, three more, three more, and one
+abbrev pub by_parts : List ℕ → List ℕ
+by_parts (a ∷ b ∷ c ∷ _ ∷ d ∷ e ∷ f ∷ _ ∷ g ∷ h ∷ i ∷ _ ∷ j ∷ _) =
+    ((a * 10 + b) * 10 + c) ∷ ((d * 10 + e) * 10 + f) ∷ ((g * 10 + h) * 10 + i) ∷ j ∷ []
+by_parts _ = []
+
+-- each two numbers as one, the second below 10^4
+abbrev pub by_sevens : List ℕ → List ℕ
+by_sevens (a ∷ b ∷ numbers) = (a * 10000 + b) ∷ by_sevens numbers
+by_sevens _ = []
+
+-- A number stands in a piece from an index on: its first digit's index, one to three digits before its point and one to
+-- fifteen bytes after it, and the index of the byte after these.
+pub record IsSpan (piece : List ℕ) (at : ℕ) (negative : Bool) (first natural fraction end behind : ℕ) : Type 0 where
+  pub sign : StartsSigned (drop at piece) negative
+  pub first_is : first ≡ at + bool_byte negative
+  pub some : 0 < natural
+  pub few : natural ≤ 3
+  pub some_after : 0 < fraction
+  pub few_after : fraction ≤ 15
+  pub end_is : end ≡ first + natural + 1 + fraction
+  pub point : get_or piece (first + natural) 0 ≡ decimal_point
+  pub ends : get_or piece end 0 ≡ behind
+  pub one : get_or piece first 0 ≡ zero_digit → natural ≡ 1
+
+-- Where more than twelve bytes stand after the point, the last three of them are digits, and one of the others is no zero.
+pub record IsWhole (piece : List ℕ) (fraction end : ℕ) (precise : Bool) : Type 0 where
+  pub other : 12 < fraction → precise ≡ true
+  pub last : 12 < fraction → (i : ℕ) → end ≤ i + 3 → i < end → IsDigit (get_or piece i 0)
+
+-- a byte that ends a part of a number in a list of them
+abbrev pub is_mark : ℕ → Bool
+is_mark b = b == comma || b == decimal_point || b == close_bracket
+
+-- after so many bytes a mark, after so many more another, and so on, to four of them
+abbrev pub AreMarks : List Bool → ℕ → ℕ → ℕ → ℕ → Type 0
+AreMarks marks a b c d = (rest : List Bool)
+    × (marks ≡ replicate a false ++ true ∷ (replicate b false ++ true ∷ (replicate c false ++ true ∷ (replicate d false ++ true ∷ rest))))
+
+-- the indices of the first four marks
+pub record HasMarks (point comma other_point end a b c d : ℕ) : Type 0 where
+  pub point_is : point ≡ a
+  pub comma_is : comma ≡ a + 1 + b
+  pub other_point_is : other_point ≡ a + 1 + b + 1 + c
+  pub end_is : end ≡ a + 1 + b + 1 + c + 1 + d
+
+-- A number stands in a piece from an index on, with its point and the byte after it at these indices.
+pub record IsMarkedSpan (piece : List ℕ) (at point end behind : ℕ) : Type 0 where
+  pub natural : ℕ
+  pub fraction : ℕ
+  pub some : 0 < natural
+  pub few : natural ≤ 3
+  pub some_after : 0 < fraction
+  pub few_after : fraction ≤ 15
+  pub point_is : point ≡ at + bool_byte (get_or piece at 0 == minus_sign) + natural
+  pub end_is : end ≡ point + 1 + fraction
+  pub point_there : get_or piece point 0 ≡ decimal_point
+  pub ends : get_or piece end 0 ≡ behind
+  pub one : get_or piece (at + bool_byte (get_or piece at 0 == minus_sign)) 0 ≡ zero_digit → natural ≡ 1

@@ -1,0 +1,179 @@
+//! Two numbers with a comma between them, read as their cut values alone.
+//!
+//! A bit for each byte that is a comma, a point or a closing bracket says where the parts of two numbers end, if two
+//! numbers stand there. What does stand there is checked after that.
+ghost use mir.Val.{bool_byte};
+ghost use Rattle.std.specs.Prelude.{◌≡◌, ◌==◌, ℕ, ◌+◌, ◌*◌, ◌^◌, ◌<◌, ◌≤◌, length, map, take, drop, IsTrue, IfSome};
+ghost use Rattle.std.specs.Simd.Lanes.{mask_l};
+ghost use Rattle.std.specs.Option.{IsSome};
+ghost use Rattle.gj_number.specs.Cuts.{StartsWithCutPair};
+ghost use Rattle.gj_number.specs.Short.{StartsUsualPair};
+ghost use Rattle.gj_number.specs.Internal.CutLanes.{is_mark, AreMarks, HasMarks, IsMarkedSpan, IsSpan, IsWhole};
+
+use super::cut_lanes::{are_digits, cuts_of, placed_digits, rests_of};
+use crate::decimal::with_sign;
+use std::simd::prelude::*;
+
+/// A number as its value times 10^7, cut toward zero, and whether more than seven digits after its point say something.
+#[derive(Clone, Copy, Default)]
+pub struct Cut {
+    pub value: i64,
+    pub precise: bool,
+}
+
+/// Two numbers as their cut values, with the indices of the comma between them and of the byte after the second.
+#[derive(Clone, Copy)]
+pub struct CutPair {
+    pub first: Cut,
+    pub second: Cut,
+    pub comma: usize,
+    pub end: usize,
+}
+
+/// A number's sign, the index of its first digit, and how many bytes stand before its point and after it.
+#[derive(Clone, Copy)]
+struct Span {
+    negative: bool,
+    first: usize,
+    natural: usize,
+    fraction: usize,
+}
+
+/// The indices of the first four marks in a piece, 64 for one that is not there.
+#[derive(Clone, Copy)]
+struct Marks {
+    point: usize,
+    comma: usize,
+    other_point: usize,
+    end: usize,
+}
+
+/// A bit for each of sixteen bytes that is a comma, a point or a closing bracket.
+#[inline(always)]
+fn marks_at(piece: &[u8], at: usize) -> u64
+    requires { at + 16 ≤ length piece.now }
+    ensures { result ≡ mask_l (map is_mark (take 16 (drop at piece.now))) }
+{
+    let bytes = u8x16::from_slice(&piece[at..]);
+    let separators = (bytes & u8x16::splat(0xfd)).simd_eq(u8x16::splat(b','));
+    (separators | bytes.simd_eq(u8x16::splat(b']'))).to_bitmask()
+}
+
+/// A number without its lowest bit.
+#[inline(always)]
+fn without_lowest(bits: u64) -> u64
+    ensures { (k rest : ℕ) → bits ≡ (1 + 2 * rest) * 2 ^ k → result ≡ rest * 2 ^ (k + 1) }
+{
+    bits & bits.wrapping_sub(1)
+}
+
+/// The first four marks of a piece.
+#[inline(always)]
+fn first_marks(piece: &[u8]) -> Marks
+    requires { 48 ≤ length piece.now }
+    ensures point { result.point ≤ 64 }
+    ensures comma { result.comma ≤ 64 }
+    ensures other_point { result.other_point ≤ 64 }
+    ensures end { result.end ≤ 64 }
+    ensures first { (a b c d : ℕ) → AreMarks (map is_mark (take 48 piece.now)) a b c d → HasMarks result.point result.comma result.other_point result.end a b c d }
+{
+    let marks = marks_at(piece, 0) | (marks_at(piece, 16) << 16) | (marks_at(piece, 32) << 32);
+    let from_comma = without_lowest(marks);
+    let from_point = without_lowest(from_comma);
+    Marks {
+        point: marks.trailing_zeros() as usize,
+        comma: from_comma.trailing_zeros() as usize,
+        other_point: from_point.trailing_zeros() as usize,
+        end: without_lowest(from_point).trailing_zeros() as usize,
+    }
+}
+
+/// The number that begins at an index, has its point at another and ends before a third, where this byte stands.
+#[inline(always)]
+fn span_between(piece: &[u8], at: usize, point: usize, end: usize, behind: u8) -> Option<Span>
+    requires room { 64 ≤ length piece.now }
+    requires at { at ≤ 32 }
+    requires point { point ≤ 64 }
+    requires end { end ≤ 64 }
+    ensures point { IfSome result (λ span. point ≡ span.first + span.natural) }
+    ensures span { IfSome result (λ span. IsSpan piece.now at span.negative span.first span.natural span.fraction end behind) }
+    ensures taken { IsMarkedSpan piece.now at point end behind → IsSome result }
+{
+    let negative = piece[at] == b'-';
+    let first = at + negative as usize;
+    let natural = point.wrapping_sub(first);
+    let fraction = end.wrapping_sub(point + 1);
+    if natural.wrapping_sub(1) > 2 || fraction.wrapping_sub(1) > 14 {
+        return None;
+    }
+    if piece[point] != b'.' || piece[end] != behind {
+        return None;
+    }
+    if piece[first] == b'0' && natural != 1 {
+        return None;
+    }
+    Some(Span {
+        negative,
+        first,
+        natural,
+        fraction,
+    })
+}
+
+/// Whether the digits of a number that are in no lane are digits and need not be looked at.
+#[inline(always)]
+fn is_whole(piece: &[u8], end: usize, fraction: usize, precise: bool) -> bool
+    requires start { 3 ≤ end }
+    requires end { end ≤ length piece.now }
+    ensures whole { IsTrue result → IsWhole piece.now fraction end precise }
+    ensures taken { fraction ≤ 12 → IsTrue result }
+{
+    fraction <= 12
+        || (precise
+            && piece[end - 1].is_ascii_digit()
+            && piece[end - 2].is_ascii_digit()
+            && piece[end - 3].is_ascii_digit())
+}
+
+/// Reads two numbers from the start of a piece as their cut values, with a comma between them and no space, and a
+/// closing bracket after the second, where one to three digits stand before the point of each and eleven at most after
+/// it. Of others, `None` says that another reader is to read them.
+#[inline(always)]
+pub fn read_cut_pair(piece: &[u8]) -> Option<CutPair>
+    requires { 64 ≤ length piece.now }
+    ensures numbers { IfSome result (λ pair. StartsWithCutPair piece.now pair) }
+    ensures taken { (usual : StartsUsualPair piece.now) → usual.second_at ≡ usual.comma_at + 1 → IsSome result }
+{
+    let marks = first_marks(piece);
+    let Some(one) = span_between(piece, 0, marks.point, marks.comma, b',') else {
+        return None;
+    };
+    let at = marks.comma + 1;
+    let Some(other) = span_between(piece, at, marks.other_point, marks.end, b']') else {
+        return None;
+    };
+    let first = placed_digits(&piece[one.first..], one.natural, one.fraction);
+    let second = placed_digits(&piece[other.first..], other.natural, other.fraction);
+    if !are_digits(first, second) {
+        return None;
+    }
+    let (value, other_value) = cuts_of(first, second);
+    let (precise, other_precise) = rests_of(first, second);
+    if !is_whole(piece, marks.comma, one.fraction, precise)
+        || !is_whole(piece, marks.end, other.fraction, other_precise)
+    {
+        return None;
+    }
+    Some(CutPair {
+        first: Cut {
+            value: with_sign(one.negative, value),
+            precise,
+        },
+        second: Cut {
+            value: with_sign(other.negative, other_value),
+            precise: other_precise,
+        },
+        comma: marks.comma,
+        end: marks.end,
+    })
+}
