@@ -13,5 +13,7 @@ pub mod TakenFlats
 pub mod TakenTokens
 pub mod NumberRows
 pub mod TakenHeads
-pub mod PassedTokens
+pub mod TokensInLevels
 pub mod FlatsInTurn
+pub mod ReadPositions
+pub mod TakenPositions

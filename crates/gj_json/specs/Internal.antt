@@ -1,7 +1,6 @@
 -- What the proofs and the private functions of this crate need.
 pub mod NamedBytes
 pub mod ContentWords
-pub mod StayingEvents
 pub mod SpelledNumbers
 pub mod OpenLevels
 pub mod ByteClasses
@@ -20,3 +19,4 @@ pub mod FedReader
 pub mod WholeTokens
 pub mod WholeHeads
 pub mod FlatParts
+pub mod SpelledPositions

@@ -15,6 +15,7 @@ pub mod Open
 pub mod Path
 pub mod Runs
 pub mod Flat
+pub mod CutPosition
 pub mod Head
 pub mod Ignored
 pub mod Reader

@@ -1,6 +1,7 @@
 //! What a reader reports its events to.
-ghost use Rattle.std.specs.Prelude.{◌≡◌, ℕ, ◌≤◌, ◌<◌, ◌∷◌, ◌++◌, [], List, length, IsTrue, false};
+ghost use Rattle.std.specs.Prelude.{◌≡◌, ℕ, ◌≤◌, ◌<◌, ◌∷◌, ◌++◌, [], List, length, take, IsTrue, false};
 
+use crate::cut_position::CutPosition;
 use crate::event::{Event, What};
 use crate::flat::Flat;
 use crate::head::Head;
@@ -14,6 +15,8 @@ pub trait EventSink {
 
     ghost use Rattle.gj_json.specs.declared.event.Event.{Event};
     ghost use Rattle.gj_json.specs.Flat.{flat_events};
+    ghost use Rattle.gj_json.specs.declared.flat.Flat.{Flat};
+    ghost use Rattle.gj_json.specs.CutPosition.{AreCutPositions, Rise, flats_events};
     ghost use Rattle.gj_json.specs.Head.{head_events};
     ghost use Rattle.gj_json.specs.Ignored.{Leaves};
 
@@ -49,6 +52,18 @@ pub trait EventSink {
             place: flat.close,
             what: What::CloseArray,
         });
+    }
+
+    /// Arrays of two numbers, each of which stands after the one before, as their cut values: it takes those before the first
+    /// of which it asks for more, and returns how many. It has heard the events of these.
+    #[inline(always)]
+    fn tell_positions(&mut self, _positions: &[CutPosition]) -> usize
+        requires rising { Rise _positions.now }
+        ensures few { result ≤ length _positions.now }
+        ensures heard { (flats : List Flat) → AreCutPositions (take result _positions.now) flats → (events : List Event) → heard self.old events
+            → heard self.new (events ++ flats_events flats) }
+    {
+        0
     }
 
     /// Told the beginning of an object at once, it has heard the same as by its events in turn.

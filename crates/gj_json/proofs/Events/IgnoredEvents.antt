@@ -22,7 +22,7 @@ use Rattle.gj_json.specs.Internal.ReaderStep.{Applied, Takes, told_on, told_by, 
 use Rattle.gj_json.specs.Internal.ToldEvents.{ending_event, number_events, emitted, NumberTurn}
 use Rattle.gj_json.specs.Ignored.{levels_behind, Leaves}
 
-pub leaves_more : (k m n : ℕ) (first next : List Event) → Leaves k first m → Leaves m next n → Leaves k (first ++ next) n
+leaves_more : (k m n : ℕ) (first next : List Event) → Leaves k first m → Leaves m next n → Leaves k (first ++ next) n
 leaves_more k m n [] next h l = rw h l
 leaves_more zero m n (e ∷ first) next h l = absurd h
 leaves_more (suc k) m n (e ∷ first) next h l = leaves_more (levels_behind e.what (suc k)) m n first next h l
@@ -69,7 +69,7 @@ within_by floor old new mode turn made value start n h e l = (
   l,
 )
 
-outer_length : (levels : List Level) → length (outer_of levels) ≡ length levels - 1
+pub outer_length : (levels : List Level) → length (outer_of levels) ≡ length levels - 1
 outer_length [] = refl
 outer_length (level ∷ levels) = omega arith
 

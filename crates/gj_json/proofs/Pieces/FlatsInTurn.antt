@@ -34,7 +34,7 @@ next_due mode rest n m some byte =
 
 module _ {first before : List Event → Type 0} (start old : Reader) (piece rest : List ℕ) (within : length rest ≤ length piece)
     (fed : FeedsAll first before start old (take (length piece - length rest) piece)) where
-  depth_left : old.levels ≡ start.levels → length (levels_in start.levels) < start.limits.depth → length (levels_in old.levels) < old.limits.depth
+  pub depth_left : old.levels ≡ start.levels → length (levels_in start.levels) < start.limits.depth → length (levels_in old.levels) < old.limits.depth
   depth_left levels deep = rw (levels, fed.feeds.limits) deep
 
   pub room_left : start.offset + length piece ≤ start.limits.bytes → old.offset + length rest ≤ old.limits.bytes

@@ -218,7 +218,7 @@ module _ (limits : Allowed) (levels : List Level) (start : ℕ) where
 
 -- ---- from reader to reader
 
-pub taken_feeds : {before after : List Event → Type 0} (old new : Reader) (given : List ℕ) (mode : Mode) (es : List Event) → old.fault ≡ None
+taken_feeds : {before after : List Event → Type 0} (old new : Reader) (given : List ℕ) (mode : Mode) (es : List Event) → old.fault ≡ None
     → Passed (length given) mode old new
     → ((bytes : List ℕ) → StandsWell old.limits old.mode (levels_in old.levels) old.start old.offset bytes
     → After old.limits (levels_in old.levels) old.start mode old.offset (old.offset + length given) bytes given es)

@@ -35,8 +35,7 @@ use Rattle.gj_json.proofs.Grammar.UsualTokens.{plain}
 use Rattle.gj_json.proofs.Pieces.QuietModes.{quiet_leads}
 use Rattle.gj_json.proofs.Pieces.QuietRuns.{quiet_run}
 use Rattle.gj_json.proofs.Pieces.TakenFlats.{all_quiet, value_well}
-use Rattle.gj_json.proofs.Pieces.TakenTokens.{Moved, lands_feeds, done_go, done_close, string_leads, name_well, open_well}
-use Rattle.gj_json.proofs.Pieces.PassedTokens.{may_begin_due}
+use Rattle.gj_json.proofs.Pieces.TakenTokens.{Moved, lands_feeds, done_go, done_close, as_string, string_leads, name_well, may_begin_due, open_well}
 
 -- ---- bytes that lead from one mode to another, wherever they stand, and what is complete behind them
 
@@ -82,7 +81,7 @@ module _ (limits : Allowed) where
       → Carries limits mode levels ValueDue levels (named content gap) (λ n. event_at n (What.Name (known_of content)) ∷ [])
   name_carries mode levels content gap w q white =
       both mode ColonDue ValueDue levels levels levels (quoted content) (colon ∷ gap) (λ n. event_at n (What.Name (known_of content)) ∷ []) (λ n. [])
-      (record { moved = λ start offset bytes k room. name_well limits levels start mode offset bytes k w content (quoted content) q room })
+      (record { moved = λ start offset bytes k room. name_well limits levels start mode offset bytes k w (quoted content) (as_string q) room })
       (quiet ColonDue ValueDue levels (colon ∷ gap) (ValueDue, colon_by, quiet_leads ValueDue gap (all_quiet gap white)))
 
   -- a string in an object, the comma after it and white space
@@ -94,7 +93,7 @@ module _ (limits : Allowed) where
       (record {
         moved = λ start offset bytes k room.
             let g = value_well limits all start ValueDue offset bytes k refl (string offset content (offset + length given)) given
-            (string_leads content given offset q) (omega (arith, deep)) room in record { start = start; well = g.well; more = g.more };
+            (string_leads given offset (as_string q)) (omega (arith, deep)) room in record { start = start; well = g.well; more = g.more };
       })
       (both ValueDone NameDue NameDue all all all (comma ∷ []) gap (λ n. []) (λ n. [])
       (record {

@@ -46,7 +46,7 @@ use Rattle.gj_json.specs.Internal.SeenEvents.{seen, InTime, BegunAs, EdgeAt, par
 use Rattle.gj_json.specs.Internal.ReaderState.{StandsWell, StandsAs, LeafAs, FitsBroken, FitsName, levels_of}
 use Rattle.gj_json.specs.Internal.ReaderStep.{opened}
 use Rattle.gj_json.specs.Internal.ToldEvents.{ending_event, emitted, event_at, opening_of, closing_of, is_on, in_number, text_state, start_after, NumberTurn}
-use Rattle.gj_json.specs.Internal.WholeTokens.{IsQuoted, Lands, names, may_begin, bracket_of}
+use Rattle.gj_json.specs.Internal.WholeTokens.{IsQuoted, IsString, Lands, names, may_begin, bracket_of}
 use Rattle.gj_json.specs.Internal.UnderWay.{Turns, HasValue, under_of, number}
 use Rattle.gj_number.specs.Exact.{Exact}
 use Rattle.gj_number.specs.Grammar.{IsNumber}
@@ -68,7 +68,7 @@ use Rattle.gj_json.proofs.Pieces.PieceRests.{take_all_of, more_within}
 use Rattle.gj_json.proofs.Grammar.SpelledTexts.{quote_on}
 use Rattle.gj_json.proofs.Events.EventsOfSteps.{Tells}
 use Rattle.gj_json.proofs.Events.EventTimes.{told}
-use Rattle.gj_json.proofs.Machine.ReadValues.{letters_lead, digits_lead, a_string, a_name, text_leads}
+use Rattle.gj_json.proofs.Machine.ReadValues.{InQuotes, letters_lead, digits_lead, a_string, a_name, text_leads}
 
 -- ---- between two tokens
 
@@ -266,31 +266,38 @@ end_closes {before} {after} old new piece level some live done room e p heard =
 
 -- ---- a string, a name, a literal name
 
-pub reads_to : (state last : StringState) (bytes characters : List ℕ) → Reads state bytes characters last → StringTo state characters bytes last
+reads_to : (state last : StringState) (bytes characters : List ℕ) → Reads state bytes characters last → StringTo state characters bytes last
 reads_to state last [] characters h = (h.1, h.0)
 reads_to state last (b ∷ bytes) characters h = (h.1, h.0, h.2, h.3, h.4, reads_to h.0 last bytes h.2 h.5)
 
 abbrev Begins : Partial → List Frame → Type 0
 Begins s stack = (n b : ℕ) (c : Class) (next : Partial) → class_of b ≡ c → begin_value stack n b c ≡ Some next → step_leaf s.stack s.leaf n b ≡ Some next
 
-quoted_end : (content given : List ℕ) (n : ℕ) → IsQuoted content given → n + 1 + length content + 1 ≡ n + length given
-quoted_end content given n q = omega (arith, ap length q.spelled, length-append content (quote_byte ∷ []))
+abbrev pub as_string : {content given : List ℕ} → IsQuoted content given → IsString given
+as_string {content} q = record { run = content; characters = content; is = q.spelled; reads = q.reads }
 
-pub string_leads : (content given : List ℕ) (n : ℕ) → IsQuoted content given → (s : Partial) (stack : List Frame) → Begins s stack
-    → Leads s n given (at stack (value_done (string n content (n + length given))))
-string_leads content given n q s stack begins =
+string_end : (given : List ℕ) (n : ℕ) (q : IsString given) → n + 1 + length q.run + 1 ≡ n + length given
+string_end given n q = omega (arith, ap length q.is, length-append q.run (quote_byte ∷ []))
+
+-- a string or a name under way, up to its closing quote
+quoted_leads : {on : List ℕ → StringState → Leaf} {over : List ℕ → ℕ → Leaf} (stack : List Frame) → InQuotes stack on over → (run content : List ℕ) (n : ℕ)
+    → Reads Plain run content Plain
+    → Leads (at stack (on [] Plain)) n (run ++ quote_byte ∷ []) (at stack (over content (n + length run + 1)))
+quoted_leads {on} {over} stack q run content n h =
+    leads_on run (quote_byte ∷ []) refl (text_leads stack q run [] content Plain Plain n (reads_to Plain Plain run content h))
+    (leads_byte (q.ends content Plain (n + length run) quote_byte (quote_on quote_byte refl))
+    (leads_none (at stack (over content (n + length run + 1))) (n + length run + 1)))
+
+pub string_leads : (given : List ℕ) (n : ℕ) (q : IsString given) (s : Partial) (stack : List Frame) → Begins s stack
+    → Leads s n given (at stack (value_done (string n q.characters (n + length given))))
+string_leads given n q s stack begins =
     let opens : step_leaf s.stack s.leaf n quote_byte ≡ to stack (string_on n [] Plain) =
     begins n quote_byte quote (at stack (string_on n [] Plain)) (class_is quote quote_byte refl (λ e. cc)) refl in
-    let ends : Leads (at stack (string_on n content Plain)) (n + 1 + length content) (quote_byte ∷ [])
-    (at stack (value_done (string n content (n + 1 + length content + 1)))) =
-    leads_byte ((a_string stack n).ends content Plain (n + 1 + length content) quote_byte (quote_on quote_byte refl))
-    (leads_none (at stack (value_done (string n content (n + 1 + length content + 1)))) (n + 1 + length content + 1)) in
-    let inner = text_leads stack (a_string stack n) content [] content Plain Plain (n + 1) (reads_to Plain Plain content content q.reads) in
-    let all : Leads s n (quote_byte ∷ (content ++ quote_byte ∷ [])) (at stack (value_done (string n content (n + 1 + length content + 1)))) =
-    leads_byte opens (leads_on content (quote_byte ∷ []) refl inner ends) in
-    let P : List ℕ → Type 0 = λ xs. Leads s n xs (at stack (value_done (string n content (n + 1 + length content + 1)))) in
-    let Q : ℕ → Type 0 = λ m. Leads s n given (at stack (value_done (string n content m))) in
-    subst Q (quoted_end content given n q) (subst P (sym q.spelled) all)
+    let all : Leads s n (quote_byte ∷ (q.run ++ quote_byte ∷ [])) (at stack (value_done (string n q.characters (n + 1 + length q.run + 1)))) =
+    leads_byte opens (quoted_leads stack (a_string stack n) q.run q.characters (n + 1) q.reads) in
+    let P : List ℕ → Type 0 = λ xs. Leads s n xs (at stack (value_done (string n q.characters (n + 1 + length q.run + 1)))) in
+    let Q : ℕ → Type 0 = λ m. Leads s n given (at stack (value_done (string n q.characters m))) in
+    subst Q (string_end given n q) (subst P (sym q.is) all)
 
 constant_leads : (which : Constant) (given : List ℕ) (n : ℕ) → given ≡ letters_of which → (s : Partial) (stack : List Frame) → Begins s stack
     → Leads s n given (at stack (value_done (constant which n)))
@@ -320,11 +327,11 @@ module _ {before after : List Event → Type 0} (old new : Reader) (piece : List
       (omega (arith, flat, old.nested)) (omega (arith, l, room, w)) in record { start = old.start; well = g.well; more = g.more })
       heard
 
-  pub text_taken : (content : List ℕ) → IsQuoted content (take n piece)
-      → ((events : List Event) → before events → after (events ++ event_at old.offset (What.Text (word_of content)) ∷ []))
+  pub text_taken : (q : IsString (take n piece))
+      → ((events : List Event) → before events → after (events ++ event_at old.offset (What.Text (word_of q.characters)) ∷ []))
       → FeedsAll before after old new (take n piece)
-  text_taken content q heard =
-      value_taken (string old.offset content (old.offset + length (take n piece))) refl (string_leads content (take n piece) old.offset q) heard
+  text_taken q heard =
+      value_taken (string old.offset q.characters (old.offset + length (take n piece))) refl (string_leads (take n piece) old.offset q) heard
 
   pub constant_taken : (which : Constant) → take n piece ≡ letters_of which
       → ((events : List Event) → before events → after (events ++ event_at old.offset (what_of which) ∷ [])) → FeedsAll before after old new (take n piece)
@@ -333,7 +340,7 @@ module _ {before after : List Event → Type 0} (old new : Reader) (piece : List
 -- ---- a name
 
 -- where a name may begin: the object around it
-pub record IsNaming (state : Broken) (levels : List Level) (d : ℕ) : Type 0 where
+record IsNaming (state : Broken) (levels : List Level) (d : ℕ) : Type 0 where
   pub marked : Bool
   pub partial : Partial
   pub stack : List Frame
@@ -380,27 +387,22 @@ leaf_naming marked stack (string_on place so_far state) mode levels d w a f = le
 leaf_naming marked stack (name_on place done np so_far state) mode levels d w a f = let x = rw (a.0) at w in cc
 leaf_naming marked stack (colon_due place done np name ne) mode levels d w a f = let x = rw (a.0) at w in cc
 
-pub is_naming : (state : Broken) (mode : Mode) (levels : List Level) (d : ℕ) → names mode ≡ true → StandsAs state mode levels → FitsBroken d state
+is_naming : (state : Broken) (mode : Mode) (levels : List Level) (d : ℕ) → names mode ≡ true → StandsAs state mode levels → FitsBroken d state
     → IsNaming state levels d
 is_naming text_due mode levels d w a f = let x = rw (a.0) at w in cc
 is_naming mark_one mode levels d w a f = let x = rw (a.0) at w in cc
 is_naming mark_two mode levels d w a f = let x = rw (a.0) at w in cc
 is_naming (begun marked s) mode levels d w a f = leaf_naming marked s.stack s.leaf mode levels d w a f
 
-name_leads : (content given : List ℕ) (n place : ℕ) (done : List Member) → IsQuoted content given → (s : Partial) (stack : List Frame)
+name_leads : (given : List ℕ) (n place : ℕ) (done : List Member) (q : IsString given) (s : Partial) (stack : List Frame)
     → step_leaf s.stack s.leaf n quote_byte ≡ to stack (name_on place done n [] Plain)
-    → Leads s n given (at stack (colon_due place done n content (n + length given)))
-name_leads content given n place done q s stack opens =
-    let ends : Leads (at stack (name_on place done n content Plain)) (n + 1 + length content) (quote_byte ∷ [])
-    (at stack (colon_due place done n content (n + 1 + length content + 1))) =
-    leads_byte ((a_name stack place done n).ends content Plain (n + 1 + length content) quote_byte (quote_on quote_byte refl))
-    (leads_none (at stack (colon_due place done n content (n + 1 + length content + 1))) (n + 1 + length content + 1)) in
-    let inner = text_leads stack (a_name stack place done n) content [] content Plain Plain (n + 1) (reads_to Plain Plain content content q.reads) in
-    let all : Leads s n (quote_byte ∷ (content ++ quote_byte ∷ [])) (at stack (colon_due place done n content (n + 1 + length content + 1))) =
-    leads_byte opens (leads_on content (quote_byte ∷ []) refl inner ends) in
-    let P : List ℕ → Type 0 = λ xs. Leads s n xs (at stack (colon_due place done n content (n + 1 + length content + 1))) in
-    let Q : ℕ → Type 0 = λ m. Leads s n given (at stack (colon_due place done n content m)) in
-    subst Q (quoted_end content given n q) (subst P (sym q.spelled) all)
+    → Leads s n given (at stack (colon_due place done n q.characters (n + length given)))
+name_leads given n place done q s stack opens =
+    let all : Leads s n (quote_byte ∷ (q.run ++ quote_byte ∷ [])) (at stack (colon_due place done n q.characters (n + 1 + length q.run + 1))) =
+    leads_byte opens (quoted_leads stack (a_name stack place done n) q.run q.characters (n + 1) q.reads) in
+    let P : List ℕ → Type 0 = λ xs. Leads s n xs (at stack (colon_due place done n q.characters (n + 1 + length q.run + 1))) in
+    let Q : ℕ → Type 0 = λ m. Leads s n given (at stack (colon_due place done n q.characters m)) in
+    subst Q (string_end given n q) (subst P (sym q.is) all)
 
 module _ (limits : Allowed) (levels : List Level) (start : ℕ) where
   name_seen : (marked : Bool) (s : Partial) (stack : List Frame) (place : ℕ) (done : List Member) (np : ℕ) (name : List ℕ) (ne : ℕ)
@@ -417,15 +419,14 @@ module _ (limits : Allowed) (levels : List Level) (start : ℕ) where
       rw e (ap told g ∙ map-append (λ (x : Timed). x.event) (mark_events marked ++ (stack_timed stack ++ (opening ∷ done_members done))) last)
 
   pub name_well : (mode : Mode) (offset : ℕ) (bytes : List ℕ) (k : StandsWell limits mode levels start offset bytes) → names mode ≡ true
-      → (content given : List ℕ)
-      → IsQuoted content given → offset + length given ≤ limits.bytes
-      → Moved limits ColonDue levels offset (offset + length given) bytes given (event_at offset (What.Name (known_of content)) ∷ [])
-  name_well mode offset bytes k w content given q room =
+      → (given : List ℕ) (q : IsString given) → offset + length given ≤ limits.bytes
+      → Moved limits ColonDue levels offset (offset + length given) bytes given (event_at offset (What.Name (known_of q.characters)) ∷ [])
+  name_well mode offset bytes k w given q room =
       let i = is_naming k.state mode levels limits.depth w k.kept k.fits in
-      let next : Broken = begun i.marked (at i.stack (colon_due i.place i.done offset content (offset + length given))) in
+      let next : Broken = begun i.marked (at i.stack (colon_due i.place i.done offset q.characters (offset + length given))) in
       let l : offset + length given ≡ length (bytes ++ given) = omega (arith, k.at, length-append bytes given) in
       let z : 0 + length bytes ≡ offset = omega (arith, k.at) in
-      let leads = name_leads content given offset i.place i.done q i.partial i.stack (i.begins offset) in
+      let leads = name_leads given offset i.place i.done q i.partial i.stack (i.begins offset) in
       let runs : run (bytes ++ given) ≡ Some next =
       run_from-append bytes given (Some text_due) 0 ∙ ap (λ o. run_from o (0 + length bytes) given) (k.runs ∙ ap (λ (s : Broken). Some s) i.is)
       ∙ ap (λ n. run_from (Some (begun i.marked i.partial)) n given) z ∙ leads.goes i.marked in
@@ -439,24 +440,30 @@ module _ (limits : Allowed) (levels : List Level) (start : ℕ) where
         within = room;
         timely = record { seen_by = (let T : ℕ → Type 0 = λ m. InTime m (seen next) in subst T (sym l) r.timely.seen_by); edge = (tt, tt) };
       } in
-      let es = event_at offset (What.Name (known_of content)) ∷ [] in
+      let es = event_at offset (What.Name (known_of q.characters)) ∷ [] in
       let P : Broken → Type 0 = λ s. told (seen next) ≡ told (seen s) ++ es in
-      let seen_is : P k.state = subst P (sym i.is) (name_seen i.marked i.partial i.stack i.place i.done offset content (offset + length given) i.before) in
+      let seen_is : P k.state = subst P (sym i.is) (name_seen i.marked i.partial i.stack i.place i.done offset q.characters (offset + length given) i.before) in
       record { start = start; well = well; more = seen_between limits levels start mode ColonDue offset (offset + length given) bytes given k well es seen_is }
 
 name_taken : {before after : List Event → Type 0} (old new : Reader) (piece : List ℕ) (n : ℕ) → old.fault ≡ None → names old.mode ≡ true
-    → old.offset + length piece ≤ old.limits.bytes → n ≤ length piece → Passed n ColonDue old new → (content : List ℕ) → IsQuoted content (take n piece)
-    → ((events : List Event) → before events → after (events ++ event_at old.offset (What.Name (known_of content)) ∷ []))
+    → old.offset + length piece ≤ old.limits.bytes → n ≤ length piece → Passed n ColonDue old new → (q : IsString (take n piece))
+    → ((events : List Event) → before events → after (events ++ event_at old.offset (What.Name (known_of q.characters)) ∷ []))
     → FeedsAll before after old new (take n piece)
-name_taken {before} {after} old new piece n live due room w p content q heard =
+name_taken {before} {after} old new piece n live due room w p q heard =
     let l : length (take n piece) ≡ n = length-take-le n piece w in
     let P : ℕ → Type 0 = λ m. Passed m ColonDue old new in
     lands_feeds {before = before} {after = after} old new (take n piece) ColonDue (levels_in old.levels)
-    (event_at old.offset (What.Name (known_of content)) ∷ []) live (passed_lands (length (take n piece)) ColonDue old new (subst P (sym l) p)) refl
-    (λ bytes k. name_well old.limits (levels_in old.levels) old.start old.mode old.offset bytes k due content (take n piece) q (omega (arith, l, room, w)))
+    (event_at old.offset (What.Name (known_of q.characters)) ∷ []) live (passed_lands (length (take n piece)) ColonDue old new (subst P (sym l) p)) refl
+    (λ bytes k. name_well old.limits (levels_in old.levels) old.start old.mode old.offset bytes k due (take n piece) q (omega (arith, l, room, w)))
     heard
 
 -- ---- an opening bracket
+
+-- where a value is awaited, one may begin
+pub may_begin_due : (mode : Mode) → awaits mode ≡ true → may_begin mode ≡ true
+may_begin_due ValueDue w = refl
+may_begin_due ArrayOpened w = refl
+may_begin_due _ w = cc
 
 opens : (mode : Mode) → may_begin mode ≡ true → (level : Level) (turn : NumberTurn) (inner : Option Level) (words : Words)
     → move_of mode turn inner words (bracket_of level) ≡ Open level
@@ -666,18 +673,18 @@ module _ (old new : Reader) (piece : List ℕ) (n : ℕ) (value : Option Exact) 
 
 -- a name and its colon
 pub named_taken : {before after : List Event → Type 0} (old new : Reader) (piece : List ℕ) (n k : ℕ) → old.fault ≡ None → names old.mode ≡ true
-    → old.offset + length piece ≤ old.limits.bytes → n ≤ length piece → (content : List ℕ) → IsQuoted content (take n piece)
+    → old.offset + length piece ≤ old.limits.bytes → n ≤ length piece → (q : IsString (take n piece))
     → k ≤ length (take (length piece - n) (drop n piece)) → LeadsOn ColonDue (take k (take (length piece - n) (drop n piece))) ValueDue
     → Passed (n + k) ValueDue old new
-    → ((events : List Event) → before events → after (events ++ event_at old.offset (What.Name (known_of content)) ∷ []))
+    → ((events : List Event) → before events → after (events ++ event_at old.offset (What.Name (known_of q.characters)) ∷ []))
     → FeedsAll before after old new (take (n + k) piece)
-named_taken {before} {after} old new piece n k live due room w content q few leads p heard =
+named_taken {before} {after} old new piece n k live due room w q few leads p heard =
     let given = take k (take (length piece - n) (drop n piece)) in
     let one : IsMode ColonDue = omega arith in
     let r : old.offset + n ≤ old.limits.bytes = omega (arith, room, w) in
     let mid : Reader = mid_of old n ColonDue one r in
     let long : length given ≡ k = length-take-le k (take (length piece - n) (drop n piece)) few in
-    let fed : FeedsAll before after old mid (take n piece) = name_taken old mid piece n live due room w (to_mid old n ColonDue one r) content q heard in
+    let fed : FeedsAll before after old mid (take n piece) = name_taken old mid piece n live due room w (to_mid old n ColonDue one r) q heard in
     let skips : Skips mid new given = leads_skips mid new given k ValueDue long (from_mid old new n k (n + k) ColonDue ValueDue one r refl p) leads refl refl in
     let rest : FeedsAll after after mid new given = skip_feeds mid new given live (omega (arith, long, room, more_within piece n k w few)) skips in
     piece_all old mid new piece n k fed (rest_all mid new piece n k rest)

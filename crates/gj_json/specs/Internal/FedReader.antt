@@ -1,8 +1,8 @@
 -- What a call that takes bytes leaves of a reader and of a sink.
-use Rattle.std.specs.Prelude.{◌≡◌, ℕ, ◌+◌, ◌-◌, ◌≤◌, ◌⊎◌, false, List, [], ◌∷◌, ◌++◌, length, take, Some, None}
+use Rattle.std.specs.Prelude.{◌≡◌, ℕ, ◌+◌, ◌-◌, ◌≤◌, ◌<◌, ◌⊎◌, Bool, true, false, List, [], ◌∷◌, ◌++◌, length, take, Some, None}
 use Rattle.gj_number.specs.Grammar.{BeginsNumber}
 use Rattle.gj_number.specs.Literal.{StandsFor as LiteralStandsFor}
-use Rattle.gj_json.specs.declared.mode.Mode.TheVariants.{NumberOn, StringOn, NameOn}
+use Rattle.gj_json.specs.declared.mode.Mode.TheVariants.{NumberOn, StringOn, NameOn, NameDue}
 use Rattle.gj_json.specs.Internal.ToldEvents.{in_number, text_state}
 use Rattle.gj_json.specs.Internal.KeptContent.{Holds}
 use Rattle.gj_json.specs.declared.mode.StringState.{StringState}
@@ -13,7 +13,6 @@ use Rattle.gj_json.specs.declared.reader.Reader.{Reader}
 use Rattle.gj_json.specs.Internal.QuietBytes.{Leads, Reads}
 use Rattle.gj_json.specs.Internal.OpenLevels.{levels_in}
 use Rattle.gj_json.specs.Ignored.{Leaves}
-use Rattle.gj_json.specs.Internal.StayingEvents.{Stays}
 use Rattle.gj_json.specs.Reader.{StandsFor, Hears, Completed}
 
 -- a string goes on as a string, or a name as a name
@@ -88,7 +87,17 @@ FeedsWithin floor old new given = FeedsAll (λ events. events ≡ []) (λ events
 abbrev pub FeedsWithinTo : ℕ → Reader → Reader → List ℕ → JsonFault → Type 0
 FeedsWithinTo floor old new given fault = FeedsTo (λ events. events ≡ []) (λ events. Leaves (above floor old) events (above floor new)) old new given fault
 
--- and it opened and closed none
-pub record FeedsLevel (old new : Reader) (given : List ℕ) : Type 0 where
-  pub feeds : FeedsAll (λ events. events ≡ []) Stays old new given
-  pub levels : new.levels ≡ old.levels
+-- The reader was given these bytes, of which the last alone may close a level: within any levels that are open, what they
+-- complete leaves those that are.
+pub record FeedsAny (old new : Reader) (given : List ℕ) : Type 0 where
+  pub limits : new.limits ≡ old.limits
+  pub live : new.fault ≡ None
+  pub offset : new.offset ≡ old.offset + length given
+  pub within : (floor : ℕ) → floor < length (levels_in old.levels) → FeedsWithin floor old new given
+  pub one : length (levels_in old.levels) ≤ length (levels_in new.levels) + 1
+  pub named : new.mode ≡ NameDue → length (levels_in old.levels) ≤ length (levels_in new.levels)
+
+-- The reader was given these bytes, and a sink that hears tokens has heard of them what was taken.
+abbrev pub FeedsToken : Bool → (List Event → Type 0) → (List Event → Type 0) → Reader → Reader → List ℕ → Type 0
+FeedsToken true heard_before heard_after old new given = FeedsAll heard_before heard_after old new given
+FeedsToken false heard_before heard_after old new given = FeedsAny old new given

@@ -7,6 +7,7 @@ ghost use Rattle.gj_json.specs.Internal.OpenLevels.{levels_in, inner_of};
 ghost use Rattle.gj_json.specs.declared.levels.Level.TheVariants.{Array};
 
 use super::Reader;
+use super::positions::FEW;
 use crate::flat::Flat;
 use crate::flats::{comma_run, read_flat};
 use crate::levels::Level;
@@ -120,6 +121,7 @@ impl Reader {
         let mut flat = Flat::blank();
         let mut rest = piece;
         let mut begins = true;
+        let mut left = FEW;
         while begins {
             let Some(count) = read_flat(rest, self.offset, &mut flat) else {
                 return piece.len() - rest.len();
@@ -128,6 +130,8 @@ impl Reader {
             if begins_next(&rest[count..]) {
                 self.skip(count + 1, Mode::ValueDue);
                 rest = &rest[count + 1..];
+                let many = self.take_if_many(rest, &mut left, sink);
+                rest = &rest[many..];
             } else {
                 let comma = comma_run(&rest[count..]);
                 if comma == 0 {

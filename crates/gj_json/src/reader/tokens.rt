@@ -1,5 +1,6 @@
 //! Whole tokens, from what the reader keeps: one after another, as long as each stands whole in the piece and is of the
-//! usual kind.
+//! usual kind. Where `HEARS` is false, no event matters: what strings, names and numbers say is then not sought, and a string or
+//! a name may have any characters.
 
 ghost use Rattle.std.specs.Prelude.{◌≡◌, ◌+◌, ◌-◌, ◌^◌, ◌≤◌, ◌<◌, ◌++◌, ◌∷◌, [], true, List, length, take, get_or, None, Some, IsTrue};
 ghost use Rattle.gj_number.specs.Grammar.{IsNumber};
@@ -25,9 +26,9 @@ use crate::move_events::{closing, is_on, opening, what_of};
 use crate::moves::{after_value, opened_mode};
 use crate::names::{name_of, type_of};
 use crate::sink::EventSink;
-use crate::tokens::{constant_run, plain_quoted_run};
+use crate::tokens::{constant_run, plain_quoted_run, quoted_run};
 use crate::usual::{usual_name, usual_text};
-use gj_number::{Decimal, Literal, Short, read_decimal};
+use gj_number::{Decimal, Literal, Short, read_decimal, read_short};
 
 /// A piece of fewer bytes is taken byte by byte.
 const SHORTEST: usize = 16;
@@ -94,7 +95,7 @@ struct Row {
 
 impl Reader {
     ghost use Rattle.gj_json.specs.declared.event.Event.{Event};
-    ghost use Rattle.gj_json.specs.Internal.FedReader.{FeedsAll};
+    ghost use Rattle.gj_json.specs.Internal.FedReader.{Passed, FeedsAll, FeedsAny, FeedsToken};
     ghost use Rattle.gj_json.specs.Internal.WholeTokens.{Lands};
 
     /// Takes a string of plain characters that is a value: how many bytes, or 0.
@@ -107,7 +108,7 @@ impl Reader {
         requires room { self.old.offset + length piece.now ≤ self.old.limits.bytes }
         requires small { self.old.limits.bytes ≤ 2 ^ 60 }
         ensures within { result ≤ length piece.now }
-        ensures mode { 0 < result → self.new.mode ≡ ValueDone }
+        ensures passed { 0 < result → Passed result ValueDone self.old self.new }
         ensures feeds { FeedsAll (S.heard sink.old) (S.heard sink.new) self.old self.new (take result piece.now) }
     {
         let count = plain_quoted_run(piece);
@@ -131,7 +132,7 @@ impl Reader {
         requires room { self.old.offset + length piece.now ≤ self.old.limits.bytes }
         requires small { self.old.limits.bytes ≤ 2 ^ 60 }
         ensures within { result ≤ length piece.now }
-        ensures mode { 0 < result → self.new.mode ≡ ValueDone }
+        ensures passed { 0 < result → Passed result ValueDone self.old self.new }
         ensures feeds { FeedsAll (S.heard sink.old) (S.heard sink.new) self.old self.new (take result piece.now) }
     {
         let usual = usual_text(piece);
@@ -143,6 +144,46 @@ impl Reader {
             what: What::Text(usual.word),
         });
         self.skip(usual.count, Mode::ValueDone)
+    }
+
+    /// Takes a string of any characters that is a value: how many bytes, or 0.
+    #[inline(always)]
+    fn pass_text(&mut self, piece: &[u8]) -> usize
+        requires some { 0 < length piece.now }
+        requires begins { get_or piece.now 0 0 ≡ quote }
+        requires live { self.old.fault ≡ None }
+        requires due { awaits self.old.mode ≡ true }
+        requires room { self.old.offset + length piece.now ≤ self.old.limits.bytes }
+        requires small { self.old.limits.bytes ≤ 2 ^ 60 }
+        ensures within { result ≤ length piece.now }
+        ensures passed { 0 < result → Passed result ValueDone self.old self.new }
+        ensures feeds { FeedsAny self.old self.new (take result piece.now) }
+    {
+        let count = quoted_run(piece);
+        if count == 0 {
+            return 0;
+        }
+        self.skip(count, Mode::ValueDone)
+    }
+
+    /// Takes a string that is a value, and of those that are heard only one of plain characters: how many bytes, or 0.
+    #[inline(always)]
+    fn take_string<S: EventSink, const HEARS: bool>(&mut self, piece: &[u8], sink: &mut S) -> usize
+        requires some { 0 < length piece.now }
+        requires begins { get_or piece.now 0 0 ≡ quote }
+        requires live { self.old.fault ≡ None }
+        requires due { awaits self.old.mode ≡ true }
+        requires room { self.old.offset + length piece.now ≤ self.old.limits.bytes }
+        requires small { self.old.limits.bytes ≤ 2 ^ 60 }
+        ensures within { result ≤ length piece.now }
+        ensures passed { 0 < result → Passed result ValueDone self.old self.new }
+        ensures feeds { FeedsToken HEARS (S.heard sink.old) (S.heard sink.new) self.old self.new (take result piece.now) }
+    {
+        if HEARS {
+            self.take_text(piece, sink)
+        } else {
+            self.pass_text(piece)
+        }
     }
 
     /// Takes a name of plain characters and its colon, with the white space around that: how many bytes, or 0.
@@ -175,6 +216,31 @@ impl Reader {
         self.skip(name + colon, Mode::ValueDue)
     }
 
+    /// Takes a name of any characters and its colon, with the white space around that: how many bytes, or 0.
+    #[inline(always)]
+    pub(super) fn pass_name(&mut self, piece: &[u8]) -> usize
+        requires some { 0 < length piece.now }
+        requires begins { get_or piece.now 0 0 ≡ quote }
+        requires live { self.old.fault ≡ None }
+        requires due { names self.old.mode ≡ true }
+        requires room { self.old.offset + length piece.now ≤ self.old.limits.bytes }
+        requires small { self.old.limits.bytes ≤ 2 ^ 60 }
+        ensures within { result ≤ length piece.now }
+        ensures some { self.new.mode ≡ ValueDue → 0 < result }
+        ensures levels { self.new.levels ≡ self.old.levels }
+        ensures feeds { FeedsAny self.old self.new (take result piece.now) }
+    {
+        let name = quoted_run(piece);
+        if name == 0 {
+            return 0;
+        }
+        let colon = colon_run(&piece[name..]);
+        if colon == 0 {
+            return 0;
+        }
+        self.skip(name + colon, Mode::ValueDue)
+    }
+
     /// As `take_plain_name`, at once where the name is a usual one with its colon after it.
     #[inline(always)]
     pub(super) fn take_named<S: EventSink>(&mut self, piece: &[u8], sink: &mut S) -> usize
@@ -199,7 +265,7 @@ impl Reader {
         self.skip(usual.count + colon, Mode::ValueDue)
     }
 
-    /// Takes the literal name: how many bytes, or 0.
+    /// Takes the literal name, and the byte after it: how many bytes, or 0.
     #[inline(always)]
     fn take_constant<S: EventSink>(&mut self, which: Constant, piece: &[u8], sink: &mut S) -> usize
         requires live { self.old.fault ≡ None }
@@ -208,6 +274,7 @@ impl Reader {
         requires small { self.old.limits.bytes ≤ 2 ^ 60 }
         ensures within { result ≤ length piece.now }
         ensures feeds { FeedsAll (S.heard sink.old) (S.heard sink.new) self.old self.new (take result piece.now) }
+        ensures any { FeedsAny self.old self.new (take result piece.now) }
     {
         let count = constant_run(which, piece);
         if count == 0 {
@@ -217,7 +284,11 @@ impl Reader {
             place: self.offset,
             what: what_of(which),
         });
-        self.skip(count, Mode::ValueDone)
+        self.skip(count, Mode::ValueDone);
+        if count == piece.len() {
+            return count;
+        }
+        count + self.take_end(&piece[count..], sink)
     }
 
     /// Takes the bracket that opens a level: 1, or 0 where it opens one level too many.
@@ -237,6 +308,7 @@ impl Reader {
         ensures within { result ≤ length piece.now }
         ensures lands { 0 < result → Lands 1 (opened level) (level ∷ levels_in self.old.levels) self.old self.new }
         ensures feeds { FeedsAll (S.heard sink.old) (S.heard sink.new) self.old self.new (take result piece.now) }
+        ensures any { FeedsAny self.old self.new (take result piece.now) }
     {
         if self.levels.len() >= self.limits.depth() {
             return 0;
@@ -271,7 +343,7 @@ impl Reader {
     /// Takes the number that the piece starts with, whose length is given, and the byte after it: how many bytes, or 0 where that
     /// byte ends no value.
     #[inline(always)]
-    fn end_number<S: EventSink>(
+    fn end_number<S: EventSink, const HEARS: bool>(
         &mut self,
         count: usize,
         value: Option<Decimal>,
@@ -280,18 +352,31 @@ impl Reader {
     ) -> usize
         requires within { count < length piece.now }
         requires number { IsNumber (take count piece.now) }
-        requires value { value_of (take count piece.now) ≡ value }
+        requires value { HEARS ≡ true → value_of (take count piece.now) ≡ value }
         requires live { self.old.fault ≡ None }
         requires due { awaits self.old.mode ≡ true }
         requires room { self.old.offset + length piece.now ≤ self.old.limits.bytes }
         requires small { self.old.limits.bytes ≤ 2 ^ 60 }
         ensures within { result ≤ length piece.now }
-        ensures feeds { FeedsAll (S.heard sink.old) (S.heard sink.new) self.old self.new (take result piece.now) }
+        ensures feeds { FeedsToken HEARS (S.heard sink.old) (S.heard sink.new) self.old self.new (take result piece.now) }
     {
         let event = Event {
             place: self.offset,
             what: What::Number(value),
         };
+        if piece[count] == b',' {
+            return match self.levels.inner() {
+                Some(Level::Array) => {
+                    sink.tell(event);
+                    self.skip(count + 1, Mode::ValueDue)
+                }
+                Some(Level::Object) => {
+                    sink.tell(event);
+                    self.skip(count + 1, Mode::NameDue)
+                }
+                None => 0,
+            };
+        }
         match after_value(self.levels.inner(), piece[count]) {
             Move::Go(mode, _) => {
                 sink.tell(event);
@@ -307,41 +392,53 @@ impl Reader {
 
     /// Takes a number of any style and the byte after it: how many bytes, or 0.
     #[inline(never)]
-    fn take_any_number<S: EventSink>(&mut self, piece: &[u8], sink: &mut S) -> usize
+    fn take_any_number<S: EventSink, const HEARS: bool>(
+        &mut self,
+        piece: &[u8],
+        sink: &mut S,
+    ) -> usize
         requires live { self.old.fault ≡ None }
         requires due { awaits self.old.mode ≡ true }
         requires room { self.old.offset + length piece.now ≤ self.old.limits.bytes }
         requires small { self.old.limits.bytes ≤ 2 ^ 60 }
         ensures within { result ≤ length piece.now }
-        ensures feeds { FeedsAll (S.heard sink.old) (S.heard sink.new) self.old self.new (take result piece.now) }
+        ensures feeds { FeedsToken HEARS (S.heard sink.old) (S.heard sink.new) self.old self.new (take result piece.now) }
     {
         let mut literal = Literal::new();
         let count = literal.push_piece(piece);
         if count == piece.len() || !literal.may_end() {
             return 0;
         }
-        self.end_number(count, literal.value(), piece, sink)
+        self.end_number::<S, HEARS>(count, literal.value(), piece, sink)
     }
 
     /// Takes a number and the byte after it, at once where it is an ordinary one: how many bytes, or 0.
     #[inline(always)]
-    fn take_number<S: EventSink>(&mut self, piece: &[u8], sink: &mut S) -> usize
+    fn take_number<S: EventSink, const HEARS: bool>(&mut self, piece: &[u8], sink: &mut S) -> usize
         requires live { self.old.fault ≡ None }
         requires due { awaits self.old.mode ≡ true }
         requires room { self.old.offset + length piece.now ≤ self.old.limits.bytes }
         requires small { self.old.limits.bytes ≤ 2 ^ 60 }
         ensures within { result ≤ length piece.now }
-        ensures feeds { FeedsAll (S.heard sink.old) (S.heard sink.new) self.old self.new (take result piece.now) }
+        ensures feeds { FeedsToken HEARS (S.heard sink.old) (S.heard sink.new) self.old self.new (take result piece.now) }
     {
+        if !HEARS {
+            let mut number = Short::zero();
+            let count = read_short(piece, &mut number);
+            if count == 0 {
+                return self.take_any_number::<S, HEARS>(piece, sink);
+            }
+            return self.end_number::<S, HEARS>(count, None, piece, sink);
+        }
         if is_cut(piece) {
             return 0;
         }
         let mut value = Short::zero().decimal();
         let count = read_decimal(piece, &mut value);
         if count == 0 {
-            return self.take_any_number(piece, sink);
+            return self.take_any_number::<S, HEARS>(piece, sink);
         }
-        self.end_number(count, Some(value), piece, sink)
+        self.end_number::<S, HEARS>(count, Some(value), piece, sink)
     }
 
     /// Takes the byte after a value, where it is a comma, a closing bracket or white space: 1, or 0.
@@ -354,7 +451,15 @@ impl Reader {
         requires small { self.old.limits.bytes ≤ 2 ^ 60 }
         ensures within { result ≤ length piece.now }
         ensures feeds { FeedsAll (S.heard sink.old) (S.heard sink.new) self.old self.new (take result piece.now) }
+        ensures any { FeedsAny self.old self.new (take result piece.now) }
     {
+        if piece[0] == b',' {
+            return match self.levels.inner() {
+                Some(Level::Array) => self.skip(1, Mode::ValueDue),
+                Some(Level::Object) => self.skip(1, Mode::NameDue),
+                None => 0,
+            };
+        }
         match after_value(self.levels.inner(), piece[0]) {
             Move::Go(mode, _) => self.skip(1, mode),
             Move::Close(level) => self.take_close(level, 1, sink),
@@ -362,10 +467,11 @@ impl Reader {
         }
     }
 
-    /// Takes a value that stands whole, or the bracket that opens one: how many bytes, or 0.
+    /// Takes an array of numbers, or the bracket that opens an array: how many bytes, or 0.
     #[inline(always)]
-    fn take_value<S: EventSink>(&mut self, piece: &[u8], sink: &mut S) -> usize
+    fn take_array<S: EventSink>(&mut self, piece: &[u8], sink: &mut S) -> usize
         requires some { 0 < length piece.now }
+        requires begins { get_or piece.now 0 0 ≡ open_bracket }
         requires live { self.old.fault ≡ None }
         requires due { awaits self.old.mode ≡ true }
         requires room { self.old.offset + length piece.now ≤ self.old.limits.bytes }
@@ -373,30 +479,58 @@ impl Reader {
         ensures within { result ≤ length piece.now }
         ensures feeds { FeedsAll (S.heard sink.old) (S.heard sink.new) self.old self.new (take result piece.now) }
     {
+        // No array of numbers begins so.
+        if piece.len() > 1 && piece[1] == b'[' {
+            return self.take_open(Level::Array, piece, sink);
+        }
+        let flats = self.take_flats(piece, sink);
+        if flats > 0 || !self.may_open() {
+            return flats;
+        }
+        self.take_rows(piece, sink)
+    }
+
+    /// Takes a value that stands whole with the byte after it, or the bracket that opens one: how many bytes, or 0.
+    #[inline(always)]
+    pub(super) fn take_value<S: EventSink, const HEARS: bool>(
+        &mut self,
+        piece: &[u8],
+        sink: &mut S,
+    ) -> usize
+        requires some { 0 < length piece.now }
+        requires live { self.old.fault ≡ None }
+        requires due { awaits self.old.mode ≡ true }
+        requires room { self.old.offset + length piece.now ≤ self.old.limits.bytes }
+        requires small { self.old.limits.bytes ≤ 2 ^ 60 }
+        ensures within { result ≤ length piece.now }
+        ensures feeds { FeedsToken HEARS (S.heard sink.old) (S.heard sink.new) self.old self.new (take result piece.now) }
+    {
         match piece[0] {
             b'"' => {
-                let text = self.take_text(piece, sink);
+                let text = self.take_string::<S, HEARS>(piece, sink);
                 if text == 0 || text == piece.len() {
                     return text;
                 }
                 text + self.take_end(&piece[text..], sink)
             }
-            b'{' => self.take_object(piece, sink),
+            b'{' => {
+                if HEARS {
+                    self.take_object(piece, sink)
+                } else {
+                    self.take_open(Level::Object, piece, sink)
+                }
+            }
             b'[' => {
-                // No array of numbers begins so.
-                if piece.len() > 1 && piece[1] == b'[' {
-                    return self.take_open(Level::Array, piece, sink);
+                if HEARS {
+                    self.take_array(piece, sink)
+                } else {
+                    self.take_open(Level::Array, piece, sink)
                 }
-                let flats = self.take_flats(piece, sink);
-                if flats > 0 || !self.may_open() {
-                    return flats;
-                }
-                self.take_rows(piece, sink)
             }
             b'n' => self.take_constant(Constant::Null, piece, sink),
             b't' => self.take_constant(Constant::True, piece, sink),
             b'f' => self.take_constant(Constant::False, piece, sink),
-            _ => self.take_number(piece, sink),
+            _ => self.take_number::<S, HEARS>(piece, sink),
         }
     }
 
@@ -539,13 +673,14 @@ impl Reader {
     /// Takes the white space at the start of the piece: how many bytes. One byte after a value, as at the end of a record, is
     /// taken as any other byte there.
     #[inline(never)]
-    fn take_white<S: EventSink>(&mut self, piece: &[u8], sink: &mut S) -> usize
+    pub(super) fn take_white<S: EventSink>(&mut self, piece: &[u8], sink: &mut S) -> usize
         requires some { 0 < length piece.now }
         requires live { self.old.fault ≡ None }
         requires room { self.old.offset + length piece.now ≤ self.old.limits.bytes }
         requires small { self.old.limits.bytes ≤ 2 ^ 60 }
         ensures within { result ≤ length piece.now }
         ensures feeds { FeedsAll (S.heard sink.old) (S.heard sink.new) self.old self.new (take result piece.now) }
+        ensures any { FeedsAny self.old self.new (take result piece.now) }
     {
         if piece.len() > 1 {
             return self.skip_white(piece);
@@ -580,13 +715,13 @@ impl Reader {
                 if named == 0 || named == piece.len() {
                     return named;
                 }
-                named + self.take_value(&piece[named..], sink)
+                named + self.take_value::<S, true>(&piece[named..], sink)
             }
             Mode::ValueDue | Mode::ArrayOpened => {
                 if sink.ignored() > 0 {
                     return 0;
                 }
-                self.take_value(piece, sink)
+                self.take_value::<S, true>(piece, sink)
             }
             _ => 0,
         }

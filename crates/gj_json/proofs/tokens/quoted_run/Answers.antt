@@ -1,6 +1,6 @@
 -- Plain characters and others, and the quotes around them.
 use Rattle.std.proofs.Common.{arith}
-use Rattle.gj_json.proofs.Pieces.PassedTokens.{quoted_is, more_quoted}
+use Rattle.gj_json.proofs.Pieces.TokensInLevels.{quoted_is, more_quoted}
 use Rattle.gj_json.proofs.tokens.quoted_run.Goals as goal
 
 pub returns-then-piece-plain-eq34-clause-quoted : goal.returns-then-piece-plain-eq34-clause-quoted

@@ -1,5 +1,5 @@
-use Rattle.std.proofs.Common.{◌≡◌, ◌≤◌, ◌<◌, ◌-◌, true, length, take}
-use Rattle.gj_json.specs.Internal.FedReader.{FeedsWithin}
+use Rattle.std.proofs.Common.{◌≡◌, ◌≤◌, ◌-◌, true, length, take}
+use Rattle.gj_json.specs.Internal.FedReader.{FeedsAny}
 use Rattle.gj_json.specs.Internal.OpenLevels.{levels_in}
 use Rattle.gj_json.specs.Internal.WholeTokens.{names}
 use Rattle.gj_json.proofs.reader.Reader.pass_members.Given as goal
@@ -8,8 +8,8 @@ abbrev pub invariant-loop-at : goal.invariant-loop-at
 invariant-loop-at l = record {
   within : l.at ≤ length l.piece;
   due : names l.self.mode ≡ true;
-  above : l.floor < length (levels_in l.self.levels);
-  fed : FeedsWithin l.floor l.fn.self l.self (take l.at l.piece);
+  few : length (levels_in l.fn.self.levels) ≤ length (levels_in l.self.levels);
+  fed : FeedsAny l.fn.self l.self (take l.at l.piece);
 }
 
 abbrev pub decreases-loop-at : goal.decreases-loop-at

@@ -1,11 +1,22 @@
--- A name goes up to its quote.
-use Rattle.std.proofs.Common.{arith}
-use Rattle.gj_json.proofs.Pieces.PassedTokens.{name_passed}
+-- A name and its colon open and close nothing.
+use Rattle.std.proofs.Common.{◌≡◌, ◌+◌, List, [], ◌∷◌, take, refl, ap, arith}
+use Rattle.gj_json.specs.declared.event.Event.{Event}
+use Rattle.gj_json.specs.declared.event.What.{What}
+use Rattle.gj_json.specs.Names.{known_of}
+use Rattle.gj_json.specs.Internal.OpenLevels.{levels_in}
+use Rattle.gj_json.specs.Internal.ToldEvents.{event_at}
+use Rattle.gj_json.proofs.Pieces.TakenTokens.{named_taken}
+use Rattle.gj_json.proofs.Pieces.TokensInLevels.{from_none, any_level}
 use Rattle.gj_json.proofs.reader.Reader.pass_name.Goals as goal
 
 pub returns-clause-feeds : goal.returns-clause-feeds
 returns-clause-feeds c =
-    let q = c.quoted_run-count in
+    let q = c.quoted_run-name in
+    let k = c.colon_run-colon in
+    let quoted = q.ensures.quoted (omega arith) in
+    let es : List Event = event_at c.args.self.now.offset (What.Name (known_of quoted.characters)) ∷ [] in
     rw (c.skip.ensures.count)
-    (name_passed c.args.self.now c.skip.new.self c.args.piece.now q.result c.requires.live c.requires.due c.requires.room q.ensures.within
-    (q.ensures.quoted (omega arith)) c.skip.ensures.passed)
+    (any_level c.args.self.now c.skip.new.self (take (q.result + k.result) c.args.piece.now) es
+    (named_taken {before = λ events. events ≡ []} {after = λ events. events ≡ es} c.args.self.now c.skip.new.self c.args.piece.now q.result k.result
+    c.requires.live c.requires.due c.requires.room q.ensures.within quoted k.ensures.within (k.ensures.leads (omega arith)) c.skip.ensures.passed
+    (from_none es)) (λ k. refl) (ap levels_in c.skip.ensures.passed.levels))

@@ -1,5 +1,6 @@
 -- What was read is a number, since it may end there, and its value is that of these bytes.
 use Rattle.std.proofs.Common.{take, [], sym}
+use Rattle.gj_json.proofs.Pieces.TokensInLevels.{token_none}
 use Rattle.gj_json.proofs.reader.Reader.take_any_number.Goals as goal
 
 pub end_number-requires-clause-number : goal.end_number-requires-clause-number
@@ -8,7 +9,10 @@ end_number-requires-clause-number g c =
     c.if-not-may_end.false
 
 pub end_number-requires-clause-value : goal.end_number-requires-clause-value
-end_number-requires-clause-value g c =
+end_number-requires-clause-value g c = λ hears.
     let stands = c.push_piece-count.ensures.stands [] c.new-literal.ensures.stands in
     let number = (c.may_end.ensures.number (take c.push_piece-count.result c.args.piece.now) stands).0 c.if-not-may_end.false in
     sym (c.value.ensures.value (take c.push_piece-count.result c.args.piece.now) stands number)
+
+pub returns-then-count-piece-clause-feeds : goal.returns-then-count-piece-clause-feeds
+returns-then-count-piece-clause-feeds g c = token_none _ _ c.args.self.now c.requires.live

@@ -2,10 +2,9 @@
 use Rattle.std.proofs.Common.{◌≡◌, ◌+◌, ◌-◌, drop, take, get_or, length, ap, ◌∙◌, arith}
 use Rattle.std.proofs.lemmas.List.{get_or-drop}
 use Rattle.gj_json.specs.Bytes.{colon as colon_byte}
-use Rattle.gj_json.specs.Internal.FlatParts.{cut}
 use Rattle.gj_json.proofs.Grammar.SpelledTokens.{first_colon_cut}
 use Rattle.gj_json.proofs.Pieces.PieceRests.{rest_of}
-use Rattle.gj_json.proofs.Pieces.TakenTokens.{named_taken}
+use Rattle.gj_json.proofs.Pieces.TakenTokens.{as_string, named_taken}
 use Rattle.gj_json.proofs.reader.Reader.take_named.Goals as goal
 
 pub returns-clause-feeds : goal.returns-clause-feeds
@@ -21,5 +20,5 @@ returns-clause-feeds g c =
     let colon = c.space_end-colon.result in
     let leads = first_colon_cut rest colon (omega arith) first c.space_end-colon.ensures.on c.space_end-colon.ensures.within c.space_end-colon.ensures.white in
     rw (c.skip.ensures.count)
-    (named_taken c.args.self.now c.skip.new.self piece n colon c.requires.live c.requires.due c.requires.room (omega arith) (cut piece 1 (n - 1))
-    usual.quoted c.space_end-colon.ensures.within leads c.skip.ensures.passed (λ events h. rw (usual.known_as) (c.tell.ensures events h)))
+    (named_taken c.args.self.now c.skip.new.self piece n colon c.requires.live c.requires.due c.requires.room (omega arith) (as_string usual.quoted)
+    c.space_end-colon.ensures.within leads c.skip.ensures.passed (λ events h. rw (usual.known_as) (c.tell.ensures events h)))

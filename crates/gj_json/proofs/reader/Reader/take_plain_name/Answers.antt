@@ -1,7 +1,6 @@
 -- A name, and its colon.
-use Rattle.std.proofs.Common.{◌-◌, arith}
-use Rattle.gj_json.specs.Internal.FlatParts.{cut}
-use Rattle.gj_json.proofs.Pieces.TakenTokens.{named_taken}
+use Rattle.std.proofs.Common.{arith}
+use Rattle.gj_json.proofs.Pieces.TakenTokens.{as_string, named_taken}
 use Rattle.gj_json.proofs.reader.Reader.take_plain_name.Goals as goal
 
 pub returns-clause-feeds : goal.returns-clause-feeds
@@ -9,6 +8,6 @@ returns-clause-feeds g c =
     let n = c.plain_quoted_run-name.result in
     rw (c.skip.ensures.count)
     (named_taken c.args.self.now c.skip.new.self c.args.piece.now n c.colon_run-colon.result c.requires.live c.requires.due c.requires.room
-    c.plain_quoted_run-name.ensures.within (cut c.args.piece.now 1 (n - 1))
-    (c.plain_quoted_run-name.ensures.quoted (omega arith)) c.colon_run-colon.ensures.within
+    c.plain_quoted_run-name.ensures.within
+    (as_string (c.plain_quoted_run-name.ensures.quoted (omega arith))) c.colon_run-colon.ensures.within
     (c.colon_run-colon.ensures.leads (omega arith)) c.skip.ensures.passed (λ events h. rw (← c.name_of.ensures) (c.tell.ensures events h)))

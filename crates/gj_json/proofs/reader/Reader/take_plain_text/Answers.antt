@@ -1,7 +1,6 @@
 -- A string of plain characters.
-use Rattle.std.proofs.Common.{◌-◌, arith}
-use Rattle.gj_json.specs.Internal.FlatParts.{cut}
-use Rattle.gj_json.proofs.Pieces.TakenTokens.{text_taken}
+use Rattle.std.proofs.Common.{arith}
+use Rattle.gj_json.proofs.Pieces.TakenTokens.{as_string, text_taken}
 use Rattle.gj_json.proofs.reader.Reader.take_plain_text.Goals as goal
 
 pub returns-clause-feeds : goal.returns-clause-feeds
@@ -9,5 +8,5 @@ returns-clause-feeds g c =
     let n = c.plain_quoted_run-count.result in
     rw (c.skip.ensures.count)
     (text_taken c.args.self.now c.skip.new.self c.args.piece.now n c.requires.live c.requires.due c.requires.room c.plain_quoted_run-count.ensures.within
-    c.skip.ensures.passed (cut c.args.piece.now 1 (n - 1))
-    (c.plain_quoted_run-count.ensures.quoted (omega arith)) (λ events h. rw (← c.type_of.ensures) (c.tell.ensures events h)))
+    c.skip.ensures.passed
+    (as_string (c.plain_quoted_run-count.ensures.quoted (omega arith))) (λ events h. rw (← c.type_of.ensures) (c.tell.ensures events h)))

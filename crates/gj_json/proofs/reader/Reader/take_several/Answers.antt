@@ -1,9 +1,11 @@
 -- The arrays, one after another.
-use Rattle.std.proofs.Common.{◌≡◌, ◌∙◌, refl, ap, ◌+◌, ◌-◌, ◌≤◌, ◌<◌, ℕ, length, take, drop, subst, arith}
+use Rattle.std.proofs.Common.{◌≡◌, ◌∙◌, List, refl, sym, ap, ◌+◌, ◌-◌, ◌≤◌, ◌<◌, ℕ, length, take, drop, subst, arith}
 use Rattle.gj_json.specs.Internal.FedReader.{FeedsAll}
 use Rattle.gj_json.proofs.Readers.CallsInTurn
-use Rattle.gj_json.proofs.Pieces.PieceRests.{more_within, left_within, left_is}
-use Rattle.gj_json.proofs.Pieces.FlatsInTurn.{next_due, goes_on, ends}
+use Rattle.gj_json.specs.Internal.FlatParts.{IsDueAt}
+use Rattle.gj_json.proofs.Readers.CallsInTurn.{piece_left}
+use Rattle.gj_json.proofs.Pieces.PieceRests.{rest_of, more_within, left_within, left_is}
+use Rattle.gj_json.proofs.Pieces.FlatsInTurn.{goes_on, ends}
 use Rattle.gj_json.proofs.reader.Reader.take_several.Goals as goal
 
 pub loop-begins-init : goal.loop-begins-init
@@ -31,14 +33,21 @@ loop-begins-preserved-then-begins_next g c =
     let begun = c.if-begins_next.true in
     let enough : 1 ≤ length (take (length rest - count) (drop count rest)) = omega (arith, is.within begun) in
     let few = more_within rest count 1 some.within enough in
+    let within = left_within piece rest (count + 1) invariant.within few in
+    let rest_is = left_is piece rest (count + 1) invariant.within few invariant.rest_is in
+    let fed = goes_on c.args.self.now c.loop-begins.self c.skip.new.self c.read_flat.new.flat piece rest count invariant.within invariant.rest_is
+    invariant.fed (invariant.next c.loop-begins-test.true) invariant.levels c.requires.deep c.requires.inner c.requires.room some.within some.flat
+    (λ events h. c.tell_flat.ensures events h) 1 (omega arith) enough (is.comma begun) tt c.skip.ensures.passed in
+    let left = take (length rest - (count + 1)) (drop (count + 1) rest) in
+    let many = c.take_if_many-many.ensures in
+    let n = c.take_if_many-many.result in
+    let P : List ℕ → Type 0 = λ xs. IsDueAt c.take_if_many-many.new.self.mode xs in
     record {
-      within = left_within piece rest (count + 1) invariant.within few;
-      rest_is = left_is piece rest (count + 1) invariant.within few invariant.rest_is;
-      fed = goes_on c.args.self.now c.loop-begins.self c.skip.new.self c.read_flat.new.flat piece rest count invariant.within invariant.rest_is
-          invariant.fed (invariant.next c.loop-begins-test.true) invariant.levels c.requires.deep c.requires.inner c.requires.room some.within some.flat
-          (λ events h. c.tell_flat.ensures events h) 1 (omega arith) enough (is.comma begun) tt c.skip.ensures.passed;
-      next = λ begins. next_due c.skip.new.self.mode rest count c.skip.ensures.passed.mode_is (is.within begun) (is.bracket begun);
-      levels = c.skip.ensures.passed.levels ∙ invariant.levels;
+      within = left_within piece left n within many.within;
+      rest_is = left_is piece left n within many.within rest_is;
+      fed = piece_left c.args.self.now c.skip.new.self c.take_if_many-many.new.self piece left n within rest_is many.within fed many.feeds;
+      next = λ begins. subst P (sym (rest_of left n)) many.next;
+      levels = many.levels ∙ c.skip.ensures.passed.levels ∙ invariant.levels;
     }
 
 pub returns-then-comma-eq0-clause-feeds : goal.returns-then-comma-eq0-clause-feeds

@@ -1,7 +1,6 @@
 -- A usual string.
-use Rattle.std.proofs.Common.{◌-◌, arith}
-use Rattle.gj_json.specs.Internal.FlatParts.{cut}
-use Rattle.gj_json.proofs.Pieces.TakenTokens.{text_taken}
+use Rattle.std.proofs.Common.{arith}
+use Rattle.gj_json.proofs.Pieces.TakenTokens.{as_string, text_taken}
 use Rattle.gj_json.proofs.reader.Reader.take_text.Goals as goal
 
 pub returns-clause-feeds : goal.returns-clause-feeds
@@ -10,5 +9,4 @@ returns-clause-feeds g c =
     let usual = c.usual_text-usual.ensures.usual (omega arith) in
     rw (c.skip.ensures.count)
     (text_taken c.args.self.now c.skip.new.self c.args.piece.now n c.requires.live c.requires.due c.requires.room c.usual_text-usual.ensures.within
-    c.skip.ensures.passed (cut c.args.piece.now 1 (n - 1))
-    usual.quoted (λ events h. rw (usual.known_as) (c.tell.ensures events h)))
+    c.skip.ensures.passed (as_string usual.quoted) (λ events h. rw (usual.known_as) (c.tell.ensures events h)))

@@ -1,17 +1,13 @@
--- A string and the byte after it; no array of numbers, and then a bracket.
-use Rattle.std.proofs.Common.{arith}
-use Rattle.gj_json.proofs.Readers.CallsInTurn.{piece_all, rest_all}
-use Rattle.gj_json.proofs.Pieces.TakenTokens.{nothing_then}
+-- A string and the byte after it.
+use Rattle.std.proofs.Common.{ap, arith, length}
+use Rattle.gj_json.specs.Internal.OpenLevels.{levels_in}
+use Rattle.gj_json.proofs.Pieces.TokensInLevels.{token_of, token_then}
 use Rattle.gj_json.proofs.reader.Reader.take_value.Goals as goal
 
 pub returns-else-text-piece-clause-feeds : goal.returns-else-text-piece-clause-feeds
 returns-else-text-piece-clause-feeds g c =
-    piece_all c.args.self.now c.take_text-text.new.self c.take_end.new.self c.args.piece.now c.take_text-text.result c.take_end.result
-    c.take_text-text.ensures.feeds
-    (rest_all c.take_text-text.new.self c.take_end.new.self c.args.piece.now c.take_text-text.result c.take_end.result c.take_end.ensures.feeds)
-
-pub returns-else-not-may_open-clause-feeds : goal.returns-else-not-may_open-clause-feeds
-returns-else-not-may_open-clause-feeds g c =
-    nothing_then c.args.self.now c.take_flats-flats.new.self c.take_rows.new.self c.args.piece.now c.take_flats-flats.result c.take_rows.result
-    (omega (arith, c.if-flats-gt0.false)) c.take_flats-flats.ensures.feeds
-    c.take_rows.ensures.feeds
+    let text = c.take_string-text in
+    let passed = text.ensures.passed (omega arith) in
+    token_then _ _ _ _ c.args.self.now text.new.self c.take_end.new.self c.args.piece.now text.result c.take_end.result
+    (omega (arith, ap (λ ls. length (levels_in ls)) passed.levels)) text.ensures.feeds
+    (token_of _ text.new.self c.take_end.new.self _ (λ h. c.take_end.ensures.feeds) (λ h. c.take_end.ensures.any))

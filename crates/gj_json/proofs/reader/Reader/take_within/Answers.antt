@@ -3,7 +3,7 @@ use Rattle.std.proofs.Common.{◌+◌}
 use Rattle.gj_json.proofs.Readers.CallsInTurn
 use Rattle.gj_json.proofs.Events.IgnoredEvents.{all_more, to_more}
 use Rattle.gj_json.proofs.Pieces.PieceRests.{more_within}
-use Rattle.gj_json.proofs.Pieces.PassedTokens.{both_within}
+use Rattle.gj_json.proofs.Pieces.TokensInLevels.{both_within}
 use Rattle.gj_json.proofs.reader.Reader.take_within.Goals as goal
 
 pub loop-at-preserved : goal.loop-at-preserved

@@ -1,0 +1,124 @@
+-- Positions that are taken as their cut values: the reader goes as over their arrays, one after another.
+use Rattle.std.proofs.Common.{◌≡◌, ◌∙◌, ℕ, ◌+◌, ◌-◌, ◌≤◌, ◌<◌, true, List, [], ◌∷◌, ◌++◌}
+use Rattle.std.proofs.Common.{zero, suc, get_or, length, take, drop, Some, None, refl, sym, ap, subst, arith}
+use Rattle.std.proofs.Common.{append_assoc, append-nil, length-drop, take-add}
+use Rattle.std.proofs.lemmas.List.{get_or-drop}
+use Rattle.gj_json.specs.Bytes.{comma}
+use Rattle.gj_json.specs.declared.cut_position.CutPosition.{CutPosition}
+use Rattle.gj_json.specs.declared.event.Event.{Event}
+use Rattle.gj_json.specs.declared.flat.Flat.{Flat}
+use Rattle.gj_json.specs.declared.levels.Level.TheVariants.{Array}
+use Rattle.gj_json.specs.declared.mode.Mode.TheVariants.{ValueDue}
+use Rattle.gj_json.specs.declared.reader.Reader.{Reader}
+use Rattle.gj_json.specs.Flat.{flat_events}
+use Rattle.gj_json.specs.CutPosition.{AreCutPositions, flats_events}
+use Rattle.gj_json.specs.Internal.FedReader.{Passed, FeedsAll}
+use Rattle.gj_json.specs.Internal.FlatParts.{awaits}
+use Rattle.gj_json.specs.Internal.OpenLevels.{levels_in, inner_of}
+use Rattle.gj_json.specs.Internal.SpelledPositions.{place_after, place_after_all, SpellsPosition, SpellsPositions}
+use Rattle.gj_json.specs.Internal.Transitions.{IsMode}
+use Rattle.gj_json.proofs.Pieces.PieceRests.{rest_of}
+use Rattle.gj_json.proofs.Pieces.TakenFlats.{comma_taken, mid_of, to_mid, from_mid}
+use Rattle.gj_json.proofs.Pieces.ReadPositions.{all_on, first_of}
+use Rattle.gj_json.proofs.Readers.CallsInTurn.{feeds_all_on}
+
+-- a sink that has heard these events had heard some before, and then the arrays of these positions
+abbrev pub Then : (List Event → Type 0) → List CutPosition → List Event → Type 0
+Then before ps es = (flats : List Flat) × AreCutPositions ps flats × (events : List Event) × before events × (es ≡ events ++ flats_events flats)
+
+-- what is heard may say less
+pub heard_less : {before after less : List Event → Type 0} (old new : Reader) (given : List ℕ) → FeedsAll before after old new given
+    → ((events : List Event) → after events → less events) → FeedsAll before less old new given
+heard_less {before} {after} {less} old new given fed says = record {
+  feeds = record {
+    limits = fed.feeds.limits;
+    on = fed.feeds.on;
+    stands = fed.feeds.stands;
+    told = λ bytes events h k. let t = fed.feeds.told bytes events h k in (t.0, says _ t.1, t.2);
+  };
+  live = fed.live;
+  offset = fed.offset;
+}
+
+one_then : (before : List Event → Type 0) (p : CutPosition) (start : ℕ) (piece : List ℕ) (s : SpellsPosition p start piece) (events : List Event)
+    → before events → Then before (p ∷ []) (events ++ flat_events s.flat)
+one_then before p start piece s events h =
+    (s.flat ∷ [], (s.is, tt), events, h, ap (λ es. events ++ es) (sym (append-nil (flat_events s.flat))))
+
+then_more : (before : List Event → Type 0) (p : CutPosition) (ps : List CutPosition) (es : List Event) → Then (Then before (p ∷ [])) ps es
+    → Then before (p ∷ ps) es
+then_more before p ps es (flats, are, mid, (one ∷ [], is, events, h, first), more) = (
+  one ∷ flats,
+  (is.0, are),
+  events,
+  h,
+  more ∙ ap (λ xs. xs ++ flats_events flats) first ∙ append_assoc events (flat_events one ++ []) (flats_events flats)
+      ∙ ap (λ xs. events ++ (xs ++ flats_events flats)) (append-nil (flat_events one)),
+)
+then_more before p ps es (flats, are, mid, ([], is, events, h, first), more) = absurd is
+then_more before p ps es (flats, are, mid, (one ∷ two ∷ others, is, events, h, first), more) = absurd is.1
+
+-- one of them, with its comma
+one_taken : {before : List Event → Type 0} (p : CutPosition) (old new : Reader) (piece : List ℕ) (s : SpellsPosition p old.offset piece) → old.fault ≡ None
+    → awaits old.mode ≡ true → length (levels_in old.levels) < old.limits.depth → inner_of (levels_in old.levels) ≡ Some Array
+    → old.offset + length piece ≤ old.limits.bytes → Passed (s.count + 1) ValueDue old new
+    → FeedsAll before (Then before (p ∷ [])) old new (take (s.count + 1) piece)
+one_taken {before} p old new piece s live due deep inner room passed =
+    let w = s.within in
+    let z : s.count + 0 ≡ s.count = omega arith in
+    let here : get_or (take (length piece - s.count) (drop s.count piece)) 0 0 ≡ comma =
+    ap (λ xs. get_or xs 0 0) (rest_of piece s.count) ∙ get_or-drop s.count piece 0 0 ∙ ap (λ i. get_or piece i 0) z ∙ s.comma in
+    let enough : 1 ≤ length (take (length piece - s.count) (drop s.count piece)) =
+    omega (arith, ap length (rest_of piece s.count), length-drop s.count piece) in
+    comma_taken old new s.flat piece s.count 1 live due deep room (omega arith) s.spelled (omega arith) enough here tt inner passed
+    (λ events h. one_then before p old.offset piece s events h)
+
+pub positions_taken : {before : List Event → Type 0} (p : CutPosition) (ps : List CutPosition) (old new : Reader) (piece : List ℕ)
+    → SpellsPositions (p ∷ ps) old.offset piece → old.fault ≡ None → awaits old.mode ≡ true → length (levels_in old.levels) < old.limits.depth
+    → inner_of (levels_in old.levels) ≡ Some Array → old.offset + length piece ≤ old.limits.bytes
+    → Passed (place_after_all (p ∷ ps) old.offset - old.offset) ValueDue old new
+    → FeedsAll before (Then before (p ∷ ps)) old new (take (place_after_all (p ∷ ps) old.offset - old.offset) piece)
+positions_taken {before} p [] old new piece s live due deep inner room passed =
+    let c = s.0.close in
+    let e : place_after p - old.offset ≡ s.0.count + 1 = omega arith in
+    let P : ℕ → Type 0 = λ n. FeedsAll before (Then before (p ∷ [])) old new (take n piece) in
+    let Q : ℕ → Type 0 = λ n. Passed n ValueDue old new in
+    subst P (sym e) (one_taken p old new piece s.0 live due deep inner room (subst Q e passed))
+positions_taken {before} p (q ∷ ps) old new piece s live due deep inner room passed =
+    let n = s.0.count + 1 in
+    let w = s.0.within in
+    let c = s.0.close in
+    let after = place_after p in
+    let end = place_after_all (q ∷ ps) after in
+    let rest = drop n piece in
+    let e : after - old.offset ≡ n = omega arith in
+    let sound : IsMode ValueDue = omega arith in
+    let within : old.offset + n ≤ old.limits.bytes = omega arith in
+    let mid : Reader = mid_of old n ValueDue sound within in
+    let there : after ≡ mid.offset = omega arith in
+    let P : ℕ → List ℕ → Type 0 = λ m xs. SpellsPositions (q ∷ ps) m xs in
+    let spelled : SpellsPositions (q ∷ ps) mid.offset rest = subst (λ (m : ℕ). P m rest) there (subst (λ (m : ℕ). P after (drop m piece)) e s.1) in
+    let more = all_on (q ∷ ps) after (drop (after - old.offset) piece) s.1 in
+    let k = place_after_all (q ∷ ps) mid.offset - mid.offset in
+    let same : end ≡ place_after_all (q ∷ ps) mid.offset = ap (place_after_all (q ∷ ps)) there in
+    let both : end - old.offset ≡ n + k = omega arith in
+    let first : FeedsAll before (Then before (p ∷ [])) old mid (take n piece) =
+    one_taken p old mid piece s.0 live due deep inner room (to_mid old n ValueDue sound within) in
+    let last : FeedsAll (Then before (p ∷ [])) (Then (Then before (p ∷ [])) (q ∷ ps)) mid new (take k rest) =
+    positions_taken {before = Then before (p ∷ [])} q ps mid new rest spelled live refl deep inner (omega (arith, length-drop n piece))
+    (from_mid old new n k (end - old.offset) ValueDue ValueDue sound within both passed) in
+    let joined : take n piece ++ take k rest ≡ take (end - old.offset) piece = sym (ap (λ m. take m piece) both ∙ take-add n k piece) in
+    let Q : List ℕ → Type 0 = λ xs. FeedsAll before (Then before (p ∷ q ∷ ps)) old new xs in
+    subst Q joined
+    (heard_less old new (take n piece ++ take k rest) (feeds_all_on old mid new (take n piece) (take k rest) first last) (then_more before p (q ∷ ps)))
+
+-- the first ones of them
+pub first_taken : {before : List Event → Type 0} (ps : List CutPosition) (k : ℕ) (old new : Reader) (piece : List ℕ) → 0 < k → k ≤ length ps
+    → SpellsPositions ps old.offset piece → old.fault ≡ None → awaits old.mode ≡ true → length (levels_in old.levels) < old.limits.depth
+    → inner_of (levels_in old.levels) ≡ Some Array → old.offset + length piece ≤ old.limits.bytes
+    → Passed (place_after_all (take k ps) old.offset - old.offset) ValueDue old new
+    → FeedsAll before (Then before (take k ps)) old new (take (place_after_all (take k ps) old.offset - old.offset) piece)
+first_taken [] k old new piece some few s live due deep inner room passed = absurd (omega (arith, some, few))
+first_taken (p ∷ ps) zero old new piece some few s live due deep inner room passed = absurd (omega (arith, some))
+first_taken (p ∷ ps) (suc k) old new piece some few s live due deep inner room passed =
+    positions_taken p (take k ps) old new piece (first_of (p ∷ ps) (suc k) old.offset piece s) live due deep inner room passed

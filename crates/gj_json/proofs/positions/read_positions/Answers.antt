@@ -1,0 +1,33 @@
+-- One position more.
+use Rattle.std.proofs.Common.{◌≡◌, ◌∙◌, ◌+◌, ◌-◌, List, ℕ, get_or, length, take, drop, length-drop, sym, ap, subst, arith}
+use Rattle.gj_json.specs.declared.cut_position.CutPosition.{CutPosition}
+use Rattle.gj_json.specs.Internal.SpelledPositions.{place_after_all, SpellsPosition, SpellsPositions}
+use Rattle.gj_json.proofs.Pieces.PieceRests.{rest_of}
+use Rattle.gj_json.proofs.Pieces.ReadPositions.{one_on, one_more, after_more, in_two, left_begins}
+use Rattle.gj_json.proofs.positions.read_positions.Goals as goal
+
+pub loop-rest-preserved : goal.loop-rest-preserved
+loop-rest-preserved c =
+    let i = c.loop-rest.invariant in
+    let piece = c.args.piece.now in
+    let start = c.args.start in
+    let rest = c.loop-rest.rest.now in
+    let place = c.loop-rest.place in
+    let p = c.in-Some.position in
+    let s = c.in-Some.ensures in
+    let n = p.close + 2 - place in
+    let on = one_on p place rest s in
+    let b = left_begins p place rest s in
+    let same : take (length rest - n) (drop n rest) ≡ drop n rest = rest_of rest n in
+    let P : List CutPosition → Type 0 = λ ps. SpellsPositions ps start piece in
+    let Q : ℕ → List ℕ → Type 0 = λ m xs. SpellsPosition p m xs in
+    let there : SpellsPosition p (place_after_all c.loop-rest.positions.items start) (drop (place_after_all c.loop-rest.positions.items start - start) piece) =
+    subst (λ (m : ℕ). Q m (drop (m - start) piece)) i.place_is (subst (λ (xs : List ℕ). Q place xs) i.rest_is s) in
+    record {
+      on = (let o = i.on in omega arith);
+      place_is = sym (after_more c.loop-rest.positions.items p start) ∙ ap (λ ps. place_after_all ps start) (sym c.push.ensures.items);
+      rest_is = same ∙ ap (drop n) i.rest_is ∙ in_two piece start place (p.close + 2) i.on (omega arith);
+      left = (let l = i.left in let k = b.0 in omega (arith, ap length same, length-drop n rest));
+      bracket = ap (λ xs. get_or xs 0 0) same ∙ b.1;
+      spelled = subst P (sym c.push.ensures.items) (one_more c.loop-rest.positions.items p start piece i.spelled there);
+    }

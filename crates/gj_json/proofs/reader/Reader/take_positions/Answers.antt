@@ -1,0 +1,156 @@
+-- The positions that the sink takes, as their arrays in turn.
+use Rattle.std.proofs.Common.{◌≡◌, ◌∙◌, [], ◌-◌, ◌<◌, ◌≤◌, List, ℕ, append-nil, get_or, length, take, length-drop, pos, false, sym, ap, subst, arith}
+use Rattle.std.proofs.lemmas.List.{get_or-drop}
+use Rattle.gj_json.specs.Bytes.{open_bracket}
+use Rattle.gj_json.specs.declared.cut_position.CutPosition.{CutPosition}
+use Rattle.gj_json.specs.CutPosition.{AreCutPositions, Rise}
+use Rattle.gj_json.specs.declared.mode.Mode.TheVariants.{ValueDue}
+use Rattle.gj_json.specs.Internal.FedReader.{FeedsAll, Passed}
+use Rattle.gj_json.specs.Internal.FlatParts.{awaits}
+use Rattle.gj_json.specs.Internal.SpelledPositions.{place_after, place_after_all, SpellsPositions}
+use Rattle.gj_json.proofs.Readers.CallsInTurn.{piece_left}
+use Rattle.gj_json.proofs.Pieces.PieceRests.{rest_of, left_within, left_is}
+use Rattle.gj_json.proofs.Pieces.FlatsInTurn.{depth_left, room_left}
+use Rattle.gj_json.proofs.Pieces.ReadPositions.{rising, end_is, end_begins}
+use Rattle.gj_json.proofs.Pieces.TakenPositions.{Then, heard_less, first_taken}
+use Rattle.gj_json.proofs.reader.Reader.take_positions.Goals as goal
+
+abbrev blank : CutPosition
+blank = record {
+  first = record { value = pos 0; precise = false };
+  second = record { value = pos 0; precise = false };
+  place = 0;
+  first_place = 0;
+  second_place = 0;
+  close = 0;
+}
+
+-- where those end that the sink takes
+record Ends (told : List CutPosition) (k offset : ℕ) (rest : List ℕ) (last : ℕ) : Type 0 where
+  spelled : SpellsPositions told offset rest
+  some : 0 < k
+  end : place_after_all (take k told) offset ≡ last
+  on : offset < last
+  within : last - offset < length rest
+  bracket : get_or rest (last - offset) 0 ≡ open_bracket
+
+ends : (items told now : List CutPosition) (k offset : ℕ) (rest : List ℕ) → told ≡ items → now ≡ items → (k ≡ 0 → ⊥) → k ≤ length told
+    → SpellsPositions items offset rest → Ends told k offset rest (place_after (get_or now (k - 1) blank))
+ends items told now k offset rest one other some few s =
+    let P : List CutPosition → Type 0 = λ ps. SpellsPositions ps offset rest in
+    let t : P told = subst P (sym one) s in
+    let positive : 0 < k = omega (arith, some) in
+    let b = end_begins told blank k offset rest positive few t in
+    let Q : List CutPosition → Type 0 = λ ps. Ends told k offset rest (place_after (get_or ps (k - 1) blank)) in
+    subst Q (one ∙ sym other) (record {
+      spelled = t;
+      some = positive;
+      end = end_is told blank k offset rest positive few t;
+      on = b.0;
+      within = b.1;
+      bracket = b.2;
+    })
+
+pub tell_positions-taken-requires : goal.tell_positions-taken-requires
+tell_positions-taken-requires g c =
+    let P : List CutPosition → Type 0 = λ ps. Rise ps in
+    record {
+      rising = subst P (sym c.deref.ensures.0)
+          (rising c.read_positions.new.positions.items c.loop-taken.self.offset c.loop-taken.rest.now c.read_positions.ensures);
+    }
+
+pub returns-then-taken-eq0-clause-feeds : goal.returns-then-taken-eq0-clause-feeds
+returns-then-taken-eq0-clause-feeds g c =
+    let i = c.loop-taken.invariant in
+    let told = c.deref.result.now in
+    let piece = c.args.piece.now in
+    let P : ℕ → Type 0 = λ n. AreCutPositions (take n told) [] in
+    let none : P c.tell_positions-taken.result = subst P (sym c.if-taken-eq0.true) tt in
+    heard_less c.args.self.now c.loop-taken.self (take (length piece - length c.loop-taken.rest.now) piece) i.fed
+    (λ events h. subst (g.S.EventSink.heard c.tell_positions-taken.new.self) (append-nil events) (c.tell_positions-taken.ensures.heard [] none events h))
+
+pub overflow_add-count : goal.overflow_add-count
+overflow_add-count g c =
+    let i = c.loop-taken.invariant in
+    let e = ends _ _ c.deref-in-loop-taken.result.now _ c.loop-taken.self.offset c.loop-taken.rest.now c.deref.ensures.0 c.deref-in-loop-taken.ensures.0
+    c.if-taken-eq0.false c.tell_positions-taken.ensures.few c.read_positions.ensures in
+    let less = e.within in
+    let limits = ap (λ l. l.bytes) i.fed.feeds.limits in
+    let room = room_left c.args.self.now c.loop-taken.self c.args.piece.now c.loop-taken.rest.now i.within i.fed c.requires.room in
+    omega arith
+
+pub overflow_sub-count-in-loop-taken : goal.overflow_sub-count-in-loop-taken
+overflow_sub-count-in-loop-taken g c =
+    let e = ends _ _ c.deref-in-loop-taken.result.now _ c.loop-taken.self.offset c.loop-taken.rest.now c.deref.ensures.0 c.deref-in-loop-taken.ensures.0
+    c.if-taken-eq0.false c.tell_positions-taken.ensures.few c.read_positions.ensures in
+    let on = e.on in
+    omega arith
+
+pub skip-requires-clause-room : goal.skip-requires-clause-room
+skip-requires-clause-room g c =
+    let i = c.loop-taken.invariant in
+    let e = ends _ _ c.deref-in-loop-taken.result.now _ c.loop-taken.self.offset c.loop-taken.rest.now c.deref.ensures.0 c.deref-in-loop-taken.ensures.0
+    c.if-taken-eq0.false c.tell_positions-taken.ensures.few c.read_positions.ensures in
+    let less = e.within in
+    let room = room_left c.args.self.now c.loop-taken.self c.args.piece.now c.loop-taken.rest.now i.within i.fed c.requires.room in
+    omega arith
+
+pub slice_bounds-rest-count : goal.slice_bounds-rest-count
+slice_bounds-rest-count g c =
+    let e = ends _ _ c.deref-in-loop-taken.result.now _ c.loop-taken.self.offset c.loop-taken.rest.now c.deref.ensures.0 c.deref-in-loop-taken.ensures.0
+    c.if-taken-eq0.false c.tell_positions-taken.ensures.few c.read_positions.ensures in
+    let less = e.within in
+    omega arith
+
+pub slice_bounds-rest-start : goal.slice_bounds-rest-start
+slice_bounds-rest-start g c =
+    let e = ends _ _ c.deref-in-loop-taken.result.now _ c.loop-taken.self.offset c.loop-taken.rest.now c.deref.ensures.0 c.deref-in-loop-taken.ensures.0
+    c.if-taken-eq0.false c.tell_positions-taken.ensures.few c.read_positions.ensures in
+    let less = e.within in
+    omega arith
+
+pub loop-taken-smaller : goal.loop-taken-smaller
+loop-taken-smaller g c =
+    let rest = c.loop-taken.rest.now in
+    let e = ends _ _ c.deref-in-loop-taken.result.now _ c.loop-taken.self.offset rest c.deref.ensures.0 c.deref-in-loop-taken.ensures.0
+    c.if-taken-eq0.false c.tell_positions-taken.ensures.few c.read_positions.ensures in
+    let n = place_after (get_or c.deref-in-loop-taken.result.now (c.tell_positions-taken.result - 1) blank) - c.loop-taken.self.offset in
+    let on = e.on in
+    let less = e.within in
+    omega (arith, ap length (rest_of rest n), length-drop n rest)
+
+pub loop-taken-preserved : goal.loop-taken-preserved
+loop-taken-preserved g c =
+    let i = c.loop-taken.invariant in
+    let old = c.loop-taken.self in
+    let piece = c.args.piece.now in
+    let rest = c.loop-taken.rest.now in
+    let told = c.deref.result.now in
+    let k = c.tell_positions-taken.result in
+    let last = place_after (get_or c.deref-in-loop-taken.result.now (k - 1) blank) in
+    let n = last - old.offset in
+    let e = ends _ told c.deref-in-loop-taken.result.now k old.offset rest c.deref.ensures.0 c.deref-in-loop-taken.ensures.0 c.if-taken-eq0.false
+    c.tell_positions-taken.ensures.few c.read_positions.ensures in
+    let on = e.on in
+    let less = e.within in
+    let few : n ≤ length rest = omega arith in
+    let P : ℕ → Type 0 = λ m. Passed (m - old.offset) ValueDue old c.skip.new.self in
+    let Q : ℕ → Type 0 = λ m. FeedsAll (g.S.EventSink.heard c.loop-taken.sink) (Then (g.S.EventSink.heard c.loop-taken.sink) (take k told)) old c.skip.new.self
+    (take (m - old.offset) rest) in
+    let taken = subst Q e.end (first_taken told k old c.skip.new.self rest e.some c.tell_positions-taken.ensures.few e.spelled i.fed.live i.next.due
+    (depth_left c.args.self.now old piece rest i.within i.fed i.levels c.requires.deep) (rw (i.levels) c.requires.inner)
+    (room_left c.args.self.now old piece rest i.within i.fed c.requires.room) (subst P (sym e.end) c.skip.ensures.passed)) in
+    let heard = heard_less old c.skip.new.self (take n rest) taken
+    (λ es (flats, are, events, h, is). subst (g.S.EventSink.heard c.tell_positions-taken.new.self) (sym is)
+    (c.tell_positions-taken.ensures.heard flats are events h)) in
+    record {
+      within = left_within piece rest n i.within few;
+      rest_is = left_is piece rest n i.within few i.rest_is;
+      fed = piece_left c.args.self.now old c.skip.new.self piece rest n i.within i.rest_is few i.fed heard;
+      next = record {
+        due = ap awaits c.skip.ensures.passed.mode_is;
+        some = omega (arith, ap length (rest_of rest n), length-drop n rest);
+        bracket = ap (λ xs. get_or xs 0 0) (rest_of rest n) ∙ get_or-drop n rest 0 0 ∙ ap (λ m. get_or rest m 0) (omega arith) ∙ e.bracket;
+      };
+      levels = c.skip.ensures.passed.levels ∙ i.levels;
+    }

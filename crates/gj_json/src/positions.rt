@@ -1,0 +1,67 @@
+//! Reads positions as their cut values.
+
+ghost use Rattle.std.specs.Prelude.{◌≡◌, ◌+◌, ◌^◌, ◌<◌, ◌≤◌, [], length, get_or, IfSome};
+ghost use Rattle.gj_json.specs.Bytes.{open_bracket};
+ghost use Rattle.gj_json.specs.Internal.SpelledPositions.{SpellsPosition, SpellsPositions};
+
+use crate::cut_position::CutPosition;
+use arrayvec::ArrayVec;
+use gj_number::read_cut_pair;
+
+/// How many positions are read at once, at the most.
+pub const MOST_POSITIONS: usize = 24;
+
+/// How long a piece must be at the least for its position to be read: the bracket, and what two numbers are read with.
+const ROOM: usize = 65;
+
+/// The position that the piece starts with, where a comma and another array follow. The piece begins at the place `start`.
+#[inline(always)]
+fn read_position(piece: &[u8], start: u64) -> Option<CutPosition>
+    requires bracket { get_or piece.now 0 0 ≡ open_bracket }
+    requires small { start + length piece.now ≤ 2 ^ 60 }
+    ensures { IfSome result (λ position. SpellsPosition position start piece.now) }
+{
+    if piece.len() < ROOM {
+        return None;
+    }
+    let Some(pair) = read_cut_pair(&piece[1..]) else {
+        return None;
+    };
+    let next = pair.end + 2;
+    if next + 1 >= piece.len() || piece[next] != b',' || piece[next + 1] != b'[' {
+        return None;
+    }
+    Some(CutPosition {
+        first: pair.first,
+        second: pair.second,
+        place: start,
+        first_place: start + 1,
+        second_place: start + 2 + pair.comma as u64,
+        close: start + 1 + pair.end as u64,
+    })
+}
+
+/// Reads, in place of others, the positions that the piece starts with, each with a comma and another array after it, as far as there is room.
+#[inline(never)]
+pub fn read_positions(
+    piece: &[u8],
+    start: u64,
+    positions: &mut ArrayVec<CutPosition, MOST_POSITIONS>,
+)
+    requires bracket { get_or piece.now 0 0 ≡ open_bracket }
+    requires small { start + length piece.now ≤ 2 ^ 60 }
+    ensures { SpellsPositions positions.new.items start piece.now }
+{
+    positions.clear();
+    let mut rest = piece;
+    let mut place = start;
+    while !positions.is_full() {
+        let Some(position) = read_position(rest, place) else {
+            return;
+        };
+        let next = position.close + 2;
+        rest = &rest[(next - place) as usize..];
+        place = next;
+        positions.push(position);
+    }
+}

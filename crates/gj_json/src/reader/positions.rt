@@ -1,0 +1,80 @@
+//! Positions, taken as their cut values.
+
+ghost use Rattle.std.specs.Prelude.{◌≡◌, ◌+◌, ◌^◌, ◌≤◌, ◌<◌, length, take, drop, None, Some};
+ghost use Rattle.gj_json.specs.Internal.FlatParts.{IsDueAt};
+ghost use Rattle.gj_json.specs.Internal.OpenLevels.{levels_in, inner_of};
+ghost use Rattle.gj_json.specs.declared.levels.Level.TheVariants.{Array};
+
+use super::Reader;
+use crate::mode::Mode;
+use crate::positions::{MOST_POSITIONS, read_positions};
+use crate::sink::EventSink;
+use arrayvec::ArrayVec;
+
+/// After so many arrays, one after another, positions are sought.
+pub(super) const FEW: u8 = 8;
+
+/// After so many more they are sought again where none was found.
+const MANY: u8 = 32;
+
+impl Reader {
+    ghost use Rattle.gj_json.specs.Internal.FedReader.{FeedsAll};
+
+    /// Takes the positions at the start of the piece, each with a comma and another array after it, as long as the sink takes
+    /// them by their cut values: how many bytes.
+    #[inline(never)]
+    pub(super) fn take_positions<S: EventSink>(&mut self, piece: &[u8], sink: &mut S) -> usize
+        requires next { IsDueAt self.old.mode piece.now }
+        requires live { self.old.fault ≡ None }
+        requires deep { length (levels_in self.old.levels) < self.old.limits.depth }
+        requires inner { inner_of (levels_in self.old.levels) ≡ Some Array }
+        requires room { self.old.offset + length piece.now ≤ self.old.limits.bytes }
+        requires small { self.old.limits.bytes ≤ 2 ^ 60 }
+        ensures within { result ≤ length piece.now }
+        ensures next { IsDueAt self.new.mode (drop result piece.now) }
+        ensures levels { self.new.levels ≡ self.old.levels }
+        ensures feeds { FeedsAll (S.heard sink.old) (S.heard sink.new) self.old self.new (take result piece.now) }
+    {
+        let mut positions = ArrayVec::new();
+        let mut rest = piece;
+        let mut taken = MOST_POSITIONS;
+        while taken == MOST_POSITIONS {
+            read_positions(rest, self.offset, &mut positions);
+            taken = sink.tell_positions(&positions);
+            if taken == 0 {
+                return piece.len() - rest.len();
+            }
+            let count = (positions[taken - 1].close + 2 - self.offset) as usize;
+            self.skip(count, Mode::ValueDue);
+            rest = &rest[count..];
+        }
+        piece.len() - rest.len()
+    }
+    /// As `take_positions`, and at once nothing where `left` arrays more come before it is tried.
+    #[inline(always)]
+    pub(super) fn take_if_many<S: EventSink>(
+        &mut self,
+        piece: &[u8],
+        left: &mut u8,
+        sink: &mut S,
+    ) -> usize
+        requires next { IsDueAt self.old.mode piece.now }
+        requires live { self.old.fault ≡ None }
+        requires deep { length (levels_in self.old.levels) < self.old.limits.depth }
+        requires inner { inner_of (levels_in self.old.levels) ≡ Some Array }
+        requires room { self.old.offset + length piece.now ≤ self.old.limits.bytes }
+        requires small { self.old.limits.bytes ≤ 2 ^ 60 }
+        ensures within { result ≤ length piece.now }
+        ensures next { IsDueAt self.new.mode (drop result piece.now) }
+        ensures levels { self.new.levels ≡ self.old.levels }
+        ensures feeds { FeedsAll (S.heard sink.old) (S.heard sink.new) self.old self.new (take result piece.now) }
+    {
+        if *left > 0 {
+            *left -= 1;
+            return 0;
+        }
+        let count = self.take_positions(piece, sink);
+        *left = if count > 0 { FEW } else { MANY };
+        count
+    }
+}
