@@ -2,8 +2,10 @@
 pub mod FaultsOfLevels
 pub mod HeldPositions
 pub mod AnswersOfWalks
-pub mod StatesAlike
+pub mod ReadValues
 pub mod FlatLaws
 pub mod SteadyLaws
+pub mod SteadySteps
 pub mod WarningsOfLevels
 pub mod PreciseNumbers
+pub mod CutPositions

@@ -18,6 +18,8 @@ pub mod PositionsGather
 pub mod ListGather
 pub mod LevelGather
 pub mod FlatPosition
+pub mod Progress
+pub mod WalkProgress
 pub mod SteadyWalk
 pub mod CoordinatesKept
 pub mod ElementCountLaws
@@ -34,3 +36,4 @@ pub mod PositionWarnings
 pub mod WindingLaws
 pub mod RingWarnings
 pub mod BoxGather
+pub mod AddedPositions

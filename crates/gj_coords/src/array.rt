@@ -2,7 +2,6 @@
 use crate::element::Element;
 use crate::value_reader::{Gather, ValueReader};
 use gj_json::{Event, What};
-use gj_number::Decimal;
 
 /// How far an array has come.
 #[derive(Clone, Copy)]
@@ -54,62 +53,9 @@ impl<W: ValueReader, G: Gather<W>> ValueReader for Array<W, G> {
         }
     }
 
-    fn open_array(&mut self, place: u64) {
-        match self.stage {
-            Stage::Due => {
-                self.gather.open(place);
-                self.stage = Stage::Between;
-            }
-            Stage::Between | Stage::Within => {
-                self.item.open_array(place);
-                self.after_item();
-            }
-            Stage::Broken => self.other.open_array(place),
-            Stage::Done => {}
-        }
-    }
-
-    fn close_array(&mut self, place: u64) {
-        match self.stage {
-            Stage::Due => {
-                self.other.close_array(place);
-                self.stage = Stage::Broken;
-            }
-            Stage::Between => self.stage = Stage::Done,
-            Stage::Within => {
-                self.item.close_array(place);
-                self.after_item();
-            }
-            Stage::Broken => self.other.close_array(place),
-            Stage::Done => {}
-        }
-    }
-
-    fn number(&mut self, place: u64, value: &Option<Decimal>) {
-        match self.stage {
-            Stage::Due => {
-                self.other.number(place, value);
-                self.stage = Stage::Broken;
-            }
-            Stage::Between => self.gather.add_number(place, value),
-            Stage::Within => {
-                self.item.number(place, value);
-                self.after_item();
-            }
-            Stage::Broken => self.other.number(place, value),
-            Stage::Done => {}
-        }
-    }
-
     fn again(&mut self) {
         self.stage = Stage::Due;
         self.other.again();
-    }
-
-    fn restart(&mut self) {
-        self.stage = Stage::Due;
-        self.item.restart();
-        self.other.restart();
     }
 
     fn done(&self) -> bool {
@@ -133,7 +79,7 @@ impl<W: ValueReader, G: Gather<W>> ValueReader for Array<W, G> {
 }
 
 impl<W: ValueReader, G: Gather<W>> Array<W, G> {
-    ghost use Rattle.std.specs.Prelude.{◌≡◌, true};
+    ghost use Rattle.std.specs.Prelude.{◌≡◌};
     ghost use Rattle.gj_coords.specs.Internal.ArrayReader.{when_due, between, within, behind};
 
     fn due_event(&mut self, event: &Event)
@@ -168,26 +114,16 @@ impl<W: ValueReader, G: Gather<W>> Array<W, G> {
         self.after_item();
     }
 
-    /// After an event of an element: gathers the element where it has ended. Mostly it goes on.
-    #[inline(always)]
+    /// After an event of an element: gathers the element where it has ended.
     fn after_item(&mut self)
         ensures { self.new ≡ behind W.machine G.gathering self.old self.old.item }
     {
         if self.item.done() {
-            self.gather_item();
+            self.gather.add(&self.item);
+            self.item.again();
+            self.stage = Stage::Between;
         } else {
             self.stage = Stage::Within;
         }
-    }
-
-    /// Gathers the element, which has ended.
-    #[inline(never)]
-    fn gather_item(&mut self)
-        requires { W.machine.ended self.old.item ≡ true }
-        ensures { self.new ≡ behind W.machine G.gathering self.old self.old.item }
-    {
-        self.gather.add(&self.item);
-        self.item.again();
-        self.stage = Stage::Between;
     }
 }

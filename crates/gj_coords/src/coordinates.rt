@@ -1,16 +1,12 @@
 //! The value of `coordinates` under the six types.
 
-use crate::array::Stage;
 use crate::fault::Fault;
 use crate::simple::Simple;
 use crate::simple_faults::SimpleFaults;
-use crate::value_reader::ValueReader;
-use crate::walk;
-use crate::walk::depth::{Depth, depth_of, is_past};
-use crate::walk::{Walk, all_warnings, least_fault};
+use crate::walk::{NEVER, Stage, Walk};
 use crate::warned::Warned;
 use crate::warnings::Warnings;
-use gj_json::{Event, Flat};
+use gj_json::{CutPosition, Event, Flat};
 use gj_number::Decimal;
 use std::mem::size_of;
 
@@ -24,27 +20,30 @@ use std::mem::size_of;
 #[derive(Clone, Copy)]
 pub struct Coordinates {
     walk: Walk,
-    /// After this place the walk is steady at the depth.
+    /// After this place a position more that comes as one [`Flat`] changes no fault. It is `NEVER` where any may.
     floor: u64,
-    depth: Depth,
+    /// Whether the value is a position that came as one [`Flat`]. Of what the walk gathers, only two things are then
+    /// held: the least fault as positions, which is that of each type but `Point`, and the warnings for `Point`.
+    whole: bool,
 }
 
 // A linter holds one, and begins another for each member `coordinates`.
-const _: () = prove!(size_of::<Coordinates>() == 2912);
+const _: () = prove!(size_of::<Coordinates>() == 2624);
 
 impl Coordinates {
-    ghost use Rattle.std.specs.Prelude.{◌≡◌, ◌↔◌, ◌<◌, ◌^◌, ◌++◌, ◌∷◌, List, [], length, IsTrue};
+    ghost use Rattle.std.specs.Prelude.{◌≡◌, ◌↔◌, ◌<◌, ◌^◌, ◌++◌, ◌∷◌, List, [], length, IsTrue, ◌≤◌, take};
     ghost use Rattle.gj_json.specs.declared.event.Event.{Event};
     ghost use Rattle.gj_json.specs.declared.event.What.TheVariants.{OpenArray, CloseArray, Number};
     ghost use Rattle.gj_json.specs.Tree.{Tree, depth};
     ghost use Rattle.gj_json.specs.Events.{value_events};
     ghost use Rattle.gj_json.specs.Flat.{flat_events};
+    ghost use Rattle.gj_json.specs.declared.flat.Flat.{Flat};
+    ghost use Rattle.gj_json.specs.CutPosition.{AreCutPositions, Rise, flats_events};
     ghost use Rattle.gj_coords.specs.Fault.{least};
     ghost use Rattle.gj_coords.specs.Shape.{coordinates_faults};
-    ghost use Rattle.gj_coords.specs.Coordinates.{StandsFor};
+    ghost use Rattle.gj_coords.specs.Coordinates.{StandsFor, NoneEnds};
     ghost use Rattle.gj_coords.specs.Internal.KeptWarnings.{joined, no_warnings};
     ghost use Rattle.gj_coords.specs.WarningsStand.{StandsFor as WarningsStandFor};
-    ghost use Rattle.gj_coords.specs.declared.array.Stage.TheVariants.{Due};
     ghost use Rattle.gj_coords.specs.SimpleFaults.{least_faults};
     ghost use Rattle.gj_coords.specs.Internal.GatheredWarnings.{all_in};
     ghost use Rattle.gj_coords.specs.CoordinateWarnings.{coordinates_warnings};
@@ -55,9 +54,9 @@ impl Coordinates {
         ensures stands { StandsFor result [] }
     {
         Coordinates {
-            walk: ValueReader::new(),
-            floor: 0,
-            depth: Depth::Unknown,
+            walk: Walk::new(),
+            floor: NEVER,
+            whole: false,
         }
     }
 
@@ -65,8 +64,9 @@ impl Coordinates {
     pub fn again(&mut self)
         ensures stands { StandsFor self.new [] }
     {
-        self.depth = Depth::Unknown;
-        self.walk.restart();
+        self.floor = NEVER;
+        self.whole = false;
+        self.walk.again();
     }
 
     /// Takes one event, whatever it is.
@@ -82,7 +82,8 @@ impl Coordinates {
         ensures stands { (events : List Event) → StandsFor self.old events →
             StandsFor self.new (events ++ event.now ∷ []) }
     {
-        self.depth = Depth::Unknown;
+        self.floor = NEVER;
+        self.whole = false;
         self.walk.event(event);
     }
 
@@ -92,7 +93,8 @@ impl Coordinates {
         ensures stands { (events : List Event) → StandsFor self.old events →
             StandsFor self.new (events ++ record { place = place; what = Number value.now } ∷ []) }
     {
-        self.depth = Depth::Unknown;
+        self.floor = NEVER;
+        self.whole = false;
         self.walk.number(place, value);
     }
 
@@ -102,7 +104,8 @@ impl Coordinates {
         ensures stands { (events : List Event) → StandsFor self.old events →
             StandsFor self.new (events ++ record { place = place; what = OpenArray } ∷ []) }
     {
-        self.depth = Depth::Unknown;
+        self.floor = NEVER;
+        self.whole = false;
         self.walk.open_array(place);
     }
 
@@ -112,7 +115,8 @@ impl Coordinates {
         ensures stands { (events : List Event) → StandsFor self.old events →
             StandsFor self.new (events ++ record { place = place; what = CloseArray } ∷ []) }
     {
-        self.depth = Depth::Unknown;
+        self.floor = NEVER;
+        self.whole = false;
         self.walk.close_array(place);
     }
 
@@ -133,22 +137,29 @@ impl Coordinates {
         ensures at_the_end { (value : Tree) (events rest : List Event) → StandsFor self.new events → events ++ rest ≡ value_events value →
             depth value < 2 ^ 64 → IsTrue result ↔ (rest ≡ []) }
     {
-        if is_past(self.floor, flat) {
-            if self.depth.is_second() {
-                self.walk.item.gather.add_steady(flat);
-                return false;
-            }
-            if self.depth.is_first() {
-                self.walk.gather.add_steady(flat);
-                return false;
-            }
-            if self.depth.is_third() {
-                self.walk.item.item.gather.add_steady(flat);
-                return false;
-            }
+        if self.floor < flat.place {
+            self.walk.add_steady(flat);
+            return false;
         }
         self.take_anywhere(flat);
         self.done()
+    }
+
+    /// Takes the events of arrays of two numbers, one after another, which come as their cut values: those of the arrays before
+    /// the first of which more is asked, and returns how many. It takes none where an array more may change a fault.
+    #[inline(never)]
+    pub fn take_cuts(&mut self, positions: &[CutPosition]) -> usize
+        requires rising { Rise positions.now }
+        ensures few { result ≤ length positions.now }
+        ensures stands { (flats : List Flat) → AreCutPositions (take result positions.now) flats → (events : List Event) → StandsFor self.old events
+            → StandsFor self.new (events ++ flats_events flats) }
+        ensures goes_on { (flats : List Flat) → AreCutPositions (take result positions.now) flats → (events : List Event) → StandsFor self.old events
+            → NoneEnds events flats }
+    {
+        if positions.is_empty() || self.floor >= positions[0].place {
+            return 0;
+        }
+        self.walk.add_cuts(positions)
     }
 
     /// Takes the events of an array of numbers, at any depth of the value.
@@ -158,31 +169,17 @@ impl Coordinates {
             StandsFor self.new (events ++ flat_events flat.now) }
     {
         match self.walk.stage {
-            Stage::Due => self.take_whole(flat),
-            _ => self.take_inside(flat),
+            Stage::Due => {
+                self.walk.outer.hold_flat(flat);
+                self.walk.stage = Stage::Done;
+                self.floor = NEVER;
+                self.whole = true;
+            }
+            _ => {
+                self.floor = self.walk.take_flat(flat);
+                self.whole = false;
+            }
         }
-    }
-
-    /// Takes the events of an array of numbers that is the value itself.
-    #[inline]
-    fn take_whole(&mut self, flat: &Flat)
-        ensures stands { (events : List Event) → self.old.walk.stage ≡ Due → StandsFor self.old events →
-            StandsFor self.new (events ++ flat_events flat.now) }
-    {
-        self.walk.gather.hold_flat(flat);
-        self.walk.stage = Stage::Done;
-        self.depth = Depth::Whole;
-    }
-
-    /// Takes the events of an array of numbers within the value.
-    #[inline]
-    fn take_inside(&mut self, flat: &Flat)
-        ensures stands { (events : List Event) → StandsFor self.old events →
-            StandsFor self.new (events ++ flat_events flat.now) }
-    {
-        walk::take_flat(&mut self.walk, flat);
-        self.floor = flat.close;
-        self.depth = depth_of(flat.close, &self.walk);
     }
 
     /// Whether the events are those of a whole value.
@@ -198,10 +195,10 @@ impl Coordinates {
         ensures least { (value : Tree) → StandsFor self.now (value_events value) → depth value < 2 ^ 64 →
             result ≡ least (coordinates_faults simple value) }
     {
-        if self.depth.is_whole() {
-            self.walk.gather.held_fault(simple)
+        if self.whole {
+            self.walk.outer.held_fault(simple)
         } else {
-            least_fault(&self.walk, simple)
+            self.walk.fault(simple)
         }
     }
 
@@ -211,10 +208,10 @@ impl Coordinates {
         ensures least { (value : Tree) → StandsFor self.now (value_events value) → depth value < 2 ^ 64 →
             faults.new ≡ least_faults value }
     {
-        if self.depth.is_whole() {
-            self.walk.gather.held_faults(faults);
+        if self.whole {
+            self.walk.outer.held_faults(faults);
         } else {
-            walk::least_faults(&self.walk, faults);
+            self.walk.faults(faults);
         }
     }
 
@@ -229,10 +226,10 @@ impl Coordinates {
         ensures stands { (value : Tree) → StandsFor self.now (value_events value) → length (value_events value) < 2 ^ 64 →
             WarningsStandFor result (coordinates_warnings simple value) }
     {
-        if self.depth.is_whole() {
-            self.walk.gather.held_warned(simple).all()
+        if self.whole {
+            self.walk.outer.held_warned(simple).all()
         } else {
-            all_warnings(&self.walk, simple)
+            self.walk.warnings(simple)
         }
     }
 
@@ -243,10 +240,10 @@ impl Coordinates {
         ensures none { (value : Tree) (simple : Simple) → StandsFor self.now (value_events value) → depth value < 2 ^ 64 → IsTrue result →
             coordinates_kept simple value ≡ no_warnings }
     {
-        if self.depth.is_whole() {
-            self.walk.gather.positions_warned.is_nothing()
+        if self.whole {
+            self.walk.outer.positions_warned.is_nothing()
         } else {
-            walk::is_quiet(&self.walk)
+            self.walk.is_quiet()
         }
     }
 
@@ -255,10 +252,10 @@ impl Coordinates {
         ensures kept { (value : Tree) → StandsFor self.now (value_events value) → depth value < 2 ^ 64 →
             all_in warned.new ≡ joined (all_in warned.old) (coordinates_kept simple value) }
     {
-        if self.depth.is_whole() {
-            warned.take(&self.walk.gather.held_warned(simple));
+        if self.whole {
+            warned.take(&self.walk.outer.held_warned(simple));
         } else {
-            walk::warn(&self.walk, simple, warned);
+            self.walk.warn(simple, warned);
         }
     }
 }

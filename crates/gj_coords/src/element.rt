@@ -61,10 +61,6 @@ impl ValueReader for Element {
         self.levels = 0;
     }
 
-    fn restart(&mut self) {
-        self.again();
-    }
-
     fn done(&self) -> bool {
         self.started && self.levels == 0
     }

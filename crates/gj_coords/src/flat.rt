@@ -2,7 +2,7 @@
 ghost use Rattle.std.specs.Prelude.{◌≡◌, Some, IfSome, true, false};
 ghost use Rattle.gj_number.specs.Short.{exact_of};
 ghost use Rattle.gj_coords.specs.CoordinateWarnings.{is_precise};
-ghost use Rattle.gj_coords.specs.Internal.PositionGather.{position_noted, sound_noted};
+ghost use Rattle.gj_coords.specs.Internal.PositionGather.{precise_with, position_noted, sound_noted};
 ghost use Rattle.gj_coords.specs.Winding.{corner_of};
 ghost use Rattle.gj_coords.specs.Internal.KeptWarnings.{nothing_noted};
 ghost use Rattle.gj_coords.specs.Internal.FlatPosition.{flat_values, flat_position, flat_precise, pair_noted, precise_noted, third_value, third_precise};
@@ -117,14 +117,25 @@ fn precise_with(noted: KindWarnings, number: &Numbered) -> KindWarnings
     }
 }
 
-/// What is noted of two numbers that are too precise.
+/// Notes those of two numbers that are too precise, by their places.
 #[inline(always)]
-fn pair_noted(flat: &Flat) -> KindWarnings
-    ensures { result ≡ pair_noted flat.now }
+pub fn warn_pair(
+    first: bool,
+    first_place: u64,
+    second: bool,
+    second_place: u64,
+    warned: &mut Warned,
+)
+    ensures { warned.new ≡ precise_noted warned.old (precise_with second second_place (precise_with first first_place nothing_noted)) }
 {
-    KindWarnings {
-        count: 2,
-        first: flat.first.place.min(flat.second.place),
+    match (first, second) {
+        (true, true) => warned.note_precise(KindWarnings {
+            count: 2,
+            first: first_place.min(second_place),
+        }),
+        (true, false) => warned.note_precise(KindWarnings::one(first_place)),
+        (false, true) => warned.note_precise(KindWarnings::one(second_place)),
+        (false, false) => {}
     }
 }
 
@@ -134,12 +145,13 @@ pub fn warn_judged(flat: &Flat, pair: &JudgedPair, warned: &mut Warned)
     requires { IsJudged flat.now pair.now }
     ensures { warned.new ≡ sound_noted warned.old (flat_position flat.now) }
 {
-    match (pair.first, pair.second) {
-        (true, true) => warned.note_precise(pair_noted(flat)),
-        (true, false) => warned.note_precise(KindWarnings::one(flat.first.place)),
-        (false, true) => warned.note_precise(KindWarnings::one(flat.second.place)),
-        (false, false) => {}
-    }
+    warn_pair(
+        pair.first,
+        flat.first.place,
+        pair.second,
+        flat.second.place,
+        warned,
+    );
 }
 
 /// Its numbers that are too precise.

@@ -9,9 +9,9 @@
 mod array;
 mod bbox;
 mod coordinates;
+mod cuts;
 mod element;
 mod fault;
-mod findings;
 mod flat;
 mod kind;
 mod kind_warnings;
@@ -19,7 +19,6 @@ pub mod laws;
 mod position;
 mod position_warned;
 mod ring;
-mod several;
 mod simple;
 mod simple_faults;
 mod tally;

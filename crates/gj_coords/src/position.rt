@@ -7,14 +7,11 @@ ghost use Rattle.gj_coords.specs.Internal.FlatPosition.{third_value};
 ghost use Rattle.gj_coords.specs.CoordinateWarnings.{is_precise};
 ghost use Rattle.gj_coords.specs.Internal.PositionGather.{misshapen_at, position_closed};
 
-use crate::array::Array;
-use crate::element::Element;
 use crate::fault::{Fault, Rule, join_fault, lesser_fault};
 use crate::flat;
 use crate::kind_warnings::KindWarnings;
 use crate::position_warned::note_position;
 use crate::tally::Tally;
-use crate::value_reader::Gather;
 use crate::warned::Warned;
 use crate::winding::Corner;
 use gj_json::{Event, Flat, Numbered, What};
@@ -45,17 +42,6 @@ pub struct Numbers {
     pub tally: Tally,
     pub fault: Option<Fault>,
     /// Those of the first three that are too precise.
-    pub precise: KindWarnings,
-}
-
-/// What is known of a value that was read as a position: its first event, its least fault, its values, how many elements
-/// it has as far as they are counted, and which of its numbers are too precise.
-#[derive(Clone, Copy)]
-pub struct Position {
-    pub values: Values,
-    pub head: Event,
-    pub fault: Option<Fault>,
-    pub count: u8,
     pub precise: KindWarnings,
 }
 
@@ -293,21 +279,6 @@ impl Numbers {
         lesser_fault(self.tally.few(NEEDED, Rule::G12), self.fault)
     }
 
-    pub fn position(&self) -> Position
-        ensures { result ≡ position_closed self.now }
-    {
-        Position {
-            values: self.values,
-            head: Event {
-                place: self.tally.place,
-                what: What::OpenArray,
-            },
-            fault: self.least_fault(),
-            count: self.tally.count,
-            precise: self.precise,
-        }
-    }
-
     /// Notes what deserves a warning in a position that breaks no rule and has this corner.
     #[inline]
     pub fn warn(&self, corner: &Option<Corner>, warned: &mut Warned)
@@ -332,60 +303,6 @@ impl Numbers {
     }
 }
 
-impl Position {
-    ghost use Rattle.std.specs.Prelude.{◌≡◌};
-    ghost use Rattle.gj_coords.specs.Internal.PositionGather.{no_position};
-
-    /// What is known of a value that is no array.
-    pub fn none(head: &Event) -> Position
-        ensures { result ≡ no_position head.now }
-    {
-        Position {
-            values: Values::none(),
-            head: *head,
-            fault: misshapen(head.place),
-            count: 0,
-            precise: KindWarnings::nothing(),
-        }
-    }
-}
-
-impl Gather<Element> for Numbers {
-    ghost use Rattle.gj_coords.specs.Internal.PositionGather.{numbers_gathering};
-
-    type Answer = Position;
-
-    ghost gathering = { numbers_gathering };
-
-    fn new() -> Numbers {
-        Numbers::none()
-    }
-
-    fn open(&mut self, place: u64) {
-        self.clear(place);
-    }
-
-    fn add(&mut self, item: &Element) {
-        self.add_element(&item.first);
-    }
-
-    fn add_single(&mut self, event: &Event) {
-        self.add_element(event);
-    }
-
-    fn add_number(&mut self, place: u64, value: &Option<Decimal>) {
-        self.add_value(place, value);
-    }
-
-    fn close(&self) -> Position {
-        self.position()
-    }
-
-    fn other(head: &Event) -> Position {
-        Position::none(head)
-    }
-}
-
 /// The fault of a value of the wrong shape.
 pub fn misshapen(place: u64) -> Option<Fault>
     ensures { result ≡ misshapen_at place }
@@ -395,6 +312,3 @@ pub fn misshapen(place: u64) -> Option<Fault>
         rule: Rule::G11,
     })
 }
-
-/// Reads a position.
-pub type PositionReader = Array<Element, Numbers>;

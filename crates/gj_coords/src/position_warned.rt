@@ -2,11 +2,9 @@
 ghost use Rattle.std.specs.Prelude.{◌≡◌};
 ghost use Rattle.gj_coords.specs.Internal.PositionGather.{position_noted};
 
-use crate::fault::Fault;
 use crate::kind::Kind;
 use crate::kind_warnings::KindWarnings;
-use crate::position::{MOST_VALUES, Position};
-use crate::value_reader::Judged;
+use crate::position::MOST_VALUES;
 use crate::warned::Warned;
 use crate::winding::Corner;
 
@@ -30,22 +28,5 @@ pub fn note_position(
     }
     if !precise.is_nothing() {
         warned.note_all(Kind::W4, precise);
-    }
-}
-
-impl Judged for Position {
-    ghost use Rattle.gj_coords.specs.Internal.Findings.{position_judged};
-
-    ghost judgement = { position_judged };
-
-    fn fault(&self) -> Option<Fault> {
-        self.fault
-    }
-
-    fn warn(&self, _others: u8, warned: &mut Warned) {
-        if self.fault.is_none() {
-            let corner = self.values.corner();
-            note_position(self.head.place, self.count, &corner, self.precise, warned);
-        }
     }
 }

@@ -2,16 +2,15 @@
 ghost use Rattle.std.specs.Prelude.{◌≡◌};
 ghost use Rattle.gj_coords.specs.Internal.PositionsGather.{role_behind, runs_wrong};
 
-use crate::array::{Array, Stage};
+use crate::cuts;
 use crate::fault::{Fault, Rule, join_fault, lesser_fault};
 use crate::flat::{self, JudgedPair};
 use crate::kind::Kind;
-use crate::position::{Numbers, PositionReader, Values, misshapen};
+use crate::position::{Numbers, Values, misshapen};
 use crate::tally::Tally;
-use crate::value_reader::{Gather, Judged};
 use crate::warned::Warned;
 use crate::winding::{Corner, Turn, Winding};
-use gj_json::{Event, Flat};
+use gj_json::{CutPosition, Flat};
 
 /// The least number of positions of a linear ring.
 const NEEDED: u8 = 4;
@@ -32,21 +31,6 @@ pub struct Positions {
 pub enum RingRole {
     Exterior,
     Hole,
-}
-
-/// What a linear ring gathers.
-#[derive(Clone, Copy)]
-pub struct RingGather {
-    pub positions: Positions,
-    pub tally: Tally,
-}
-
-/// What is known of a value that was read as a linear ring: its positions, its place and its least fault.
-#[derive(Clone, Copy)]
-pub struct LinearRing {
-    pub positions: Positions,
-    pub place: u64,
-    pub fault: Option<Fault>,
 }
 
 impl RingRole {
@@ -73,7 +57,12 @@ impl RingRole {
 }
 
 impl Positions {
-    ghost use Rattle.std.specs.Prelude.{◌≡◌};
+    ghost use Rattle.std.specs.Prelude.{◌≡◌, ◌≤◌, List, length, take, IsTrue, false, Some, None};
+    ghost use Rattle.gj_json.specs.declared.flat.Flat.{Flat};
+    ghost use Rattle.gj_json.specs.CutPosition.{IsCutPosition, AreCutPositions};
+    ghost use Rattle.gj_coords.specs.declared.position.Values.{Values};
+    ghost use Rattle.gj_coords.specs.Internal.AddedPositions.{positions_added};
+    ghost use Rattle.gj_coords.specs.Internal.PositionGather.{corner_in};
     ghost use Rattle.gj_coords.specs.Internal.WindingGather.{turn_in};
     ghost use Rattle.gj_coords.specs.Internal.PositionGather.{position_closed, misshapen_at};
     ghost use Rattle.gj_coords.specs.Internal.FlatPosition.{flat_position, flat_values, IsJudged};
@@ -218,6 +207,48 @@ impl Positions {
         self.winding.add(corner);
     }
 
+    /// Adds positions that come as their cut values, up to the first that is out of range or may have the values of the first
+    /// of all: how many.
+    pub fn add_cuts(&mut self, positions: &[CutPosition]) -> usize
+        ensures few { result ≤ length positions.now }
+        ensures added { (flats : List Flat) → AreCutPositions (take result positions.now) flats → self.new ≡ positions_added self.old flats }
+    {
+        if self.fault.is_some() {
+            return 0;
+        }
+        let Some(first) = &self.first else {
+            return 0;
+        };
+        let start = first.corner();
+        let mut at = 0;
+        while at < positions.len() && self.adds_cut(&positions[at], &start) {
+            at += 1;
+        }
+        at
+    }
+
+    /// Adds a position after others without a fault, where it is in range and its values are not those of the first, which
+    /// has the corner `start`, as its corner shows: whether it did.
+    #[inline(always)]
+    fn adds_cut(&mut self, position: &CutPosition, start: &Option<Corner>) -> bool
+        ensures same { result ≡ false → self.new ≡ self.old }
+        ensures first { self.new.first ≡ self.old.first }
+        ensures fault { self.new.fault ≡ self.old.fault }
+        ensures added { IsTrue result → (flat : Flat) (first : Values) → IsCutPosition position.now flat → self.old.fault ≡ None → self.old.first ≡ Some first
+            → start.now ≡ corner_in first → self.new ≡ position_added self.old (flat_position flat) }
+    {
+        let Some(corner) = cuts::corner(position) else {
+            return false;
+        };
+        if cuts::may_be(start, &corner) {
+            return false;
+        }
+        cuts::warn(position, &mut self.warned);
+        self.closes = false;
+        self.winding.add_next(&corner);
+        true
+    }
+
     /// Adds a value that is no array.
     pub fn add_misshapen(&mut self, place: u64)
         ensures { self.new ≡ misshapen_added self.old place }
@@ -251,91 +282,3 @@ impl Positions {
         }
     }
 }
-
-impl RingGather {
-    ghost use Rattle.std.specs.Prelude.{◌≡◌};
-    ghost use Rattle.gj_coords.specs.Internal.PositionGather.{position_closed, no_position};
-    ghost use Rattle.gj_coords.specs.Internal.PositionsGather.{ring_gathering};
-
-    /// Adds an element that is an array, by what it gathered.
-    fn add_array(&mut self, element: &Numbers)
-        ensures { self.new ≡ ring_gathering.added self.old (position_closed element.now) }
-    {
-        self.positions.add(element);
-        self.tally.add();
-    }
-
-    /// Adds an element that is no array, by its first event.
-    fn add_other(&mut self, head: &Event)
-        ensures { self.new ≡ ring_gathering.added self.old (no_position head.now) }
-    {
-        self.positions.add_misshapen(head.place);
-        self.tally.add();
-    }
-}
-
-impl Gather<PositionReader> for RingGather {
-    ghost use Rattle.gj_coords.specs.Internal.PositionsGather.{ring_gathering};
-
-    type Answer = LinearRing;
-
-    ghost gathering = { ring_gathering };
-
-    fn new() -> RingGather {
-        RingGather {
-            positions: Positions::none(),
-            tally: Tally::open(0),
-        }
-    }
-
-    fn open(&mut self, place: u64) {
-        self.positions.clear();
-        self.tally = Tally::open(place);
-    }
-
-    fn add(&mut self, item: &PositionReader) {
-        match item.stage {
-            Stage::Broken => self.add_other(&item.other.first),
-            _ => self.add_array(&item.gather),
-        }
-    }
-
-    fn add_single(&mut self, event: &Event) {
-        self.add_other(event);
-    }
-
-    fn close(&self) -> LinearRing {
-        LinearRing {
-            positions: self.positions,
-            place: self.tally.place,
-            fault: self.positions.ring_fault(&self.tally),
-        }
-    }
-
-    fn other(head: &Event) -> LinearRing {
-        LinearRing {
-            positions: Positions::none(),
-            place: head.place,
-            fault: misshapen(head.place),
-        }
-    }
-}
-
-impl Judged for LinearRing {
-    ghost use Rattle.gj_coords.specs.Internal.PositionsGather.{ring_judged};
-
-    ghost judgement = { ring_judged };
-
-    fn fault(&self) -> Option<Fault> {
-        self.fault
-    }
-
-    fn warn(&self, others: u8, warned: &mut Warned) {
-        let role = RingRole::behind(others);
-        self.positions
-            .warn_ring(role, self.place, &self.fault, warned);
-    }
-}
-
-/// Reads a linear ring.
-pub type Ring = Array<PositionReader, RingGather>;

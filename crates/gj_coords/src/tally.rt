@@ -1,11 +1,15 @@
 //! How many elements an array has, as far as the rules ask.
 ghost use Rattle.std.specs.Prelude.{◌≡◌, nat_lt};
 ghost use Rattle.gj_coords.specs.Internal.ElementCount.{tally_at, counted, few_in};
+ghost use Rattle.gj_coords.specs.Internal.ListGather.{line_closed};
 
-use crate::fault::{Fault, Rule};
+use crate::fault::{Fault, Rule, lesser_fault};
 
 /// No rule asks for more elements than these.
 const MOST_COUNTED: u8 = 4;
+
+/// The least number of positions of a line.
+pub const LINE_NEEDS: u8 = 2;
 
 /// Where an array begins, and how many elements it has, counted up to the most that a rule asks for.
 #[derive(Clone, Copy)]
@@ -50,4 +54,11 @@ impl Tally {
             None
         }
     }
+}
+
+/// The least fault of a line whose positions have this least fault.
+pub fn line_fault(tally: &Tally, positions: Option<Fault>) -> Option<Fault>
+    ensures { result ≡ line_closed tally.now positions }
+{
+    lesser_fault(tally.few(LINE_NEEDS, Rule::G13), positions)
 }

@@ -1,15 +1,9 @@
 //! What the readers of coordinates are made of.
 ghost use Rattle.std.specs.Prelude.{◌≡◌};
-ghost use Rattle.gj_json.specs.declared.event.What.TheVariants.{OpenArray, CloseArray, Number};
-ghost use Rattle.gj_coords.specs.Internal.SentEvents.{event_at};
 ghost use Rattle.gj_coords.specs.Internal.ValueMachine.{Machine};
 ghost use Rattle.gj_coords.specs.Internal.Gathering.{Gathering};
-ghost use Rattle.gj_coords.specs.Internal.Findings.{Judgement};
 
-use crate::fault::Fault;
-use crate::warned::Warned;
-use gj_json::{Event, What};
-use gj_number::Decimal;
+use gj_json::Event;
 
 /// Reads one value event by event, and answers.
 pub trait ValueReader: Copy {
@@ -26,46 +20,9 @@ pub trait ValueReader: Copy {
     fn event(&mut self, event: &Event)
         ensures { self.new ≡ machine.after self.old event.now };
 
-    /// Takes the opening bracket of an array.
-    #[inline]
-    fn open_array(&mut self, place: u64)
-        ensures { self.new ≡ machine.after self.old (event_at place OpenArray) }
-    {
-        self.event(&Event {
-            place,
-            what: What::OpenArray,
-        });
-    }
-
-    /// Takes the closing bracket of an array.
-    #[inline]
-    fn close_array(&mut self, place: u64)
-        ensures { self.new ≡ machine.after self.old (event_at place CloseArray) }
-    {
-        self.event(&Event {
-            place,
-            what: What::CloseArray,
-        });
-    }
-
-    /// Takes a number.
-    #[inline]
-    fn number(&mut self, place: u64, value: &Option<Decimal>)
-        ensures { self.new ≡ machine.after self.old (event_at place (Number value.now)) }
-    {
-        self.event(&Event {
-            place,
-            what: What::Number(*value),
-        });
-    }
-
     /// Makes it ready for another value, once one has ended.
     fn again(&mut self)
         ensures { self.new ≡ machine.again self.old };
-
-    /// Makes it ready for another value, wherever it stands.
-    fn restart(&mut self)
-        ensures { machine.Ready self.new };
 
     /// Whether the value has ended.
     fn done(&self) -> bool
@@ -103,17 +60,6 @@ pub trait Gather<W: ValueReader>: Copy {
     fn add_single(&mut self, event: &Event)
         ensures { self.new ≡ gathering.added self.old (W.machine.single event.now) };
 
-    /// Adds an element that is a number.
-    #[inline]
-    fn add_number(&mut self, place: u64, value: &Option<Decimal>)
-        ensures { self.new ≡ gathering.added self.old (W.machine.single (event_at place (Number value.now))) }
-    {
-        self.add_single(&Event {
-            place,
-            what: What::Number(*value),
-        });
-    }
-
     /// The answer for the array that was gathered.
     fn close(&self) -> Self::Answer
         ensures { result ≡ gathering.closed self.now };
@@ -121,17 +67,4 @@ pub trait Gather<W: ValueReader>: Copy {
     /// The answer for a value that is no array, by its first event.
     fn other(head: &Event) -> Self::Answer
         ensures { result ≡ gathering.otherwise head.now };
-}
-
-/// An answer that has the least fault of its value, and what deserves a warning in it.
-pub trait Judged: Copy {
-    /// What its methods do, as functions.
-    ghost judgement: { Judgement Self };
-
-    fn fault(&self) -> Option<Fault>
-        ensures { result ≡ judgement.fault_of self.now };
-
-    /// Notes what deserves a warning in the value, which is an element after this many others.
-    fn warn(&self, others: u8, warned: &mut Warned)
-        ensures { warned.new ≡ judgement.warned_behind others warned.old self.now };
 }

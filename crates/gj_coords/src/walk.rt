@@ -2,185 +2,458 @@
 //!
 //! Each level is read once, in each role that it has under some type: the value itself as each of the six types; its
 //! elements as positions, lines, linear rings and polygons; theirs as positions and linear rings; and theirs as positions.
-ghost use Rattle.std.specs.Prelude.{◌≡◌};
-ghost use Rattle.gj_coords.specs.Internal.GatheredWarnings.{all_in, taken};
-ghost use Rattle.gj_coords.specs.SimpleFaults.{by_simple};
-ghost use Rattle.gj_coords.specs.Internal.LevelGather.{walk_machine, fault_as, warned_as, quiet_as};
-ghost use Rattle.gj_json.specs.Flat.{number_event};
-ghost use Rattle.gj_coords.specs.Internal.SentEvents.{event_at};
-ghost use Rattle.gj_coords.specs.Internal.FlatPosition.{flat_taken, singly, in_second, second_due, third_due, in_third, in_fourth};
+ghost use Rattle.std.specs.Prelude.{◌≡◌, ◌<◌};
+ghost use Rattle.gj_coords.specs.Internal.SteadyWalk.{IsCounted};
+ghost use Rattle.gj_coords.specs.Internal.WalkProgress.{never};
 
-pub mod depth;
-mod inner_array;
-mod middle_array;
-mod outer_array;
+mod level;
+mod outermost;
 
-use crate::array::{Array, Stage};
+use crate::element::Element;
 use crate::fault::Fault;
-use crate::position::misshapen;
+use crate::position::{Numbers, misshapen};
 use crate::simple::Simple;
 use crate::simple_faults::SimpleFaults;
 use crate::value_reader::ValueReader;
-use crate::walk::middle_array::MiddleReader;
-use crate::walk::outer_array::OuterArray;
+use crate::walk::level::Level;
+use crate::walk::outermost::Outermost;
 use crate::warned::Warned;
 use crate::warnings::Warnings;
-use gj_json::{Event, Flat, Numbered, What};
+use gj_json::{CutPosition, Event, Flat, Numbered, What};
+use gj_number::Decimal;
 
-/// Reads a value under the six types.
-pub type Walk = Array<MiddleReader, OuterArray>;
+/// No place is after this one.
+pub const NEVER: u64 = u64::MAX;
 
-/// The least fault of the value that was read, for a type.
-pub fn least_fault(walk: &Walk, simple: Simple) -> Option<Fault>
-    ensures { result ≡ fault_as simple (walk_machine.answered walk.now) }
+/// How far a value has come.
+#[derive(Clone, Copy)]
+pub enum Stage {
+    /// Nothing has come.
+    Due,
+    /// In the innermost open array an element or the end is due.
+    Open,
+    /// There an element is read past.
+    Past,
+    /// The value is no array, and is read past.
+    Broken,
+    /// The outermost array is closed.
+    Done,
+}
+
+/// How many arrays are open.
+#[derive(Clone, Copy)]
+pub enum Depth {
+    First,
+    Second,
+    Third,
+    /// The innermost can only be a position: an array or object in it is read past.
+    Fourth,
+}
+
+/// A value as far as it has come, and what its open arrays have gathered: the outermost, the next, and so on. What is
+/// held of an array that is not open does not matter.
+#[derive(Clone, Copy)]
+pub struct Walk {
+    pub outer: Outermost,
+    pub middle: Level,
+    pub inner: Level,
+    pub numbers: Numbers,
+    /// What is read past.
+    pub other: Element,
+    pub depth: Depth,
+    pub stage: Stage,
+}
+
+/// The place after which a position more in an array that has gathered these numbers changes no fault.
+fn steady_after(position: &Flat, numbers: &Numbers) -> u64
+    ensures counted { result < never → IsCounted numbers.now }
+    ensures place { result < never → result ≡ position.now.first.place }
 {
-    match walk.stage {
-        Stage::Broken => misshapen(walk.other.first.place),
-        _ => walk.gather.fault(simple),
+    if numbers.values.count == numbers.tally.count.min(3) {
+        position.first.place
+    } else {
+        NEVER
     }
 }
 
-/// The least fault of the value that was read, for each type.
-#[inline]
-pub fn least_faults(walk: &Walk, faults: &mut SimpleFaults)
-    ensures { faults.new ≡ by_simple (λ simple. fault_as simple (walk_machine.answered walk.now)) }
-{
-    match walk.stage {
-        Stage::Broken => *faults = SimpleFaults::all(misshapen(walk.other.first.place)),
-        _ => walk.gather.faults(faults),
-    }
-}
+impl Walk {
+    ghost use Rattle.std.specs.Prelude.{◌≡◌, ◌<◌, ◌≤◌, ℕ, List, length, take};
+    ghost use Rattle.gj_json.specs.declared.flat.Flat.{Flat};
+    ghost use Rattle.gj_json.specs.CutPosition.{AreCutPositions};
+    ghost use Rattle.gj_coords.specs.Internal.AddedPositions.{AllAfter, StayAll};
+    ghost use Rattle.gj_json.specs.declared.event.What.TheVariants.{OpenArray, CloseArray, Number};
+    ghost use Rattle.gj_json.specs.Flat.{number_event, flat_events};
+    ghost use Rattle.gj_coords.specs.declared.walk.Stage.TheVariants.{Open, Past};
+    ghost use Rattle.gj_coords.specs.SimpleFaults.{by_simple};
+    ghost use Rattle.gj_coords.specs.Internal.ElementReader.{inside, levels_after};
+    ghost use Rattle.gj_coords.specs.Internal.SentEvents.{event_at};
+    ghost use Rattle.gj_coords.specs.Internal.ValueMachine.{run};
+    ghost use Rattle.gj_coords.specs.Internal.GatheredWarnings.{all_in, taken};
+    ghost use Rattle.gj_coords.specs.Internal.LevelGather.{fault_as, warned_as, quiet_as};
+    ghost use Rattle.gj_coords.specs.Internal.Progress.{waiting, opened, closed, added, passing, joined, step, ended};
+    ghost use Rattle.gj_coords.specs.Internal.WalkProgress.{open_progress, progress, answer_of, never};
+    ghost use Rattle.gj_coords.specs.Internal.SteadyWalk.{IsSteady, StaysSteady};
 
-/// Whether a few comparisons show that nothing in the value that was read deserves a warning under any type. `false`
-/// promises nothing.
-#[inline]
-pub fn is_quiet(walk: &Walk) -> bool
-    ensures { result ≡ quiet_as (walk_machine.answered walk.now) }
-{
-    match walk.stage {
-        Stage::Broken => false,
-        _ => walk.gather.is_quiet(),
-    }
-}
-
-/// The warnings of the value that was read, for a type.
-pub fn all_warnings(walk: &Walk, simple: Simple) -> Warnings
-    ensures { result ≡ all_in (warned_as simple (walk_machine.answered walk.now)) }
-{
-    match walk.stage {
-        Stage::Broken => Warnings::none(),
-        _ => walk.gather.warned(simple).all(),
-    }
-}
-
-/// Adds the warnings of the value that was read, for a type, to others.
-pub fn warn(walk: &Walk, simple: Simple, warned: &mut Warned)
-    ensures { warned.new ≡ taken warned.old (warned_as simple (walk_machine.answered walk.now)) }
-{
-    match walk.stage {
-        Stage::Broken => {}
-        _ => walk.gather.warn(simple, warned),
-    }
-}
-
-/// Takes an array of numbers that comes as one [`Flat`].
-pub fn take_flat(walk: &mut Walk, flat: &Flat)
-    ensures { walk.new ≡ flat_taken flat.now walk.old }
-{
-    match walk.stage {
-        Stage::Within => take_within(walk, flat),
-        Stage::Between => take_element(walk, flat),
-        _ => take_singly(walk, flat),
-    }
-}
-
-/// Takes such an array where an element of the value is due.
-#[inline]
-fn take_element(walk: &mut Walk, flat: &Flat)
-    ensures { walk.new ≡ second_due flat.now walk.old.item.stage walk.old }
-{
-    match walk.item.stage {
-        Stage::Due => {
-            walk.gather.add_flat(flat);
-            walk.item.again();
+    pub fn new() -> Walk
+        ensures { progress result ≡ waiting }
+    {
+        Walk {
+            outer: Outermost::new(),
+            middle: Level::new(),
+            inner: Level::new(),
+            numbers: Numbers::none(),
+            other: Element::new(),
+            depth: Depth::First,
+            stage: Stage::Due,
         }
-        _ => take_singly(walk, flat),
     }
-}
 
-/// Takes such an array within an element of the value.
-#[inline]
-fn take_within(walk: &mut Walk, flat: &Flat)
-    ensures { walk.new ≡ in_second flat.now walk.old.item.stage walk.old }
-{
-    match walk.item.stage {
-        Stage::Between => take_second(walk, flat),
-        Stage::Within => take_third(walk, flat),
-        _ => take_singly(walk, flat),
+    /// Begins anew, whatever has come.
+    pub fn again(&mut self)
+        ensures { progress self.new ≡ waiting }
+    {
+        self.stage = Stage::Due;
     }
-}
 
-#[inline]
-fn take_second(walk: &mut Walk, flat: &Flat)
-    ensures { walk.new ≡ third_due flat.now walk.old.item.item.stage walk.old }
-{
-    match walk.item.item.stage {
-        Stage::Due => {
-            walk.item.gather.add_flat(flat);
-            walk.item.item.again();
+    /// Takes one event, whatever it is.
+    pub fn event(&mut self, event: &Event)
+        ensures { progress self.new ≡ step (progress self.old) event.now }
+    {
+        match &event.what {
+            What::OpenArray => self.open_array(event.place),
+            What::CloseArray => self.close_array(event.place),
+            What::Number(value) => self.number(event.place, value),
+            What::OpenObject => self.pass(event),
+            _ => self.add(event),
         }
-        _ => take_singly(walk, flat),
     }
-}
 
-#[inline]
-fn take_third(walk: &mut Walk, flat: &Flat)
-    ensures { walk.new ≡ in_third flat.now walk.old.item.item.stage walk.old }
-{
-    match walk.item.item.stage {
-        Stage::Between => take_fourth(walk, flat),
-        _ => take_singly(walk, flat),
-    }
-}
-
-#[inline]
-fn take_fourth(walk: &mut Walk, flat: &Flat)
-    ensures { walk.new ≡ in_fourth flat.now walk.old.item.item.item.stage walk.old }
-{
-    match walk.item.item.item.stage {
-        Stage::Due => {
-            walk.item.item.gather.add_flat(flat);
-            walk.item.item.item.again();
+    /// Takes the opening bracket of an array.
+    #[inline]
+    pub fn open_array(&mut self, place: u64)
+        ensures { progress self.new ≡ opened (progress self.old) (event_at place OpenArray) }
+    {
+        match self.stage {
+            Stage::Due => {
+                self.outer.open(place);
+                self.depth = Depth::First;
+                self.stage = Stage::Open;
+            }
+            Stage::Open => self.open_next(place),
+            _ => self.pass_bracket(place, What::OpenArray),
         }
-        _ => take_singly(walk, flat),
     }
-}
 
-/// Takes its events one by one.
-#[inline(never)]
-fn take_singly(walk: &mut Walk, flat: &Flat)
-    ensures { walk.new ≡ singly flat.now walk.old }
-{
-    take_bracket(walk, flat.place, What::OpenArray);
-    take_number(walk, &flat.first);
-    take_number(walk, &flat.second);
-    if let Some(number) = &flat.third {
-        take_number(walk, number);
+    /// Opens an array in the innermost open one.
+    #[inline]
+    fn open_next(&mut self, place: u64)
+        requires { self.old.stage ≡ Open }
+        ensures { progress self.new ≡ opened (progress self.old) (event_at place OpenArray) }
+    {
+        match self.depth {
+            Depth::First => {
+                self.middle.open(place);
+                self.depth = Depth::Second;
+            }
+            Depth::Second => {
+                self.inner.open(place);
+                self.depth = Depth::Third;
+            }
+            Depth::Third => {
+                self.numbers.clear(place);
+                self.depth = Depth::Fourth;
+            }
+            Depth::Fourth => self.pass_bracket(place, What::OpenArray),
+        }
     }
-    take_bracket(walk, flat.close, What::CloseArray);
-}
 
-fn take_bracket(walk: &mut Walk, place: u64, what: What)
-    ensures { walk.new ≡ walk_machine.after walk.old (event_at place what) }
-{
-    walk.event(&Event { place, what });
-}
+    /// Takes the closing bracket of an array.
+    #[inline]
+    pub fn close_array(&mut self, place: u64)
+        ensures { progress self.new ≡ closed (progress self.old) (event_at place CloseArray) }
+    {
+        match self.stage {
+            Stage::Open => self.close_last(),
+            _ => self.pass_bracket(place, What::CloseArray),
+        }
+    }
 
-fn take_number(walk: &mut Walk, number: &Numbered)
-    ensures { walk.new ≡ walk_machine.after walk.old (number_event number.now) }
-{
-    walk.event(&Event {
-        place: number.place,
-        what: What::Number(Some(number.value.decimal())),
-    });
+    /// Closes the innermost open array: the one around it gathers it.
+    #[inline]
+    fn close_last(&mut self)
+        requires { self.old.stage ≡ Open }
+        ensures { (place : ℕ) → progress self.new ≡ closed (progress self.old) (event_at place CloseArray) }
+    {
+        match self.depth {
+            Depth::First => self.stage = Stage::Done,
+            Depth::Second => {
+                self.outer.add_level(&self.middle);
+                self.depth = Depth::First;
+            }
+            Depth::Third => {
+                self.middle.add_level(&self.inner);
+                self.depth = Depth::Second;
+            }
+            Depth::Fourth => {
+                self.inner.add_numbers(&self.numbers);
+                self.depth = Depth::Third;
+            }
+        }
+    }
+
+    /// Takes a number.
+    #[inline]
+    pub fn number(&mut self, place: u64, value: &Option<Decimal>)
+        ensures { progress self.new ≡ added (progress self.old) (event_at place (Number value.now)) }
+    {
+        match self.stage {
+            Stage::Open => self.add_number(place, value),
+            _ => self.pass(&Event {
+                place,
+                what: What::Number(*value),
+            }),
+        }
+    }
+
+    /// Adds a number to the innermost open array.
+    #[inline]
+    fn add_number(&mut self, place: u64, value: &Option<Decimal>)
+        requires { self.old.stage ≡ Open }
+        ensures { progress self.new ≡ added (progress self.old) (event_at place (Number value.now)) }
+    {
+        match self.depth {
+            Depth::First => self.outer.add_other(&Event {
+                place,
+                what: What::Number(*value),
+            }),
+            Depth::Second => self.middle.add_number(place, value),
+            Depth::Third => self.inner.add_number(place, value),
+            Depth::Fourth => self.numbers.add_value(place, value),
+        }
+    }
+
+    /// Takes an event that opens and closes nothing.
+    fn add(&mut self, event: &Event)
+        ensures { progress self.new ≡ added (progress self.old) event.now }
+    {
+        match self.stage {
+            Stage::Open => self.join(event),
+            _ => self.pass(event),
+        }
+    }
+
+    /// Adds an element that is no array to the innermost open one, by its first event.
+    fn join(&mut self, head: &Event)
+        ensures stage { self.new.stage ≡ self.old.stage }
+        ensures joined { open_progress self.new ≡ joined (open_progress self.old) head.now }
+    {
+        match self.depth {
+            Depth::First => self.outer.add_other(head),
+            Depth::Second => self.middle.add_other(head),
+            Depth::Third => self.inner.add_other(head),
+            Depth::Fourth => self.numbers.add_element(head),
+        }
+    }
+
+    /// Takes a bracket of what is read past.
+    fn pass_bracket(&mut self, place: u64, what: What)
+        ensures { progress self.new ≡ passing (progress self.old) (event_at place what) }
+    {
+        self.pass(&Event { place, what });
+    }
+
+    /// Takes an event of what is read past, or the first of it.
+    #[inline(never)]
+    fn pass(&mut self, event: &Event)
+        ensures { progress self.new ≡ passing (progress self.old) event.now }
+    {
+        match self.stage {
+            Stage::Due => {
+                self.begin(event);
+                self.stage = Stage::Broken;
+            }
+            Stage::Open => {
+                self.begin(event);
+                self.stage = Stage::Past;
+            }
+            Stage::Past => self.pass_on(event),
+            Stage::Broken => self.other.event(event),
+            Stage::Done => {}
+        }
+    }
+
+    /// Begins to read past a value.
+    fn begin(&mut self, event: &Event)
+        ensures { self.new ≡ record self.old { other = inside event.now (levels_after 0 event.now.what) } }
+    {
+        self.other.again();
+        self.other.event(event);
+    }
+
+    /// Takes an event of an element that is read past, and adds it where it has ended.
+    fn pass_on(&mut self, event: &Event)
+        requires { self.old.stage ≡ Past }
+        ensures { progress self.new ≡ passing (progress self.old) event.now }
+    {
+        self.other.event(event);
+        if self.other.done() {
+            let head = self.other.first;
+            self.join(&head);
+            self.stage = Stage::Open;
+        }
+    }
+
+    /// Takes an array of numbers that comes as one [`Flat`], and returns the place after which such arrays change no
+    /// fault, or `NEVER`.
+    pub fn take_flat(&mut self, flat: &Flat) -> u64
+        ensures taken { progress self.new ≡ run step (progress self.old) (flat_events flat.now) }
+        ensures steady { result < never → IsSteady result self.new }
+    {
+        match self.stage {
+            Stage::Open => self.add_flat(flat),
+            _ => {
+                self.take_singly(flat);
+                NEVER
+            }
+        }
+    }
+
+    /// Adds such an array to the innermost open one.
+    #[inline]
+    fn add_flat(&mut self, flat: &Flat) -> u64
+        requires { self.old.stage ≡ Open }
+        ensures taken { progress self.new ≡ run step (progress self.old) (flat_events flat.now) }
+        ensures steady { result < never → IsSteady result self.new }
+    {
+        match self.depth {
+            Depth::First => {
+                self.outer.add_flat(flat);
+                steady_after(flat, &self.outer.numbers)
+            }
+            Depth::Second => {
+                self.middle.add_flat(flat);
+                steady_after(flat, &self.middle.numbers)
+            }
+            Depth::Third => {
+                self.inner.add_flat(flat);
+                steady_after(flat, &self.inner.numbers)
+            }
+            Depth::Fourth => {
+                self.numbers.add_array(flat.place);
+                NEVER
+            }
+        }
+    }
+
+    /// Takes such an array where it changes no fault.
+    #[inline(always)]
+    pub fn add_steady(&mut self, flat: &Flat)
+        ensures { (floor : ℕ) → IsSteady floor self.old → floor < flat.now.place → StaysSteady floor flat.now self.old self.new }
+    {
+        match self.depth {
+            Depth::Second => self.middle.add_steady(flat),
+            Depth::First => self.outer.add_steady(flat),
+            Depth::Third => self.inner.add_steady(flat),
+            Depth::Fourth => {}
+        }
+    }
+
+    /// Takes arrays of two numbers that come as their cut values, where they change no fault: those before the first of which
+    /// more is asked, and returns how many.
+    pub fn add_cuts(&mut self, positions: &[CutPosition]) -> usize
+        ensures few { result ≤ length positions.now }
+        ensures steady { (floor : ℕ) (flats : List Flat) → AreCutPositions (take result positions.now) flats → AllAfter floor flats
+            → IsSteady floor self.old → StayAll floor flats self.old self.new }
+    {
+        match self.depth {
+            Depth::Second => self.middle.add_cuts(positions),
+            Depth::First => self.outer.add_cuts(positions),
+            Depth::Third => self.inner.add_cuts(positions),
+            Depth::Fourth => 0,
+        }
+    }
+
+    /// Takes its events one by one.
+    #[inline(never)]
+    fn take_singly(&mut self, flat: &Flat)
+        ensures { progress self.new ≡ run step (progress self.old) (flat_events flat.now) }
+    {
+        self.open_array(flat.place);
+        self.take_number(&flat.first);
+        self.take_number(&flat.second);
+        if let Some(number) = &flat.third {
+            self.take_number(number);
+        }
+        self.close_array(flat.close);
+    }
+
+    fn take_number(&mut self, number: &Numbered)
+        ensures { progress self.new ≡ added (progress self.old) (number_event number.now) }
+    {
+        self.number(number.place, &Some(number.value.decimal()));
+    }
+
+    /// Whether the value has ended.
+    pub fn done(&self) -> bool
+        ensures { result ≡ ended (progress self.now) }
+    {
+        match self.stage {
+            Stage::Broken => self.other.done(),
+            Stage::Done => true,
+            _ => false,
+        }
+    }
+
+    /// The least fault of the value that was read, for a type.
+    pub fn fault(&self, simple: Simple) -> Option<Fault>
+        ensures { result ≡ fault_as simple (answer_of self.now) }
+    {
+        match self.stage {
+            Stage::Broken => misshapen(self.other.first.place),
+            _ => self.outer.fault(simple),
+        }
+    }
+
+    /// The least fault of the value that was read, for each type.
+    #[inline]
+    pub fn faults(&self, faults: &mut SimpleFaults)
+        ensures { faults.new ≡ by_simple (λ simple. fault_as simple (answer_of self.now)) }
+    {
+        match self.stage {
+            Stage::Broken => *faults = SimpleFaults::all(misshapen(self.other.first.place)),
+            _ => self.outer.faults(faults),
+        }
+    }
+
+    /// Whether a few comparisons show that nothing in the value that was read deserves a warning under any type. `false`
+    /// promises nothing.
+    #[inline]
+    pub fn is_quiet(&self) -> bool
+        ensures { result ≡ quiet_as (answer_of self.now) }
+    {
+        match self.stage {
+            Stage::Broken => false,
+            _ => self.outer.is_quiet(),
+        }
+    }
+
+    /// The warnings of the value that was read, for a type.
+    pub fn warnings(&self, simple: Simple) -> Warnings
+        ensures { result ≡ all_in (warned_as simple (answer_of self.now)) }
+    {
+        match self.stage {
+            Stage::Broken => Warnings::none(),
+            _ => self.outer.warned(simple).all(),
+        }
+    }
+
+    /// Adds the warnings of the value that was read, for a type, to others.
+    pub fn warn(&self, simple: Simple, warned: &mut Warned)
+        ensures { warned.new ≡ taken warned.old (warned_as simple (answer_of self.now)) }
+    {
+        match self.stage {
+            Stage::Broken => {}
+            _ => self.outer.warn(simple, warned),
+        }
+    }
 }

@@ -13,18 +13,24 @@ ghost use Rattle.gj_coords.specs.CoordinateWarnings.{coordinates_warnings};
 ghost use Rattle.gj_coords.specs.Internal.ValueMachine.{Answers};
 ghost use Rattle.gj_coords.specs.Internal.SixReaders.{type_answer};
 
+mod findings;
 mod or_empty;
+mod position;
+mod ring;
+mod several;
 
 use crate::array::Array;
 use crate::element::Element;
 use crate::fault::Fault;
-use crate::findings::Findings;
-use crate::position::{Numbers, PositionReader};
-use crate::ring::Ring;
-use crate::several::{LINE_NEEDS, LIST_NEEDS, Line, List, Several};
+use crate::position::Numbers;
+use crate::tally::LINE_NEEDS;
 use crate::value_reader::ValueReader;
 use crate::warnings::Warnings;
+use crate::watcher::findings::Findings;
 use crate::watcher::or_empty::OrEmpty;
+use crate::watcher::position::PositionReader;
+use crate::watcher::ring::Ring;
+use crate::watcher::several::{LIST_NEEDS, Line, List, Several};
 use gj_json::Event;
 
 /// Takes the events of one value of `coordinates`, and gives its least fault and its warnings under one type.

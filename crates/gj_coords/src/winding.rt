@@ -54,7 +54,7 @@ pub struct Winding {
 impl Corner {
     ghost use Rattle.std.specs.Prelude.{◌≡◌, Some};
     ghost use Rattle.gj_number.specs.Short.{exact_of};
-    ghost use Rattle.gj_coords.specs.Winding.{corner_of, cross};
+    ghost use Rattle.gj_coords.specs.Winding.{most_longitude, most_latitude, corner_of, cross};
 
     /// The corner of a longitude and a latitude, where both are in range.
     pub fn new(longitude: &Option<Decimal>, latitude: &Option<Decimal>) -> Option<Corner>
@@ -74,6 +74,17 @@ impl Corner {
         join(
             cut_within(longitude, LONGITUDE_DEGREES),
             cut_within(latitude, LATITUDE_DEGREES),
+        )
+    }
+
+    /// The corner of two cut numbers, where both are in range.
+    #[inline(always)]
+    pub fn of_cuts(longitude: i64, latitude: i64) -> Option<Corner>
+        ensures { result ≡ both (bounded most_longitude longitude) (bounded most_latitude latitude) }
+    {
+        join(
+            within(longitude, MOST_LONGITUDE),
+            within(latitude, MOST_LATITUDE),
         )
     }
 

@@ -4,10 +4,8 @@ use Rattle.gj_json.specs.declared.event.Event.{Event}
 use Rattle.gj_json.specs.Tree.{Tree, depth}
 use Rattle.gj_json.specs.Events.{value_events}
 use Rattle.gj_coords.specs.declared.simple.Simple.{Simple}
-use Rattle.gj_coords.specs.declared.walk.outer_array.OuterSummary.{OuterSummary}
-use Rattle.gj_coords.specs.declared.walk.outer_array.OuterSummary.TheVariants as Summary
 use Rattle.gj_coords.specs.Internal.GatheredWarnings.{all_in}
-use Rattle.gj_coords.specs.Internal.LevelGather.{warned_as}
+use Rattle.gj_coords.specs.Internal.LevelGather.{WholeSummary, other, level, warned_as}
 use Rattle.gj_coords.specs.Internal.KeptWarnings.{warnings_of}
 use Rattle.gj_coords.specs.CoordinateWarnings.{coordinates_warnings}
 use Rattle.gj_coords.specs.Internal.CoordinatesKept.{coordinates_kept, first_answer}
@@ -24,9 +22,9 @@ unfolding coordinates_kept
 kept_is simple v few = first_warned simple v (short v few)
 
 -- a LineString has the warnings of a MultiPoint
-line_warned : (s : OuterSummary) → warned_as Simple.MultiPoint s ≡ warned_as Simple.LineString s
-line_warned (Summary.Other place) = refl
-line_warned (Summary.Level s) = refl
+line_warned : (s : WholeSummary) → warned_as Simple.MultiPoint s ≡ warned_as Simple.LineString s
+line_warned (other place) = refl
+line_warned (level s) = refl
 
 pub line_kept : (v : Tree) → coordinates_kept Simple.MultiPoint v ≡ coordinates_kept Simple.LineString v
 unfolding coordinates_kept

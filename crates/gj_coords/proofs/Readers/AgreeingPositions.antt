@@ -17,7 +17,7 @@ exact_decides a b =
     (Decides-and (a.digits == b.digits) (int_eq a.power b.power) (Decides-eqb a.digits b.digits) (Decides-int_eq a.power b.power)) in
     (λ t. let p = d.0 t in same_exact a b p.0 p.1.0 p.1.1, λ e. d.1 (ap (λ x. x.negative) e, (ap (λ x. x.digits) e, ap (λ x. x.power) e)))
 
-option_decides : (a b : Option Exact) → Decides (option_eq same_parts a b) (a ≡ b)
+pub option_decides : (a b : Option Exact) → Decides (option_eq same_parts a b) (a ≡ b)
 option_decides None None = (λ _. refl, λ _. refl)
 option_decides None (Some b) = (λ t. cc, λ e. cc)
 option_decides (Some a) None = (λ t. cc, λ e. cc)

@@ -3,10 +3,10 @@ use Rattle.std.specs.List.{flat_map}
 use Rattle.std.specs.Prelude.{⊤}
 use Rattle.std.proofs.Common.{◌≡◌, ℕ, true, refl, ap, ◌∙◌, arith}
 use Rattle.gj_json.specs.Tree.{Tree, constant, number, string, array, object}
-use Rattle.gj_coords.specs.declared.findings.Findings.{Findings}
-use Rattle.gj_coords.specs.declared.ring.LinearRing.{LinearRing}
-use Rattle.gj_coords.specs.declared.ring.RingGather.{RingGather}
-use Rattle.gj_coords.specs.declared.several.Several.{Several}
+use Rattle.gj_coords.specs.declared.watcher.findings.Findings.{Findings}
+use Rattle.gj_coords.specs.declared.watcher.ring.LinearRing.{LinearRing}
+use Rattle.gj_coords.specs.declared.watcher.ring.RingGather.{RingGather}
+use Rattle.gj_coords.specs.declared.watcher.several.Several.{Several}
 use Rattle.gj_coords.specs.declared.simple.Simple.{Simple}
 use Rattle.gj_coords.specs.declared.simple.Simple.TheVariants.{Point, MultiPoint, LineString, MultiLineString, Polygon, MultiPolygon}
 use Rattle.gj_coords.specs.declared.warned.Warned.{Warned}

@@ -1,199 +1,201 @@
 -- What one walk over a value answers.
-use Rattle.std.proofs.Common.{ℕ, ◌≡◌, ◌↔◌, ◌++◌, ◌∷◌, List, [], IsTrue, Option, Bool, true, false, is_none, refl, ap, sym, ◌∙◌, append_assoc, subst}
+use Rattle.std.proofs.Common.{◌≡◌, ◌<◌, ◌↔◌, ◌++◌, ◌∷◌, List, [], IsTrue, Option, Bool, true}
+use Rattle.std.proofs.Common.{false, is_none, refl, ap, sym, ◌∙◌, append_assoc, append-nil, subst, arith}
 use Rattle.gj_json.specs.declared.event.Event.{Event}
 use Rattle.gj_json.specs.declared.flat.Flat.{Flat}
 use Rattle.gj_json.specs.Flat.{flat_events}
+use Rattle.gj_json.specs.CutPosition.{flats_events}
 use Rattle.gj_json.specs.Tree.{Tree}
 use Rattle.gj_json.specs.Events.{value_events}
-use Rattle.gj_coords.specs.declared.array.Stage.{Stage}
-use Rattle.gj_coords.specs.declared.array.Stage.TheVariants.{Due, Done}
-use Rattle.gj_coords.specs.declared.element.Element.{Element}
 use Rattle.gj_coords.specs.declared.fault.Fault.{Fault}
-use Rattle.gj_coords.specs.declared.walk.outer_array.OuterSummary.TheVariants.{Level}
 use Rattle.gj_coords.specs.declared.simple.Simple.{Simple}
 use Rattle.gj_coords.specs.declared.simple.Simple.TheVariants.{Point, MultiPoint, LineString, MultiLineString, Polygon, MultiPolygon}
 use Rattle.gj_coords.specs.declared.simple_faults.SimpleFaults.{SimpleFaults}
+use Rattle.gj_coords.specs.declared.walk.Depth.{Depth}
+use Rattle.gj_coords.specs.declared.walk.Depth.TheVariants.{First, Second, Third, Fourth}
+use Rattle.gj_coords.specs.declared.walk.Stage.{Stage}
+use Rattle.gj_coords.specs.declared.walk.Stage.TheVariants.{Due, Open, Past, Broken, Done}
+use Rattle.gj_coords.specs.declared.walk.Walk.{Walk}
 use Rattle.gj_coords.specs.Fault.{least}
 use Rattle.gj_coords.specs.Shape.{coordinates_faults}
-use Rattle.gj_coords.specs.Internal.ValueMachine.{Answers, IsCountable}
-use Rattle.gj_coords.specs.Internal.PositionGather.{numbers_gathering, position_answer}
-use Rattle.gj_coords.specs.Internal.ElementReader.{element_machine}
-use Rattle.gj_coords.specs.Internal.SentEvents.{head}
-use Rattle.gj_coords.specs.Internal.LevelGather.{position_machine, third_machine, second_machine, walk_machine, third_gathering, second_gathering}
-use Rattle.gj_coords.specs.Internal.LevelGather.{first_gathering, fault_as, warned_as, quiet_as}
-use Rattle.gj_coords.specs.Internal.ArrayReader.{ended_at}
+use Rattle.gj_coords.specs.SimpleFaults.{by_simple, least_faults}
+use Rattle.gj_coords.specs.Coordinates.{IsAt, IsWhole, Holds, StandsFor, NoneEnds}
+use Rattle.gj_coords.specs.Internal.AddedPositions.{StayAll}
+use Rattle.gj_coords.specs.Internal.SteadyWalk.{IsSteady, StaysSteady}
+use Rattle.gj_coords.specs.declared.coordinates.Coordinates.{Coordinates}
+use Rattle.gj_coords.specs.Internal.ValueMachine.{IsCountable, run}
 use Rattle.gj_coords.specs.Internal.KeptWarnings.{no_warnings}
 use Rattle.gj_coords.specs.Internal.GatheredWarnings.{no_warned, all_in}
-use Rattle.gj_coords.specs.Internal.FlatPosition.{Walk, flat_first, held_fault, held_warned, at_value, flat_taken}
-use Rattle.gj_coords.specs.Internal.ElementLaws.{element_answers}
-use Rattle.gj_coords.specs.Internal.ArrayLaws.{array_answers}
-use Rattle.gj_coords.specs.Coordinates.{IsAt, IsWhole, Holds}
-use Rattle.gj_coords.specs.SimpleFaults.{by_simple, least_faults}
-use Rattle.gj_coords.proofs.Readers.RestsOfValues.{reads_on_none, reads_on_more, reads_on_ended, reads_on_answers}
-use Rattle.gj_coords.specs.Internal.CoordinatesKept.{third_answer, second_answer, first_answer, coordinates_kept}
+use Rattle.gj_coords.specs.Internal.LevelGather.{WholeSummary, level, fault_as, warned_as, quiet_as}
+use Rattle.gj_coords.specs.Internal.FlatPosition.{flat_first, held_fault, held_warned}
+use Rattle.gj_coords.specs.Internal.CoordinatesKept.{first_answer, coordinates_kept}
+use Rattle.gj_coords.specs.Internal.Progress.{Progress, waiting, done, step, ended, answered, progress_machine}
+use Rattle.gj_coords.specs.Internal.WalkProgress.{never, open_at, progress, progress_at, answer_at, answer_of}
+use Rattle.gj_coords.proofs.Readers.RestsOfValues.{left, reads_on_none, reads_on_more, reads_on_ended, reads_on_answers}
 use Rattle.gj_coords.proofs.Walks.FaultsOfLevels.{first_least}
-use Rattle.gj_coords.specs.declared.walk.depth.Depth.{Depth}
-use Rattle.gj_coords.specs.declared.walk.depth.Depth.TheVariants.{Unknown, First, Second, Third, Whole}
-use Rattle.gj_coords.specs.Internal.SteadyWalk.{IsFirst, IsSecond, IsThird, IsSteady, IsPast, is_whole, third_steady, second_steady, first_steady}
-use Rattle.gj_coords.proofs.Walks.FlatLaws.{flat_leads, value_leads}
+use Rattle.gj_coords.proofs.Walks.ReadValues.{progress_answers}
 use Rattle.gj_coords.proofs.Walks.HeldPositions.{flat_fault, flat_warned, is_no_warned, quiet_none}
-use Rattle.gj_coords.proofs.Walks.SteadyLaws.{first_taken, second_taken, third_taken}
 
-pub walk_answers : Answers walk_machine first_answer
-walk_answers =
-    array_answers second_machine first_gathering second_answer
-    (array_answers third_machine second_gathering third_answer
-    (array_answers position_machine third_gathering position_answer
-    (array_answers element_machine numbers_gathering head element_answers)))
+-- nothing is read yet
+pub none_read : (s : Progress) → s ≡ waiting → IsAt [] s
+none_read s e = reads_on_none progress_machine first_answer progress_answers s e
 
--- a walk that is ready has read nothing
-pub walk_ready : (walk : Walk) → walk_machine.Ready walk → IsAt [] walk
-walk_ready walk ready = reads_on_none walk_machine first_answer walk_answers walk ready
+one_read : (s : Progress) (es : List Event) (e : Event) → IsAt es s → IsAt (es ++ e ∷ []) (step s e)
+one_read s es e k = reads_on_more progress_machine first_answer s es e k
 
-pub walk_more : (walk : Walk) (es : List Event) (e : Event) → IsAt es walk → IsAt (es ++ e ∷ []) (walk_machine.after walk e)
-walk_more walk es e k = reads_on_more walk_machine first_answer walk es e k
+pub flat_read : (s : Progress) (es : List Event) (f : Flat) → IsAt es s → IsAt (es ++ flat_events f) (run step s (flat_events f))
+flat_read s es f k v rest p room =
+    left progress_machine s (flat_events f) rest (first_answer v) (k v (flat_events f ++ rest) (sym (append_assoc es (flat_events f) rest) ∙ p) room)
 
-pub walk_flat : (walk : Walk) (es : List Event) (f : Flat) → IsAt es walk → IsAt (es ++ flat_events f) (flat_taken f walk)
-walk_flat walk es f k v rest p room =
-    flat_leads f walk rest (first_answer v) (k v (flat_events f ++ rest) (sym (append_assoc es (flat_events f) rest) ∙ p) room)
+-- ---- a walk that has ended in a position, of which little is held
 
-pub walk_value : (walk : Walk) (es : List Event) (f : Flat) → walk.stage ≡ Due → IsAt es walk → IsAt (es ++ flat_events f) (at_value f walk)
-walk_value walk es f due k v rest p room =
-    value_leads f walk rest (first_answer v) due (k v (flat_events f ++ rest) (sym (append_assoc es (flat_events f) rest) ∙ p) room)
+holds_whole : (whole : Bool) (es : List Event) (walk : Walk) → whole ≡ true → Holds whole es walk → IsWhole es walk
+holds_whole true es walk e k = k
+holds_whole false es walk e k = cc
+
+holds_walk : (whole : Bool) (es : List Event) (walk : Walk) → whole ≡ false → Holds whole es walk → IsAt es (progress walk)
+holds_walk true es walk e k = cc
+holds_walk false es walk e k = k
+
+-- what comes after it begins no value
+pub holds_more : (whole : Bool) (es : List Event) (e : Event) (more : List Event) (walk : Walk) (next : Progress) →
+    Holds whole es walk → (IsAt es (progress walk) → IsAt (es ++ e ∷ more) next) → IsAt (es ++ e ∷ more) next
+holds_more false es e more walk next k then = then k
+holds_more true es e more walk next k then = λ v rest p room.
+    let h = k.reads_on v (e ∷ (more ++ rest)) (sym (append_assoc es (e ∷ more) rest) ∙ p) room in
+    let never : true ≡ false = h.0 in
+    cc
+
+-- after this place comes none
+no_place : (s : Walk) → never < never → IsSteady never s
+no_place s k = let no : ⊥ = omega arith in absurd no
+
+pub stands_at : (events : List Event) (walk : Walk) → IsAt events (progress walk) → StandsFor (record { walk = walk; floor = never; whole = false }) events
+stands_at events walk k = record { holds = k; steady = no_place walk }
+
+-- after an event more
+pub stands_more : (s : Coordinates) (events : List Event) (e : Event) (walk : Walk) → progress walk ≡ step (progress s.walk) e → StandsFor s events →
+    StandsFor (record { walk = walk; floor = never; whole = false }) (events ++ e ∷ [])
+stands_more s events e walk moved k =
+    stands_at (events ++ e ∷ []) walk (rw moved (holds_more s.whole events e [] s.walk _ k.holds (one_read (progress s.walk) events e)))
+
+whole_ended : (walk : Walk) → walk.stage ≡ Done → ended (progress walk) ≡ true
+whole_ended walk e = rw e refl
+
+pub holds_ended : (whole : Bool) (v : Tree) (es rest : List Event) (walk : Walk) →
+    Holds whole es walk → es ++ rest ≡ value_events v → IsCountable v → IsTrue (ended (progress walk)) ↔ (rest ≡ [])
+holds_ended false v es rest walk k e room = reads_on_ended progress_machine first_answer (progress walk) v es rest k e room
+holds_ended true v es rest walk k e room =
+    subst (λ b. IsTrue b ↔ (rest ≡ [])) (sym (whole_ended walk k.ended))
+    (reads_on_ended progress_machine first_answer (done (flat_first k.position)) v es rest k.reads_on e room)
+
+-- where an array is open, it is no position alone
+open_holds : (whole : Bool) (es : List Event) (walk : Walk) → walk.stage ≡ Open → Holds whole es walk → whole ≡ false
+open_holds false es walk e k = refl
+open_holds true es walk e k = let ended = k.ended in cc
+
+held_plain : (whole : Bool) (es : List Event) (walk : Walk) → whole ≡ false → IsAt es (progress walk) → Holds whole es walk
+held_plain true es walk e k = cc
+held_plain false es walk e k = k
 
 -- ---- where the walk is steady
 
-pub first_flat : (floor : ℕ) (walk : Walk) (es : List Event) (f : Flat) → IsAt es walk → IsFirst floor walk → IsPast floor f →
-    IsAt (es ++ flat_events f)
-    (record walk { gather = first_steady f walk.gather })
-first_flat floor walk es f k steady past = subst (IsAt (es ++ flat_events f)) (first_taken floor f walk steady past) (walk_flat walk es f k)
+pub steady_on : (s : Coordinates) (events : List Event) (f : Flat) (next : Walk) → s.floor < never →
+    (IsSteady s.floor s.walk → StaysSteady s.floor f s.walk next) → StandsFor s events → StandsFor (record s { walk = next }) (events ++ flat_events f)
+steady_on s events f next room on k =
+    let steady : IsSteady s.floor s.walk = k.steady room in
+    let moved : StaysSteady s.floor f s.walk next = on steady in
+    let plain : s.whole ≡ false = open_holds s.whole events s.walk steady.is_open k.holds in
+    let read : IsAt events (progress s.walk) = holds_walk s.whole events s.walk plain k.holds in
+    record {
+      holds = held_plain s.whole _ next plain (subst (IsAt (events ++ flat_events f)) moved.leads (flat_read (progress s.walk) events f read));
+      steady = λ _. moved.steady;
+    }
 
-pub second_flat : (floor : ℕ) (walk : Walk) (es : List Event) (f : Flat) → IsAt es walk → IsSecond floor walk → IsPast floor f →
-    IsAt (es ++ flat_events f)
-    (record walk { item = record walk.item { gather = second_steady f walk.item.gather } })
-second_flat floor walk es f k steady past = subst (IsAt (es ++ flat_events f)) (second_taken floor f walk steady past) (walk_flat walk es f k)
+pub steady_all : (fs : List Flat) (s : Coordinates) (events : List Event) (next : Walk) → s.floor < never →
+    (IsSteady s.floor s.walk → StayAll s.floor fs s.walk next) → StandsFor s events → StandsFor (record s { walk = next }) (events ++ flats_events fs)
+steady_all [] s events next room on k =
+    let P : Walk → Type 0 = λ walk. StandsFor (record s { walk = walk }) (events ++ []) in
+    subst P (sym (on (k.steady room))) (subst (StandsFor s) (sym (append-nil events)) k)
+steady_all (f ∷ fs) s events next room on k =
+    let stay = on (k.steady room) in
+    let mid = stay.0 in
+    subst (StandsFor (record s { walk = next })) (append_assoc events (flat_events f) (flats_events fs))
+    (steady_all fs (record s { walk = mid }) (events ++ flat_events f) next room (λ _. stay.2) (steady_on s events f mid room (λ _. stay.1) k))
 
-pub third_flat : (floor : ℕ) (walk : Walk) (es : List Event) (f : Flat) → IsAt es walk → IsThird floor walk → IsPast floor f →
-    IsAt (es ++ flat_events f)
-    (record walk { item = record walk.item { item = record walk.item.item { gather = third_steady f walk.item.item.gather } } })
-third_flat floor walk es f k steady past = subst (IsAt (es ++ flat_events f)) (third_taken floor f walk steady past) (walk_flat walk es f k)
-
--- ---- what holds at a depth
-
-abbrev pub is_steady : Depth → Bool
-is_steady First = true
-is_steady Second = true
-is_steady Third = true
-is_steady _ = false
-
--- of a walk that is read on
-pub steady_holds : (depth : Depth) (floor : ℕ) (es : List Event) (walk : Walk) → IsAt es walk → IsSteady depth floor walk → Holds depth floor es walk
-steady_holds Unknown floor es walk k steady = k
-steady_holds First floor es walk k steady = (k, steady)
-steady_holds Second floor es walk k steady = (k, steady)
-steady_holds Third floor es walk k steady = (k, steady)
-steady_holds Whole floor es walk k steady = absurd steady
-
-pub holds_at : (depth at : Depth) (floor : ℕ) (es : List Event) (walk : Walk) → depth ≡ at → Holds depth floor es walk → Holds at floor es walk
-holds_at depth at floor es walk e k = let P : Depth → Type 0 = λ d. Holds d floor es walk in subst P e k
-
-pub held_at : (depth at : Depth) (floor : ℕ) (es : List Event) (walk : Walk) → depth ≡ at → Holds at floor es walk → Holds depth floor es walk
-held_at depth at floor es walk e k = holds_at at depth floor es walk (sym e) k
-
-pub holds_whole : (depth : Depth) (floor : ℕ) (es : List Event) (walk : Walk) → is_whole depth ≡ true → Holds depth floor es walk → IsWhole es walk
-holds_whole Unknown floor es walk e k = cc
-holds_whole First floor es walk e k = cc
-holds_whole Second floor es walk e k = cc
-holds_whole Third floor es walk e k = cc
-holds_whole Whole floor es walk e k = k
-
-pub holds_walk : (depth : Depth) (floor : ℕ) (es : List Event) (walk : Walk) → is_whole depth ≡ false → Holds depth floor es walk → IsAt es walk
-holds_walk Unknown floor es walk e k = k
-holds_walk First floor es walk e k = k.0
-holds_walk Second floor es walk e k = k.0
-holds_walk Third floor es walk e k = k.0
-holds_walk Whole floor es walk e k = cc
-
--- a whole value has ended
-whole_ended : (stage : Stage) (other : Element) → stage ≡ Done → ended_at stage other ≡ true
-whole_ended stage other e = rw e refl
-
-never : (b : Bool) → b ≡ true → b ≡ false → ⊥
-never b e f = cc
-
--- what comes after that begins no value
-pub holds_more : (depth : Depth) (floor : ℕ) (es : List Event) (e : Event) (more : List Event) (walk next : Walk) →
-    Holds depth floor es walk → (IsAt es walk → IsAt (es ++ e ∷ more) next) → IsAt (es ++ e ∷ more) next
-holds_more Unknown floor es e more walk next k step = step k
-holds_more First floor es e more walk next k step = step k.0
-holds_more Second floor es e more walk next k step = step k.0
-holds_more Third floor es e more walk next k step = step k.0
-holds_more Whole floor es e more walk next k step = λ v rest p room.
-    let h = k.reads_on v (e ∷ (more ++ rest)) (sym (append_assoc es (e ∷ more) rest) ∙ p) room in
-    absurd (never (ended_at walk.stage walk.other) (whole_ended walk.stage walk.other k.ended) h.0)
-
-pub holds_ended : (depth : Depth) (floor : ℕ) (v : Tree) (es rest : List Event) (walk : Walk) →
-    Holds depth floor es walk → es ++ rest ≡ value_events v → IsCountable v → IsTrue (walk_machine.ended walk) ↔ (rest ≡ [])
-holds_ended Unknown floor v es rest walk k e room = reads_on_ended walk_machine first_answer walk v es rest k e room
-holds_ended First floor v es rest walk k e room = reads_on_ended walk_machine first_answer walk v es rest k.0 e room
-holds_ended Second floor v es rest walk k e room = reads_on_ended walk_machine first_answer walk v es rest k.0 e room
-holds_ended Third floor v es rest walk k e room = reads_on_ended walk_machine first_answer walk v es rest k.0 e room
-holds_ended Whole floor v es rest walk k e room =
-    reads_on_ended walk_machine first_answer (record walk { gather = flat_first k.position }) v es rest k.reads_on e room
-
--- where the walk is steady, an array is open
-first_open : (floor : ℕ) (walk : Walk) → IsFirst floor walk → walk_machine.ended walk ≡ false
-first_open floor walk k = rw k.at_first refl
-
-second_open : (floor : ℕ) (walk : Walk) → IsSecond floor walk → walk_machine.ended walk ≡ false
-second_open floor walk k = rw k.at_first refl
-
-third_open : (floor : ℕ) (walk : Walk) → IsThird floor walk → walk_machine.ended walk ≡ false
-third_open floor walk k = rw k.at_first refl
-
-pub steady_open : (depth : Depth) (floor : ℕ) (es : List Event) (walk : Walk) → is_steady depth ≡ true → Holds depth floor es walk
-    → walk_machine.ended walk ≡ false
-steady_open Unknown floor es walk e k = cc
-steady_open First floor es walk e k = first_open floor walk k.1
-steady_open Second floor es walk e k = second_open floor walk k.1
-steady_open Third floor es walk e k = third_open floor walk k.1
-steady_open Whole floor es walk e k = cc
+open_not_ended : (depth : Depth) (s : Walk) → ended (open_at depth s) ≡ false
+open_not_ended First s = refl
+open_not_ended Second s = refl
+open_not_ended Third s = refl
+open_not_ended Fourth s = refl
 
 -- so the value has not ended
-pub steady_goes_on : (depth : Depth) (floor : ℕ) (v : Tree) (es rest : List Event) (walk : Walk) → is_steady depth ≡ true →
-    Holds depth floor es walk → es ++ rest ≡ value_events v → IsCountable v → IsTrue false ↔ (rest ≡ [])
-steady_goes_on depth floor v es rest walk e k joined room =
-    subst (λ b. IsTrue b ↔ (rest ≡ [])) (steady_open depth floor es walk e k) (holds_ended depth floor v es rest walk k joined room)
+pub steady_goes_on : (s : Coordinates) (v : Tree) (es rest : List Event) → s.floor < never → StandsFor s es → es ++ rest ≡ value_events v → IsCountable v →
+    IsTrue false ↔ (rest ≡ [])
+steady_goes_on s v es rest room k joined countable =
+    let still : ended (progress s.walk) ≡ false =
+    ap (λ stage. ended (progress_at stage s.walk)) (k.steady room).is_open ∙ open_not_ended s.walk.depth s.walk in
+    subst (λ b. IsTrue b ↔ (rest ≡ [])) still (holds_ended s.whole v es rest s.walk k.holds joined countable)
+
+pub none_end : (fs : List Flat) (s : Coordinates) (events : List Event) (next : Walk) → s.floor < never →
+    (IsSteady s.floor s.walk → StayAll s.floor fs s.walk next) → StandsFor s events → NoneEnds events fs
+none_end [] s events next room on k = tt
+none_end (f ∷ fs) s events next room on k =
+    let stay = on (k.steady room) in
+    let t : Coordinates = record s { walk = stay.0 } in
+    let stands : StandsFor t (events ++ flat_events f) = steady_on s events f stay.0 room (λ _. stay.1) k in (
+      λ v deep e.
+          let lost : false ≡ true = (steady_goes_on t v (events ++ flat_events f) [] room stands (append-nil (events ++ flat_events f) ∙ e) deep).1 refl in
+          cc,
+      none_end fs t (events ++ flat_events f) next room (λ _. stay.2) stands,
+    )
 
 -- ---- the answers
 
-pub walk_least : (simple : Simple) (walk : Walk) (v : Tree) → IsAt (value_events v) walk → IsCountable v →
-    fault_as simple (walk_machine.answered walk) ≡ least (coordinates_faults simple v)
-walk_least simple walk v k room = ap (fault_as simple) (reads_on_answers walk_machine first_answer walk v k room) ∙ first_least simple v
+answered_open : (depth : Depth) (s : Walk) (a : WholeSummary) → ended (open_at depth s) ≡ true → answered (open_at depth s) ≡ a
+answered_open First s a e = cc
+answered_open Second s a e = cc
+answered_open Third s a e = cc
+answered_open Fourth s a e = cc
 
-pub walk_kept : (simple : Simple) (walk : Walk) (v : Tree) → IsAt (value_events v) walk → IsCountable v →
-    all_in (warned_as simple (walk_machine.answered walk)) ≡ coordinates_kept simple v
+answered_at : (stage : Stage) (s : Walk) → ended (progress_at stage s) ≡ true → answered (progress_at stage s) ≡ answer_at stage s
+answered_at Due s e = cc
+answered_at Open s e = answered_open s.depth s _ e
+answered_at Past s e = cc
+answered_at Broken s e = refl
+answered_at Done s e = refl
+
+answer_is : (s : Coordinates) (v : Tree) → s.whole ≡ false → StandsFor s (value_events v) → IsCountable v → answer_of s.walk ≡ first_answer v
+answer_is s v e k room =
+    let h = holds_walk s.whole (value_events v) s.walk e k.holds v [] (append-nil (value_events v)) room in
+    sym (answered_at s.walk.stage s.walk h.0) ∙ h.1
+
+pub walk_least : (simple : Simple) (s : Coordinates) (v : Tree) → s.whole ≡ false → StandsFor s (value_events v) → IsCountable v →
+    fault_as simple (answer_of s.walk) ≡ least (coordinates_faults simple v)
+walk_least simple s v e k room = ap (fault_as simple) (answer_is s v e k room) ∙ first_least simple v
+
+pub walk_kept : (simple : Simple) (s : Coordinates) (v : Tree) → s.whole ≡ false → StandsFor s (value_events v) → IsCountable v →
+    all_in (warned_as simple (answer_of s.walk)) ≡ coordinates_kept simple v
 unfolding coordinates_kept
-walk_kept simple walk v k room = ap (λ a. all_in (warned_as simple a)) (reads_on_answers walk_machine first_answer walk v k room)
+walk_kept simple s v e k room = ap (λ a. all_in (warned_as simple a)) (answer_is s v e k room)
 
 -- a whole value is answered for by its position
-whole_answer : (walk : Walk) (es : List Event) (k : IsWhole es walk) →
-    walk_machine.answered (record walk { gather = flat_first k.position }) ≡ Level (flat_first k.position)
-whole_answer walk es k = rw k.ended refl
+whole_answer : (walk : Walk) (v : Tree) (k : IsWhole (value_events v) walk) → IsCountable v → level (flat_first k.position) ≡ first_answer v
+whole_answer walk v k room = reads_on_answers progress_machine first_answer (done (flat_first k.position)) v k.reads_on room
 
-pub whole_least : (simple : Simple) (walk : Walk) (v : Tree) → IsWhole (value_events v) walk → IsCountable v →
-    held_fault simple walk.gather.positions ≡ least (coordinates_faults simple v)
-whole_least simple walk v k room =
-    ap (held_fault simple) k.fault ∙ (flat_fault simple k.position ∙
-    (sym (ap (fault_as simple) (whole_answer walk (value_events v) k)) ∙
-    walk_least simple (record walk { gather = flat_first k.position }) v k.reads_on room))
+pub whole_least : (simple : Simple) (s : Coordinates) (v : Tree) → s.whole ≡ true → StandsFor s (value_events v) → IsCountable v →
+    held_fault simple s.walk.outer.positions ≡ least (coordinates_faults simple v)
+whole_least simple s v e stands room =
+    let k = holds_whole s.whole (value_events v) s.walk e stands.holds in
+    ap (held_fault simple) k.fault ∙ (flat_fault simple k.position ∙ (ap (fault_as simple) (whole_answer s.walk v k room) ∙ first_least simple v))
 
-pub whole_kept : (simple : Simple) (walk : Walk) (v : Tree) → IsWhole (value_events v) walk → IsCountable v →
-    all_in (held_warned simple walk.gather.positions_warned) ≡ coordinates_kept simple v
-whole_kept simple walk v k room =
+pub whole_kept : (simple : Simple) (s : Coordinates) (v : Tree) → s.whole ≡ true → StandsFor s (value_events v) → IsCountable v →
+    all_in (held_warned simple s.walk.outer.positions_warned) ≡ coordinates_kept simple v
+unfolding coordinates_kept
+whole_kept simple s v e stands room =
+    let k = holds_whole s.whole (value_events v) s.walk e stands.holds in
     ap (λ w. all_in (held_warned simple w)) k.warned ∙ (ap all_in (flat_warned simple k.position) ∙
-    (sym (ap (λ a. all_in (warned_as simple a)) (whole_answer walk (value_events v) k)) ∙
-    walk_kept simple (record walk { gather = flat_first k.position }) v k.reads_on room))
+    ap (λ a. all_in (warned_as simple a)) (whole_answer s.walk v k room))
 
 -- ---- the six types at once
 
@@ -208,18 +210,17 @@ all_six f g same =
     (ap (λ x. build (g Point) (g MultiPoint) (g LineString) (g MultiLineString) x (f MultiPolygon)) (same Polygon) ∙
     ap (λ x. build (g Point) (g MultiPoint) (g LineString) (g MultiLineString) (g Polygon) x) (same MultiPolygon)))))
 
-pub walk_faults : (walk : Walk) (v : Tree) → IsAt (value_events v) walk → IsCountable v →
-    by_simple (λ simple. fault_as simple (walk_machine.answered walk)) ≡ least_faults v
-walk_faults walk v k room = all_six _ _ (λ simple. walk_least simple walk v k room)
+pub walk_faults : (s : Coordinates) (v : Tree) → s.whole ≡ false → StandsFor s (value_events v) → IsCountable v →
+    by_simple (λ simple. fault_as simple (answer_of s.walk)) ≡ least_faults v
+walk_faults s v e k room = all_six _ _ (λ simple. walk_least simple s v e k room)
 
-pub whole_faults : (walk : Walk) (v : Tree) → IsWhole (value_events v) walk → IsCountable v →
-    by_simple (λ simple. held_fault simple walk.gather.positions) ≡ least_faults v
-whole_faults walk v k room = all_six _ _ (λ simple. whole_least simple walk v k room)
+pub whole_faults : (s : Coordinates) (v : Tree) → s.whole ≡ true → StandsFor s (value_events v) → IsCountable v →
+    by_simple (λ simple. held_fault simple s.walk.outer.positions) ≡ least_faults v
+whole_faults s v e k room = all_six _ _ (λ simple. whole_least simple s v e k room)
 
-pub walk_quiet : (simple : Simple) (walk : Walk) (v : Tree) → quiet_as (walk_machine.answered walk) ≡ true → IsAt (value_events v) walk → IsCountable v →
-    coordinates_kept simple v ≡ no_warnings
-walk_quiet simple walk v e k room =
-    sym (walk_kept simple walk v k room) ∙ ap all_in (quiet_none simple (walk_machine.answered walk) e)
+pub walk_quiet : (simple : Simple) (s : Coordinates) (v : Tree) → quiet_as (answer_of s.walk) ≡ true → s.whole ≡ false → StandsFor s (value_events v) →
+    IsCountable v → coordinates_kept simple v ≡ no_warnings
+walk_quiet simple s v quiet e k room = sym (walk_kept simple s v e k room) ∙ ap all_in (quiet_none simple (answer_of s.walk) quiet)
 
 held_none : (simple : Simple) → held_warned simple no_warned ≡ no_warned
 held_none Point = refl
@@ -229,9 +230,8 @@ held_none MultiLineString = refl
 held_none Polygon = refl
 held_none MultiPolygon = refl
 
-pub whole_quiet : (simple : Simple) (walk : Walk) (v : Tree) → is_none walk.gather.positions_warned.warnings ≡ true → IsWhole (value_events v) walk
-    → IsCountable v →
-    coordinates_kept simple v ≡ no_warnings
-whole_quiet simple walk v e k room =
-    sym (whole_kept simple walk v k room) ∙
-    ap all_in (ap (held_warned simple) (is_no_warned walk.gather.positions_warned e) ∙ held_none simple)
+pub whole_quiet : (simple : Simple) (s : Coordinates) (v : Tree) → is_none s.walk.outer.positions_warned.warnings ≡ true → s.whole ≡ true →
+    StandsFor s (value_events v) → IsCountable v → coordinates_kept simple v ≡ no_warnings
+whole_quiet simple s v quiet e k room =
+    sym (whole_kept simple s v e k room) ∙
+    ap all_in (ap (held_warned simple) (is_no_warned s.walk.outer.positions_warned quiet) ∙ held_none simple)

@@ -8,13 +8,10 @@ use Rattle.gj_coords.specs.declared.fault.Fault.{Fault}
 use Rattle.gj_coords.specs.declared.fault.Rule.TheVariants.{G13}
 use Rattle.gj_coords.specs.declared.simple.Simple.{Simple}
 use Rattle.gj_coords.specs.declared.simple.Simple.TheVariants.{Point, MultiPoint, LineString, MultiLineString, Polygon, MultiPolygon}
-use Rattle.gj_coords.specs.declared.several.Several.{Several}
+use Rattle.gj_coords.specs.declared.watcher.several.Several.{Several}
 use Rattle.gj_coords.specs.declared.tally.Tally.{Tally}
-use Rattle.gj_coords.specs.declared.walk.inner_array.InnerSummary.{InnerSummary}
-use Rattle.gj_coords.specs.declared.walk.outer_array.OuterSummary.{OuterSummary}
-use Rattle.gj_coords.specs.declared.walk.outer_array.OuterSummary.TheVariants.{Other, Level}
-use Rattle.gj_coords.specs.declared.walk.middle_array.MiddleArray.{MiddleArray}
-use Rattle.gj_coords.specs.declared.walk.outer_array.OuterArray.{OuterArray}
+use Rattle.gj_coords.specs.declared.walk.level.Level.{Level}
+use Rattle.gj_coords.specs.declared.walk.outermost.Outermost.{Outermost}
 use Rattle.gj_coords.specs.Fault.{fault_at, lesser, least}
 use Rattle.gj_coords.specs.Items.{items}
 use Rattle.gj_coords.specs.Shape.{Shape, position, list, line, ring, shape_of, coordinates_faults}
@@ -26,7 +23,8 @@ use Rattle.gj_coords.specs.Internal.PositionsGather.{position_added, ring_gather
 use Rattle.gj_coords.specs.Internal.Findings.{Judgement}
 use Rattle.gj_coords.specs.Internal.ListGather.{several_gathering}
 use Rattle.gj_coords.specs.Internal.GatheredWarnings.{no_warned}
-use Rattle.gj_coords.specs.Internal.LevelGather.{third_gathering, second_gathering, first_gathering, some_fault_in, fault_as}
+use Rattle.gj_coords.specs.Internal.LevelGather.{LineSummary, WholeSummary, other, level, third_gathering, second_gathering, first_gathering, some_fault_in}
+use Rattle.gj_coords.specs.Internal.LevelGather.{fault_as}
 use Rattle.gj_coords.specs.Internal.CoordinatesKept.{third_answer, second_answer, first_answer}
 use Rattle.gj_coords.specs.Internal.ElementCountLaws.{gathered_count}
 use Rattle.gj_coords.specs.Internal.PositionLaws.{position_fault, position_head}
@@ -90,7 +88,7 @@ second_position = role second_gathering numbers_gathering (λ g. g.numbers) (λ 
     (λ g a. refl) (λ v. ap (λ p. p.head) (third_position v) ∙ position_head v) (λ p. refl) (λ g. refl) (λ e. refl)
 
 -- the least fault of the positions goes on as that of a line does
-line_step : (g : MiddleArray) (a : InnerSummary) →
+line_step : (g : Level) (a : LineSummary) →
     ◌≡◌ {A = Several 2} (listed (counted g.numbers.tally) (position_added g.positions a.position).fault)
     (listed (counted g.numbers.tally) (lesser g.positions.fault a.position.fault))
 line_step g a =
@@ -128,9 +126,9 @@ second_polygon = list_role second_gathering (λ g. listed g.numbers.tally g.ring
 -- ---- the first level
 
 -- as if an empty array were checked too
-abbrev judged_as : Simple → OuterSummary → Option Fault
-judged_as simple (Other place) = misshapen_at place
-judged_as simple (Level s) = some_fault_in simple s
+abbrev judged_as : Simple → WholeSummary → Option Fault
+judged_as simple (other place) = misshapen_at place
+judged_as simple (level s) = some_fault_in simple s
 
 position_at_second : (v : Tree) → (second_answer v).position.fault ≡ least (position v)
 position_at_second v = ap (λ p. p.fault) (second_position v) ∙ position_fault v
@@ -180,6 +178,6 @@ first_least simple (string place content end) = judged_least simple (string plac
 first_least simple (object place ms close) = judged_least simple (object place ms close)
 first_least simple (array place end_of_array close) = refl
 first_least simple (array place (element v more) close) =
-    let g : OuterArray = gathered first_gathering second_answer (first_gathering.opened place) (v ∷ items more) in
+    let g : Outermost = gathered first_gathering second_answer (first_gathering.opened place) (v ∷ items more) in
     ap (λ b. if b then None else some_fault_in simple g) (not_empty place v (items more)) ∙
     judged_least simple (array place (element v more) close)

@@ -5,11 +5,9 @@ use Rattle.std.proofs.lemmas.Bool.{and_parts}
 use Rattle.gj_json.specs.declared.flat.Flat.{Flat}
 use Rattle.gj_json.specs.declared.flat.Numbered.{Numbered}
 use Rattle.gj_coords.specs.declared.fault.Fault.{Fault}
-use Rattle.gj_coords.specs.declared.walk.outer_array.OuterArray.{OuterArray}
-use Rattle.gj_coords.specs.declared.walk.outer_array.OuterSummary.{OuterSummary}
-use Rattle.gj_coords.specs.declared.walk.outer_array.OuterSummary.TheVariants.{Other, Level}
+use Rattle.gj_coords.specs.declared.walk.outermost.Outermost.{Outermost}
 use Rattle.gj_coords.specs.declared.kind_warnings.KindWarnings.{KindWarnings}
-use Rattle.gj_coords.specs.declared.position.Position.{Position}
+use Rattle.gj_coords.specs.declared.watcher.position.Position.{Position}
 use Rattle.gj_coords.specs.declared.position.Values.{Values}
 use Rattle.gj_coords.specs.declared.simple.Simple.{Simple}
 use Rattle.gj_coords.specs.declared.simple.Simple.TheVariants.{Point, MultiPoint, LineString, MultiLineString, Polygon, MultiPolygon}
@@ -18,12 +16,12 @@ use Rattle.gj_coords.specs.declared.warnings.Warnings.{Warnings}
 use Rattle.gj_coords.specs.Fault.{lesser, comes_first}
 use Rattle.gj_coords.specs.Internal.GatheredWarnings.{no_warned}
 use Rattle.gj_coords.specs.Internal.PositionGather.{judged_noted, position_closed, sound_noted}
-use Rattle.gj_coords.specs.Internal.LevelGather.{fault_in, some_warned_in, warned_in, warned_as, some_quiet_in, quiet_as}
+use Rattle.gj_coords.specs.Internal.LevelGather.{WholeSummary, other, level, fault_in, some_warned_in, warned_in, warned_as, some_quiet_in, quiet_as}
 use Rattle.gj_coords.specs.Internal.FlatPosition.{flat_count, flat_misshapen, flat_position, flat_first, held_fault, held_warned}
 
 -- ---- a position that is the whole value
 
-abbrev level_of : Option Numbered → ℕ → Values → KindWarnings → Option Fault → OuterArray
+abbrev level_of : Option Numbered → ℕ → Values → KindWarnings → Option Fault → Outermost
 level_of third place values precise misshapen = record {
   numbers = record { values = values; tally = record { place = place; count = flat_count third }; fault = None; precise = precise };
   positions_warned = no_warned;
@@ -53,7 +51,7 @@ level_fault MultiPolygon (Some number) place values precise misshapen = refl
 
 pub flat_fault : (simple : Simple) (f : Flat) → held_fault simple (flat_misshapen f) ≡ fault_in simple (flat_first f)
 flat_fault simple f =
-    let s : OuterArray = flat_first f in
+    let s : Outermost = flat_first f in
     level_fault simple f.third f.place s.numbers.values s.numbers.precise (flat_misshapen f)
 
 abbrev position_of : Option Numbered → ℕ → Values → KindWarnings → Position
@@ -78,7 +76,7 @@ level_warned MultiPolygon (Some number) place values precise misshapen = refl
 pub flat_warned : (simple : Simple) (f : Flat) →
     held_warned simple (sound_noted no_warned (flat_position f)) ≡ warned_in simple (flat_first f)
 flat_warned simple f =
-    let s : OuterArray = flat_first f in
+    let s : Outermost = flat_first f in
     level_warned simple f.third f.place s.numbers.values s.numbers.precise (flat_misshapen f)
 
 -- ---- a few looks
@@ -102,7 +100,7 @@ broken_none few None p e = cc
 broken_none None (Some y) p e = refl
 broken_none (Some x) (Some y) p e = broken_if (comes_first x y) x y p
 
-for_each : (simple : Simple) (s : OuterArray) → is_some s.numbers.fault ≡ true → is_none s.positions_warned.warnings ≡ true →
+for_each : (simple : Simple) (s : Outermost) → is_some s.numbers.fault ≡ true → is_none s.positions_warned.warnings ≡ true →
     is_none s.lines_warned.warnings ≡ true → is_none s.rings_warned.warnings ≡ true → is_none s.polygons_warned.warnings ≡ true →
     some_warned_in simple s ≡ no_warned
 for_each Point s broken positions lines rings polygons = broken_none _ s.numbers.fault (position_closed s.numbers) broken
@@ -112,7 +110,7 @@ for_each MultiLineString s broken positions lines rings polygons = is_no_warned 
 for_each Polygon s broken positions lines rings polygons = is_no_warned s.rings_warned rings
 for_each MultiPolygon s broken positions lines rings polygons = is_no_warned s.polygons_warned polygons
 
-some_quiet : (simple : Simple) (s : OuterArray) → some_quiet_in s ≡ true → some_warned_in simple s ≡ no_warned
+some_quiet : (simple : Simple) (s : Outermost) → some_quiet_in s ≡ true → some_warned_in simple s ≡ no_warned
 some_quiet simple s e =
     let broken : Bool = is_some s.numbers.fault in
     let positions : Bool = is_none s.positions_warned.warnings in
@@ -130,6 +128,6 @@ where_some : (empty quiet : Bool) (w v : Warned) → (if empty then false else q
 where_some true quiet w v e k = cc
 where_some false quiet w v e k = k e
 
-pub quiet_none : (simple : Simple) (a : OuterSummary) → quiet_as a ≡ true → warned_as simple a ≡ no_warned
-quiet_none simple (Other place) e = refl
-quiet_none simple (Level s) e = where_some (s.numbers.tally.count == 0) (some_quiet_in s) _ _ e (some_quiet simple s)
+pub quiet_none : (simple : Simple) (a : WholeSummary) → quiet_as a ≡ true → warned_as simple a ≡ no_warned
+quiet_none simple (other place) e = refl
+quiet_none simple (level s) e = where_some (s.numbers.tally.count == 0) (some_quiet_in s) _ _ e (some_quiet simple s)

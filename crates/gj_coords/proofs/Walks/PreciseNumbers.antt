@@ -1,5 +1,5 @@
 -- What is known of a number's places by how it is written, and of a position's.
-use Rattle.std.proofs.Common.{◌≡◌, ◌≢◌, ℕ, ◌<◌, ◌≤◌, ◌%◌, ◌==◌, zero, suc, Bool, if◌then◌else◌, true, false, nat_lt, Option, Some, None, IfSome, ℤ, pos, negsuc}
+use Rattle.std.proofs.Common.{◌≡◌, ℕ, ◌≤◌, ◌==◌, suc, Bool, if◌then◌else◌, true, false, nat_lt, Option, Some, None, IfSome, ℤ, pos, negsuc}
 use Rattle.std.proofs.Common.{◌-ℤ◌, refl, sym, arith}
 use Rattle.std.proofs.lemmas.Int.{ints}
 use Rattle.std.proofs.lemmas.Bool.Decides.{nat_tests}

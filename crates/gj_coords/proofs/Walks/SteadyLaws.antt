@@ -1,35 +1,28 @@
 -- Where a walk is steady, a position that is reported as one changes only what is gathered of positions, and their count.
 use Rattle.std.proofs.Common.{◌≡◌, ℕ, zero, suc, ◌<◌, ◌≤◌, min, Option, Some, None, Bool, true, false, ◌&&◌, nat_lt, if◌then◌else◌, refl, sym, ◌∙◌, ap, subst}
 use Rattle.std.proofs.Common.{arith}
+use Rattle.std.specs.Option.{option_map_or}
 use Rattle.std.proofs.lemmas.Bool.Decides.{nat_tests}
 use Rattle.std.proofs.Math.Bool.{and-false}
 use Rattle.gj_json.specs.declared.event.What.{What}
 use Rattle.gj_json.specs.declared.flat.Flat.{Flat}
 use Rattle.gj_json.specs.declared.flat.Numbered.{Numbered}
-use Rattle.gj_coords.specs.declared.array.Array.{Array}
-use Rattle.gj_coords.specs.declared.array.Stage.{Stage}
-use Rattle.gj_coords.specs.declared.array.Stage.TheVariants.{Due}
-use Rattle.gj_coords.specs.declared.element.Element.{Element}
 use Rattle.gj_coords.specs.declared.fault.Fault.{Fault}
 use Rattle.gj_coords.specs.declared.fault.Rule.{Rule}
 use Rattle.gj_coords.specs.declared.fault.Rule.TheVariants.{G11, G14}
-use Rattle.gj_coords.specs.declared.walk.outer_array.OuterArray.{OuterArray}
 use Rattle.gj_coords.specs.declared.position.Numbers.{Numbers}
 use Rattle.gj_coords.specs.declared.position.Values.{Values}
-use Rattle.gj_coords.specs.declared.walk.middle_array.MiddleArray.{MiddleArray}
-use Rattle.gj_coords.specs.declared.walk.inner_array.InnerArray.{InnerArray}
-use Rattle.gj_coords.specs.Fault.{fault_at, lesser}
+use Rattle.gj_coords.specs.Fault.{fault_at, comes_first, lesser, number_of}
 use Rattle.gj_coords.specs.Internal.SentEvents.{event_at}
-use Rattle.gj_coords.specs.Internal.ElementReader.{due}
-use Rattle.gj_coords.specs.Internal.LeastLaws.{lesser-none}
+use Rattle.gj_coords.specs.Internal.LeastLaws.{Tests, lesser-none}
 use Rattle.gj_coords.specs.Internal.ElementCount.{one_counted}
 use Rattle.gj_coords.specs.Internal.PositionGather.{pushed, precise_with, number_added, array_counted, sound_noted}
 use Rattle.gj_coords.specs.Internal.PositionsGather.{position_added}
-use Rattle.gj_coords.specs.Internal.LevelGather.{position_machine, third_machine, second_machine, third_gathering, second_gathering, first_gathering}
-use Rattle.gj_coords.specs.Internal.FlatPosition.{least_with, least_place, flat_misshapen, flat_ring, flat_position, flat_third, flat_second, PositionReader}
-use Rattle.gj_coords.specs.Internal.FlatPosition.{InnerReader, MiddleReader, Walk, in_first, in_second, in_third, in_fourth, second_due, third_due, flat_taken}
-use Rattle.gj_coords.specs.Internal.SteadyWalk.{IsFaultBy, IsCounted, IsSettled, IsIdle, IsFirst, IsSecond, IsThird, IsPast, IsThirdPast, third_steady}
-use Rattle.gj_coords.specs.Internal.SteadyWalk.{second_steady, first_steady}
+use Rattle.gj_coords.specs.declared.walk.level.Level.{Level}
+use Rattle.gj_coords.specs.declared.walk.outermost.Outermost.{Outermost}
+use Rattle.gj_coords.specs.Internal.LevelGather.{Line, third_gathering, second_gathering, first_gathering}
+use Rattle.gj_coords.specs.Internal.FlatPosition.{least_with, least_place, flat_misshapen, flat_ring, flat_position, flat_third, flat_second}
+use Rattle.gj_coords.specs.Internal.SteadyWalk.{IsFaultBy, IsCounted, IsSettled, IsSteadyFirst, IsSteadySecond, third_steady, second_steady, first_steady}
 
 -- ---- a fault by this place stays the least of it and one after it
 
@@ -41,22 +34,25 @@ pub kept_fault : (floor : ℕ) (fault : Option Fault) (place : ℕ) (rule : Rule
 kept_fault floor None place rule k h = absurd k
 kept_fault floor (Some x) place rule k h = kept_by x place rule (omega arith)
 
-past_with : (floor : ℕ) (third : Option Numbered) (n : ℕ) → IsThirdPast floor third → floor < n → floor < least_with third n
-past_with floor None n t h = h
-past_with floor (Some c) n t h = omega arith
+-- all of a position stands after this place, where its bracket does
+past_with : (floor : ℕ) (third : Option Numbered) (place n : ℕ) → place ≤ option_map_or (λ number. number.place) third place → floor < place → floor < n →
+    floor < least_with third n
+past_with floor None place n t h k = k
+past_with floor (Some c) place n t h k = omega arith
 
-pub past_least : (floor : ℕ) (f : Flat) → IsPast floor f → floor < least_place f
-past_least floor f p = past_with floor f.third (min f.first.place f.second.place) p.third (let a = p.first in let b = p.second in omega arith)
+past_least : (floor : ℕ) (f : Flat) → floor < f.place → floor < least_place f
+past_least floor f p =
+    past_with floor f.third f.place (min f.first.place f.second.place) f.third_on p (let a = f.first_on in let b = f.second_on in omega arith)
 
 kept_ring_if : (floor : ℕ) (fault : Option Fault) (b : Bool) (place least : ℕ) → IsFaultBy floor fault → floor < place → floor < least →
     lesser fault (Some (if b then fault_at place G14 else fault_at least G11)) ≡ fault
 kept_ring_if floor fault true place least k h g = kept_fault floor fault place G14 k h
 kept_ring_if floor fault false place least k h g = kept_fault floor fault least G11 k g
 
-kept_ring : (floor : ℕ) (fault : Option Fault) (f : Flat) → IsFaultBy floor fault → IsPast floor f → lesser fault (flat_ring f) ≡ fault
-kept_ring floor fault f k p = kept_ring_if floor fault (nat_lt f.place (least_place f)) f.place (least_place f) k p.bracket (past_least floor f p)
+kept_ring : (floor : ℕ) (fault : Option Fault) (f : Flat) → IsFaultBy floor fault → floor < f.place → lesser fault (flat_ring f) ≡ fault
+kept_ring floor fault f k p = kept_ring_if floor fault (nat_lt f.place (least_place f)) f.place (least_place f) k p (past_least floor f p)
 
-kept_misshapen : (floor : ℕ) (fault : Option Fault) (f : Flat) → IsFaultBy floor fault → IsPast floor f → lesser fault (flat_misshapen f) ≡ fault
+kept_misshapen : (floor : ℕ) (fault : Option Fault) (f : Flat) → IsFaultBy floor fault → floor < f.place → lesser fault (flat_misshapen f) ≡ fault
 kept_misshapen floor fault f k p = kept_fault floor fault (least_place f) G11 k (past_least floor f p)
 
 -- ---- the numbers
@@ -103,39 +99,26 @@ counted_whole n k e =
     sym (ap (λ x. build x (one_counted n.tally.count)) (pushed_full n.values.count n.values full)
     ∙ ap (λ x. build n.values x) (ap (λ b. if b then suc n.tally.count else n.tally.count) e))
 
--- ---- a reader that is due and idle is ready
-
-idle_due : (other : Element) → IsIdle other → due other.first ≡ other
-idle_due other k =
-    let build : Bool → ℕ → Element = λ started levels. record { first = other.first; started = started; levels = levels } in
-    ap (λ x. build x 0) (sym k.started) ∙ ap (λ x. build other.started x) (sym k.levels)
-
-again_same : {W G : Type 0} (s : Array W G) → s.stage ≡ Due → IsIdle s.other → ◌≡◌ {A = Array W G} (record s { stage = Due; other = due s.other.first }) s
-again_same {W = W} {G = G} s e k =
-    let build : Stage → Element → Array W G = λ stage other. record s { stage = stage; other = other } in
-    ap (λ x. build x (due s.other.first)) (sym e) ∙ ap (λ x. build s.stage x) (idle_due s.other k)
-
 -- ---- the levels
 
-third_kept : (floor : ℕ) (f : Flat) (g : InnerArray) → IsSettled floor g.numbers → IsPast floor f →
+pub third_kept : (floor : ℕ) (f : Flat) (g : Line) → IsSettled floor g.numbers → floor < f.place →
     third_gathering.added g (flat_position f) ≡ third_steady f g
 third_kept floor f g k p =
-    let build : Numbers → InnerArray = λ n. record { numbers = n; positions = position_added g.positions (flat_position f) } in
-    ap build (settled_kept floor f.place g.numbers k p.bracket)
+    let build : Numbers → Line = λ n. record { numbers = n; positions = position_added g.positions (flat_position f) } in
+    ap build (settled_kept floor f.place g.numbers k p)
 
-second_kept : (floor : ℕ) (f : Flat) (g : MiddleArray) → IsSettled floor g.numbers → IsFaultBy floor g.rings → IsPast floor f →
+pub second_kept : (floor : ℕ) (f : Flat) (g : Level) → IsSteadySecond floor g → floor < f.place →
     second_gathering.added g (flat_third f) ≡ second_steady f g
-second_kept floor f g k r p =
-    let build : Numbers → Option Fault → MiddleArray = λ n rings.
+second_kept floor f g k p =
+    let build : Numbers → Option Fault → Level = λ n rings.
     record g { numbers = n; positions = position_added g.positions (flat_position f); rings = rings } in
-    ap (λ x. build x (lesser g.rings (flat_ring f))) (settled_kept floor f.place g.numbers k p.bracket) ∙
-    ap (λ x. build (array_counted g.numbers) x) (kept_ring floor g.rings f r p)
+    ap (λ x. build x (lesser g.rings (flat_ring f))) (settled_kept floor f.place g.numbers k.settled p) ∙
+    ap (λ x. build (array_counted g.numbers) x) (kept_ring floor g.rings f k.by_rings p)
 
-first_kept : (floor : ℕ) (f : Flat) (g : OuterArray) → IsSettled floor g.numbers → IsFaultBy floor g.lines → IsFaultBy floor g.rings →
-    IsFaultBy floor g.polygons → IsPast floor f →
+pub first_kept : (floor : ℕ) (f : Flat) (g : Outermost) → IsSteadyFirst floor g → floor < f.place →
     first_gathering.added g (flat_second f) ≡ first_steady f g
-first_kept floor f g k l r q p =
-    let build : Numbers → Option Fault → Option Fault → Option Fault → Option Fault → OuterArray = λ n positions lines rings polygons.
+first_kept floor f g k p =
+    let build : Numbers → Option Fault → Option Fault → Option Fault → Option Fault → Outermost = λ n positions lines rings polygons.
     record g {
       numbers = n;
       positions_warned = sound_noted g.positions_warned (flat_position f);
@@ -148,79 +131,73 @@ first_kept floor f g k l r q p =
     let lines : Option Fault = lesser g.lines (flat_misshapen f) in
     let rings : Option Fault = lesser g.rings (flat_ring f) in
     let polygons : Option Fault = lesser g.polygons (flat_misshapen f) in
-    ap (λ x. build x (lesser g.positions None) lines rings polygons) (settled_kept floor f.place g.numbers k p.bracket) ∙
+    ap (λ x. build x (lesser g.positions None) lines rings polygons) (settled_kept floor f.place g.numbers k.settled p) ∙
     (ap (λ x. build n x lines rings polygons) (lesser-none g.positions) ∙
-    (ap (λ x. build n g.positions x rings polygons) (kept_misshapen floor g.lines f l p) ∙
-    (ap (λ x. build n g.positions g.lines x polygons) (kept_ring floor g.rings f r p) ∙
-    ap (λ x. build n g.positions g.lines g.rings x) (kept_misshapen floor g.polygons f q p))))
-
--- ---- the walk
-
-pub first_taken : (floor : ℕ) (f : Flat) (s : Walk) → IsFirst floor s → IsPast floor f →
-    flat_taken f s ≡ record s { gather = first_steady f s.gather }
-first_taken floor f s k p =
-    let build : OuterArray → MiddleReader → Walk = λ g w. record s { gather = g; item = w } in
-    ap (λ x. in_first f x s) k.at_first ∙
-    (ap (λ x. second_due f x s) k.at_second ∙
-    (ap (λ x. build x (second_machine.again s.item)) (first_kept floor f s.gather k.settled k.by_lines k.by_rings k.by_polygons p) ∙
-    ap (λ x. build (first_steady f s.gather) x)
-    (again_same s.item k.at_second k.idle)))
-
-pub second_taken : (floor : ℕ) (f : Flat) (s : Walk) → IsSecond floor s → IsPast floor f →
-    flat_taken f s ≡ record s { item = record s.item { gather = second_steady f s.item.gather } }
-second_taken floor f s k p =
-    let build : MiddleArray → InnerReader → Walk = λ g w. record s { item = record s.item { gather = g; item = w } } in
-    ap (λ x. in_first f x s) k.at_first ∙
-    (ap (λ x. in_second f x s) k.at_second ∙
-    (ap (λ x. third_due f x s) k.at_third ∙
-    (ap (λ x. build x (third_machine.again s.item.item)) (second_kept floor f s.item.gather k.settled k.by_rings p) ∙
-    ap (λ x. build (second_steady f s.item.gather) x)
-    (again_same s.item.item k.at_third k.idle))))
-
-pub third_taken : (floor : ℕ) (f : Flat) (s : Walk) → IsThird floor s → IsPast floor f →
-    flat_taken f s ≡
-    record s { item = record s.item { item = record s.item.item { gather = third_steady f s.item.item.gather } } }
-third_taken floor f s k p =
-    let build : InnerArray → PositionReader → Walk = λ g w. record s { item = record s.item { item = record s.item.item { gather = g; item = w } } } in
-    ap (λ x. in_first f x s) k.at_first ∙
-    (ap (λ x. in_second f x s) k.at_second ∙
-    (ap (λ x. in_third f x s) k.at_third ∙
-    (ap (λ x. in_fourth f x s) k.at_fourth ∙
-    (ap (λ x. build x (position_machine.again s.item.item.item)) (third_kept floor f s.item.item.gather k.settled p) ∙
-    ap (λ x. build (third_steady f s.item.item.gather) x)
-    (again_same s.item.item.item k.at_fourth k.idle)))))
+    (ap (λ x. build n g.positions x rings polygons) (kept_misshapen floor g.lines f k.by_lines p) ∙
+    (ap (λ x. build n g.positions g.lines x polygons) (kept_ring floor g.rings f k.by_rings p) ∙
+    ap (λ x. build n g.positions g.lines g.rings x) (kept_misshapen floor g.polygons f k.by_polygons p))))
 
 -- ---- and is steady still
 
-pub first_still : (floor : ℕ) (f : Flat) (s : Walk) → IsFirst floor s → IsFirst floor (record s { gather = first_steady f s.gather })
-first_still floor f s k = record {
-  at_first = k.at_first;
-  at_second = k.at_second;
-  idle = k.idle;
-  settled = settled_still floor s.gather.numbers k.settled;
-  by_lines = k.by_lines;
-  by_rings = k.by_rings;
-  by_polygons = k.by_polygons;
+pub first_still : (floor : ℕ) (f : Flat) (g : Outermost) → IsSteadyFirst floor g → IsSteadyFirst floor (first_steady f g)
+first_still floor f g k =
+    record { settled = settled_still floor g.numbers k.settled; by_lines = k.by_lines; by_rings = k.by_rings; by_polygons = k.by_polygons }
+
+pub second_still : (floor : ℕ) (f : Flat) (h : Level) → IsSteadySecond floor h → IsSteadySecond floor (second_steady f h)
+second_still floor f h k = record { settled = settled_still floor h.numbers k.settled; by_rings = k.by_rings }
+
+pub third_still : (floor : ℕ) (f : Flat) (h : Level) → IsSettled floor h.numbers → IsSettled floor (second_steady f h).numbers
+third_still floor f h k = settled_still floor h.numbers k
+
+-- ---- a position makes it steady
+
+by_if : (floor : ℕ) (b : Bool) (x y : Fault) → (b ≡ true → x.place ≤ floor) → y.place ≤ floor → IsFaultBy floor (if b then Some x else Some y)
+by_if floor true x y h k = h refl
+by_if floor false x y h k = k
+
+first_by : (floor p r q s : ℕ) → Tests p r q s ≡ true → q ≤ floor → p ≤ floor
+first_by floor p r q s e h = grind (arith, nat_tests)
+
+-- with a fault by the place, the least is by it
+by_lesser : (floor : ℕ) (fault : Option Fault) (place : ℕ) (rule : Rule) → place ≤ floor → IsFaultBy floor (lesser fault (Some (fault_at place rule)))
+by_lesser floor None place rule h = h
+by_lesser floor (Some x) place rule h =
+    let y : Fault = fault_at place rule in
+    by_if floor (comes_first x y) x y (λ e. first_by floor x.place (number_of x.rule) place (number_of rule) e h) h
+
+least_on : (third : Option Numbered) (p q : ℕ) → least_with third (min p q) ≤ p
+least_on None p q = omega arith
+least_on (Some c) p q = omega arith
+
+by_misshapen : (f : Flat) (fault : Option Fault) → IsFaultBy f.first.place (lesser fault (flat_misshapen f))
+by_misshapen f fault = by_lesser f.first.place fault (least_place f) G11 (least_on f.third f.first.place f.second.place)
+
+by_ring_if : (floor : ℕ) (fault : Option Fault) (b : Bool) (place least : ℕ) → place ≤ floor → least ≤ floor →
+    IsFaultBy floor (lesser fault (Some (if b then fault_at place G14 else fault_at least G11)))
+by_ring_if floor fault true place least h k = by_lesser floor fault place G14 h
+by_ring_if floor fault false place least h k = by_lesser floor fault least G11 k
+
+by_ring : (f : Flat) (fault : Option Fault) → IsFaultBy f.first.place (lesser fault (flat_ring f))
+by_ring f fault =
+    by_ring_if f.first.place fault (nat_lt f.place (least_place f)) f.place (least_place f) f.first_on (least_on f.third f.first.place f.second.place)
+
+settled_by : (f : Flat) (n : Numbers) → IsCounted (number_added n (event_at f.place What.OpenArray)) →
+    IsSettled f.first.place (number_added n (event_at f.place What.OpenArray))
+settled_by f n k = record { counted = k; fault = by_lesser f.first.place n.fault f.place G11 f.first_on }
+
+pub steady_first : (f : Flat) (g : Outermost) → let new : Outermost = first_gathering.added g (flat_second f) in
+    IsCounted new.numbers → IsSteadyFirst f.first.place new
+steady_first f g k = record {
+  settled = settled_by f g.numbers k;
+  by_lines = by_misshapen f g.lines;
+  by_rings = by_ring f g.rings;
+  by_polygons = by_misshapen f g.polygons;
 }
 
-pub second_still : (floor : ℕ) (f : Flat) (s : Walk) → IsSecond floor s
-    → IsSecond floor (record s { item = record s.item { gather = second_steady f s.item.gather } })
-second_still floor f s k = record {
-  at_first = k.at_first;
-  at_second = k.at_second;
-  at_third = k.at_third;
-  idle = k.idle;
-  settled = settled_still floor s.item.gather.numbers k.settled;
-  by_rings = k.by_rings;
-}
+pub steady_second : (f : Flat) (h : Level) → let new : Level = second_gathering.added h (flat_third f) in
+    IsCounted new.numbers → IsSteadySecond f.first.place new
+steady_second f h k = record { settled = settled_by f h.numbers k; by_rings = by_ring f h.rings }
 
-pub third_still : (floor : ℕ) (f : Flat) (s : Walk) → IsThird floor s →
-    IsThird floor (record s { item = record s.item { item = record s.item.item { gather = third_steady f s.item.item.gather } } })
-third_still floor f s k = record {
-  at_first = k.at_first;
-  at_second = k.at_second;
-  at_third = k.at_third;
-  at_fourth = k.at_fourth;
-  idle = k.idle;
-  settled = settled_still floor s.item.item.gather.numbers k.settled;
-}
+pub steady_third : (f : Flat) (h : Level) → let new : Level = second_gathering.added h (flat_third f) in
+    IsCounted new.numbers → IsSettled f.first.place new.numbers
+steady_third f h k = settled_by f h.numbers k

@@ -3,12 +3,11 @@ use Rattle.std.specs.List.{flat_map}
 use Rattle.std.specs.Prelude.{⊤}
 use Rattle.std.proofs.Common.{◌≡◌, ℕ, [], ◌∷◌, true, false, refl, sym, ap, ◌∙◌, arith, if◌then◌else◌}
 use Rattle.gj_json.specs.Tree.{Tree, constant, number, string, array, object, Elements, end_of_array, element}
-use Rattle.gj_coords.specs.declared.walk.outer_array.OuterArray.{OuterArray}
+use Rattle.gj_coords.specs.declared.walk.outermost.Outermost.{Outermost}
 use Rattle.gj_coords.specs.declared.kind.Kind.TheVariants.{W6}
-use Rattle.gj_coords.specs.declared.position.Position.{Position}
-use Rattle.gj_coords.specs.declared.ring.RingGather.{RingGather}
-use Rattle.gj_coords.specs.declared.walk.middle_array.MiddleArray.{MiddleArray}
-use Rattle.gj_coords.specs.declared.walk.inner_array.InnerArray.{InnerArray}
+use Rattle.gj_coords.specs.declared.watcher.position.Position.{Position}
+use Rattle.gj_coords.specs.declared.watcher.ring.RingGather.{RingGather}
+use Rattle.gj_coords.specs.declared.walk.level.Level.{Level}
 use Rattle.gj_coords.specs.declared.simple.Simple.{Simple}
 use Rattle.gj_coords.specs.declared.simple.Simple.TheVariants.{Point, MultiPoint, LineString, MultiLineString, Polygon, MultiPolygon}
 use Rattle.gj_coords.specs.Items.{items, elements_of, place_of}
@@ -23,7 +22,7 @@ use Rattle.gj_coords.specs.Internal.KeptWarnings.{warnings_of, no_warnings, join
 use Rattle.gj_coords.specs.Internal.GatheredWarnings.{no_warned, all_in, noted_in}
 use Rattle.gj_coords.specs.Internal.PositionGather.{numbers_gathering, position_closed, position_answer, judged_noted}
 use Rattle.gj_coords.specs.Internal.PositionsGather.{position_added, ring_gathering, role_behind}
-use Rattle.gj_coords.specs.Internal.LevelGather.{third_gathering, second_gathering, first_gathering, some_warned_in, warned_as}
+use Rattle.gj_coords.specs.Internal.LevelGather.{Line, third_gathering, second_gathering, first_gathering, some_warned_in, warned_as}
 use Rattle.gj_coords.specs.Internal.CoordinatesKept.{third_answer, second_answer, first_answer}
 use Rattle.gj_coords.specs.Internal.PositionLaws.{position_head}
 use Rattle.gj_coords.specs.Internal.PositionWarnings.{place_head, position_warned}
@@ -41,7 +40,7 @@ answered_place p v e = ap (λ q. q.head.place) e ∙ (ap (λ h. h.place) (positi
 
 -- ---- the third level
 
-third_step : (g : InnerArray) (v : Tree) → ⊤ → IsShort v →
+third_step : (g : Line) (v : Tree) → ⊤ → IsShort v →
     all_in (third_gathering.added g (position_answer v)).positions.warned ≡ joined (all_in g.positions.warned) (warnings_of (position_warnings v))
 third_step g v t short = ap all_in (added_warned g.positions (position_answer v)) ∙ position_warned g.positions.warned v
 
@@ -71,7 +70,7 @@ third_turn (array place es close) short sound =
 
 -- ---- the second level
 
-second_step : (g : MiddleArray) (v : Tree) → ⊤ → IsShort v →
+second_step : (g : Level) (v : Tree) → ⊤ → IsShort v →
     all_in (second_gathering.added g (third_answer v)).positions.warned ≡ joined (all_in g.positions.warned) (warnings_of (position_warnings v))
 second_step g v t short =
     ap (λ p. all_in (position_added g.positions p).warned) (third_position v) ∙
@@ -101,7 +100,7 @@ second_turn (array place es close) short sound =
     (λ g a. refl) third_position (items es) (second_gathering.opened place)) ∙
     ring_turns place (items es) (sound_positions place (items es) sound) (omega arith)
 
-second_ring_step : (g : MiddleArray) (v : Tree) → IsShort v →
+second_ring_step : (g : Level) (v : Tree) → IsShort v →
     all_in (second_gathering.added g (third_answer v)).rings_warned ≡ joined (all_in g.rings_warned)
     (warnings_of (ring_warnings (role_behind g.numbers.tally.count) v))
 second_ring_step g v short =
@@ -120,16 +119,16 @@ second_rings_warned (array place es close) short =
 
 -- ---- the first level
 
-positions_step : (g : OuterArray) (v : Tree) → ⊤ → IsShort v →
+positions_step : (g : Outermost) (v : Tree) → ⊤ → IsShort v →
     all_in (first_gathering.added g (second_answer v)).positions_warned ≡ joined (all_in g.positions_warned) (warnings_of (position_warnings v))
 positions_step g v t short =
     ap (λ p. all_in (judged_noted p.fault g.positions_warned p)) (second_position v) ∙ position_warned g.positions_warned v
 
-lines_step : (g : OuterArray) (v : Tree) → ⊤ → IsShort v →
+lines_step : (g : Outermost) (v : Tree) → ⊤ → IsShort v →
     all_in (first_gathering.added g (second_answer v)).lines_warned ≡ joined (all_in g.lines_warned) (warnings_of (each position_warnings v))
 lines_step g v t short = taken_is g.lines_warned (second_answer v).warned ∙ ap (joined (all_in g.lines_warned)) (second_warned v short)
 
-rings_step : (g : OuterArray) (v : Tree) → IsShort v →
+rings_step : (g : Outermost) (v : Tree) → IsShort v →
     all_in (first_gathering.added g (second_answer v)).rings_warned ≡ joined (all_in g.rings_warned)
     (warnings_of (ring_warnings (role_behind g.numbers.tally.count) v))
 rings_step g v short =
@@ -137,7 +136,7 @@ rings_step g v short =
     ring_warned (role_behind g.numbers.tally.count) g.rings_warned a.position.head.place a.ring a.turn a.warned v
     (answered_place a.position v (second_position v)) (second_ring v) (second_turn v short) (second_warned v short)
 
-polygons_step : (g : OuterArray) (v : Tree) → ⊤ → IsShort v →
+polygons_step : (g : Outermost) (v : Tree) → ⊤ → IsShort v →
     all_in (first_gathering.added g (second_answer v)).polygons_warned ≡ joined (all_in g.polygons_warned) (warnings_of (polygon_warnings v))
 polygons_step g v t short = taken_is g.polygons_warned (second_answer v).rings_warned ∙ ap (joined (all_in g.polygons_warned)) (second_rings_warned v short)
 
@@ -194,6 +193,6 @@ first_warned simple (string place content end) short = other_warned simple (stri
 first_warned simple (object place ms close) short = other_warned simple (object place ms close) refl refl
 first_warned simple (array place end_of_array close) short = added_is no_warnings W6 place ∙ joined_none_first _
 first_warned simple (array place (element v more) close) short =
-    let g : OuterArray = gathered first_gathering second_answer (first_gathering.opened place) (v ∷ items more) in
+    let g : Outermost = gathered first_gathering second_answer (first_gathering.opened place) (v ∷ items more) in
     ap (λ b. all_in (if b then noted_in no_warned W6 g.numbers.tally.place else some_warned_in simple g)) (not_empty place v (items more)) ∙
     array_warned simple place (element v more) close short

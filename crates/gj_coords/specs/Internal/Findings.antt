@@ -1,9 +1,9 @@
 -- What is found in a value: its least fault, and what is worth a warning in it.
 use Rattle.std.specs.Prelude.{ℕ, Option, None}
 use Rattle.gj_coords.specs.declared.fault.Fault.{Fault}
-use Rattle.gj_coords.specs.declared.findings.Findings.{Findings}
+use Rattle.gj_coords.specs.declared.watcher.findings.Findings.{Findings}
 use Rattle.gj_coords.specs.declared.kind.Kind.TheVariants.{W6}
-use Rattle.gj_coords.specs.declared.position.Position.{Position}
+use Rattle.gj_coords.specs.declared.watcher.position.Position.{Position}
 use Rattle.gj_coords.specs.declared.warned.Warned.{Warned}
 use Rattle.gj_coords.specs.Internal.GatheredWarnings.{no_warned, noted_in, taken}
 use Rattle.gj_coords.specs.Internal.PositionGather.{misshapen_at, judged_noted}

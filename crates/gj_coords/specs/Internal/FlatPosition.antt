@@ -5,28 +5,18 @@ use Rattle.gj_number.specs.Short.{exact_of}
 use Rattle.gj_json.specs.declared.event.What.{What}
 use Rattle.gj_json.specs.declared.flat.Flat.{Flat}
 use Rattle.gj_json.specs.declared.flat.Numbered.{Numbered}
-use Rattle.gj_json.specs.Flat.{flat_events}
-use Rattle.gj_coords.specs.declared.array.Array.{Array}
-use Rattle.gj_coords.specs.declared.array.Stage.{Stage}
-use Rattle.gj_coords.specs.declared.array.Stage.TheVariants.{Due, Between, Within, Done}
-use Rattle.gj_coords.specs.declared.element.Element.{Element}
 use Rattle.gj_coords.specs.declared.fault.Fault.{Fault}
 use Rattle.gj_coords.specs.declared.fault.Rule.TheVariants.{G11, G14}
-use Rattle.gj_coords.specs.declared.walk.outer_array.OuterArray.{OuterArray}
 use Rattle.gj_coords.specs.declared.flat.JudgedPair.{JudgedPair}
 use Rattle.gj_coords.specs.declared.kind_warnings.KindWarnings.{KindWarnings}
 use Rattle.gj_coords.specs.declared.position.Numbers.{Numbers}
-use Rattle.gj_coords.specs.declared.position.Position.{Position}
+use Rattle.gj_coords.specs.declared.watcher.position.Position.{Position}
 use Rattle.gj_coords.specs.declared.position.Values.{Values}
-use Rattle.gj_coords.specs.declared.walk.middle_array.MiddleArray.{MiddleArray}
-use Rattle.gj_coords.specs.declared.walk.middle_array.MiddleSummary.{MiddleSummary}
-use Rattle.gj_coords.specs.declared.walk.inner_array.InnerArray.{InnerArray}
-use Rattle.gj_coords.specs.declared.walk.inner_array.InnerSummary.{InnerSummary}
+use Rattle.gj_coords.specs.declared.walk.outermost.Outermost.{Outermost}
 use Rattle.gj_coords.specs.declared.winding.Corner.{Corner}
 use Rattle.gj_coords.specs.declared.winding.Turn.TheVariants.{Straight}
 use Rattle.gj_coords.specs.Fault.{fault_at}
 use Rattle.gj_coords.specs.Internal.SentEvents.{event_at}
-use Rattle.gj_coords.specs.Internal.ValueMachine.{run}
 use Rattle.gj_coords.specs.declared.kind.Kind.TheVariants.{W4}
 use Rattle.gj_coords.specs.Internal.KeptWarnings.{nothing_noted, is_nothing}
 use Rattle.gj_coords.specs.CoordinateWarnings.{is_precise}
@@ -35,8 +25,7 @@ use Rattle.gj_coords.specs.declared.simple.Simple.TheVariants.{Point}
 use Rattle.gj_coords.specs.declared.warned.Warned.{Warned}
 use Rattle.gj_coords.specs.Internal.GatheredWarnings.{no_warned, some_noted}
 use Rattle.gj_coords.specs.Internal.PositionGather.{precise_with, corner_in, misshapen_at, sound_noted}
-use Rattle.gj_coords.specs.Internal.LevelGather.{position_machine, third_machine, second_machine, walk_machine, third_gathering, second_gathering}
-use Rattle.gj_coords.specs.Internal.LevelGather.{first_gathering}
+use Rattle.gj_coords.specs.Internal.LevelGather.{LineSummary, LevelSummary}
 
 -- ---- as a position, which breaks no rule
 
@@ -118,10 +107,10 @@ flat_ring f = Some (if nat_lt f.place (least_place f) then fault_at f.place G14 
 
 -- ---- what the levels know of it
 
-abbrev pub flat_third : Flat → InnerSummary
+abbrev pub flat_third : Flat → LineSummary
 flat_third f = record { position = flat_position f; ring = flat_ring f; turn = Straight; warned = no_warned }
 
-abbrev pub flat_second : Flat → MiddleSummary
+abbrev pub flat_second : Flat → LevelSummary
 flat_second f = record {
   position = flat_position f;
   line = flat_misshapen f;
@@ -132,7 +121,7 @@ flat_second f = record {
   rings_warned = no_warned;
 }
 
-abbrev pub flat_first : Flat → OuterArray
+abbrev pub flat_first : Flat → Outermost
 flat_first f = record {
   numbers = flat_numbers f;
   positions_warned = no_warned;
@@ -147,7 +136,7 @@ flat_first f = record {
 
 -- ---- what is held of it where it is the value itself: little, of which all that the six types ask for is read
 
-abbrev pub flat_held : Flat → OuterArray → OuterArray
+abbrev pub flat_held : Flat → Outermost → Outermost
 flat_held f s = record s { positions = flat_misshapen f; positions_warned = sound_noted no_warned (flat_position f) }
 
 abbrev pub held_fault : Simple → Option Fault → Option Fault
@@ -157,66 +146,3 @@ held_fault _ misshapen = misshapen
 abbrev pub held_warned : Simple → Warned → Warned
 held_warned Point warned = warned
 held_warned _ warned = no_warned
-
--- ---- the walk
-
-abbrev pub PositionReader : Type 0
-PositionReader = Array Element Numbers
-
-abbrev pub InnerReader : Type 0
-InnerReader = Array PositionReader InnerArray
-
-abbrev pub MiddleReader : Type 0
-MiddleReader = Array InnerReader MiddleArray
-
-abbrev pub Walk : Type 0
-Walk = Array MiddleReader OuterArray
-
--- its events one by one
-abbrev pub singly : Flat → Walk → Walk
-singly f s = run walk_machine.after s (flat_events f)
-
--- where the value itself is due, in which it ends
-abbrev pub at_value : Flat → Walk → Walk
-at_value f s = record s { gather = flat_first f; stage = Done }
-
--- where an element of the value is due
-abbrev pub at_first : Flat → Walk → Walk
-at_first f s = record s { gather = first_gathering.added s.gather (flat_second f); item = second_machine.again s.item }
-
--- where an element of an element is due, and so on
-abbrev pub at_second : Flat → MiddleReader → MiddleReader
-at_second f s = record s { gather = second_gathering.added s.gather (flat_third f); item = third_machine.again s.item }
-
-abbrev pub at_third : Flat → InnerReader → InnerReader
-at_third f s = record s { gather = third_gathering.added s.gather (flat_position f); item = position_machine.again s.item }
-
--- by the stages of the levels, from the first on
-abbrev pub in_fourth : Flat → Stage → Walk → Walk
-in_fourth f Due s = record s { item = record s.item { item = at_third f s.item.item } }
-in_fourth f _ s = singly f s
-
-abbrev pub in_third : Flat → Stage → Walk → Walk
-in_third f Between s = in_fourth f s.item.item.item.stage s
-in_third f _ s = singly f s
-
-abbrev pub third_due : Flat → Stage → Walk → Walk
-third_due f Due s = record s { item = at_second f s.item }
-third_due f _ s = singly f s
-
-abbrev pub in_second : Flat → Stage → Walk → Walk
-in_second f Between s = third_due f s.item.item.stage s
-in_second f Within s = in_third f s.item.item.stage s
-in_second f _ s = singly f s
-
-abbrev pub second_due : Flat → Stage → Walk → Walk
-second_due f Due s = at_first f s
-second_due f _ s = singly f s
-
-abbrev pub in_first : Flat → Stage → Walk → Walk
-in_first f Between s = second_due f s.item.stage s
-in_first f Within s = in_second f s.item.stage s
-in_first f _ s = singly f s
-
-abbrev pub flat_taken : Flat → Walk → Walk
-flat_taken f s = in_first f s.stage s

@@ -2,8 +2,8 @@
 use Rattle.std.specs.Prelude.{ℕ, Option, None}
 use Rattle.gj_coords.specs.declared.fault.Fault.{Fault}
 use Rattle.gj_coords.specs.declared.fault.Rule.TheVariants.{G13}
-use Rattle.gj_coords.specs.declared.findings.Findings.{Findings}
-use Rattle.gj_coords.specs.declared.several.Several.{Several}
+use Rattle.gj_coords.specs.declared.watcher.findings.Findings.{Findings}
+use Rattle.gj_coords.specs.declared.watcher.several.Several.{Several}
 use Rattle.gj_coords.specs.declared.tally.Tally.{Tally}
 use Rattle.gj_coords.specs.Fault.{lesser}
 use Rattle.gj_coords.specs.Internal.Gathering.{Gathering}

@@ -3,8 +3,8 @@ use Rattle.std.specs.Prelude.{◌≡◌, ℕ, ◌≤◌, refl}
 use Rattle.std.specs.List.{flat_map}
 use Rattle.gj_json.specs.Tree.{Tree, constant, number, string, array, object}
 use Rattle.gj_coords.specs.declared.fault.Rule.TheVariants.{G13}
-use Rattle.gj_coords.specs.declared.findings.Findings.{Findings}
-use Rattle.gj_coords.specs.declared.several.Several.{Several}
+use Rattle.gj_coords.specs.declared.watcher.findings.Findings.{Findings}
+use Rattle.gj_coords.specs.declared.watcher.several.Several.{Several}
 use Rattle.gj_coords.specs.Fault.{least}
 use Rattle.gj_coords.specs.Internal.Findings.{Judgement}
 use Rattle.gj_coords.specs.Items.{items}

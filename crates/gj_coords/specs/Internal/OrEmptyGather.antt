@@ -1,6 +1,6 @@
 -- What the value of `coordinates` gathers, which may be an empty array.
 use Rattle.std.specs.Prelude.{true, false, if◌then◌else◌}
-use Rattle.gj_coords.specs.declared.findings.Findings.{Findings}
+use Rattle.gj_coords.specs.declared.watcher.findings.Findings.{Findings}
 use Rattle.gj_coords.specs.declared.watcher.or_empty.OrEmpty.{OrEmpty}
 use Rattle.gj_coords.specs.Internal.Findings.{Judgement, empty_found, found_in}
 use Rattle.gj_coords.specs.Internal.Gathering.{Gathering}

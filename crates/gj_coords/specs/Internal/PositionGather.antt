@@ -11,7 +11,7 @@ use Rattle.gj_coords.specs.declared.kind.Kind.TheVariants.{W3, W4, W5}
 use Rattle.gj_coords.specs.declared.kind_warnings.KindWarnings.{KindWarnings}
 use Rattle.gj_coords.specs.declared.position.Values.{Values}
 use Rattle.gj_coords.specs.declared.position.Numbers.{Numbers}
-use Rattle.gj_coords.specs.declared.position.Position.{Position}
+use Rattle.gj_coords.specs.declared.watcher.position.Position.{Position}
 use Rattle.gj_coords.specs.declared.warned.Warned.{Warned}
 use Rattle.gj_coords.specs.declared.winding.Corner.{Corner}
 use Rattle.gj_coords.specs.Fault.{fault_at, lesser}

@@ -3,11 +3,11 @@ use Rattle.std.specs.Prelude.{ℕ, zero, suc, Option, Some, None, is_none, Bool,
 use Rattle.gj_coords.specs.declared.fault.Fault.{Fault}
 use Rattle.gj_coords.specs.declared.fault.Rule.TheVariants.{G14, G15}
 use Rattle.gj_coords.specs.declared.kind.Kind.TheVariants.{W2}
-use Rattle.gj_coords.specs.declared.ring.LinearRing.{LinearRing}
-use Rattle.gj_coords.specs.declared.position.Position.{Position}
+use Rattle.gj_coords.specs.declared.watcher.ring.LinearRing.{LinearRing}
+use Rattle.gj_coords.specs.declared.watcher.position.Position.{Position}
 use Rattle.gj_coords.specs.declared.position.Values.{Values}
 use Rattle.gj_coords.specs.declared.ring.Positions.{Positions}
-use Rattle.gj_coords.specs.declared.ring.RingGather.{RingGather}
+use Rattle.gj_coords.specs.declared.watcher.ring.RingGather.{RingGather}
 use Rattle.gj_coords.specs.declared.ring.RingRole.{RingRole}
 use Rattle.gj_coords.specs.declared.ring.RingRole.TheVariants.{Exterior, Hole}
 use Rattle.gj_coords.specs.declared.tally.Tally.{Tally}

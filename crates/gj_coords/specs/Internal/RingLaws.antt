@@ -5,10 +5,10 @@ use Rattle.std.proofs.Common.{arith, sym, ◌∙◌, ap, append-nil}
 use Rattle.gj_json.specs.Tree.{Tree, constant, number, string, array, object}
 use Rattle.gj_coords.specs.declared.fault.Fault.{Fault}
 use Rattle.gj_coords.specs.declared.fault.Rule.TheVariants.{G14, G15}
-use Rattle.gj_coords.specs.declared.position.Position.{Position}
+use Rattle.gj_coords.specs.declared.watcher.position.Position.{Position}
 use Rattle.gj_coords.specs.declared.position.Values.{Values}
 use Rattle.gj_coords.specs.declared.ring.Positions.{Positions}
-use Rattle.gj_coords.specs.declared.ring.RingGather.{RingGather}
+use Rattle.gj_coords.specs.declared.watcher.ring.RingGather.{RingGather}
 use Rattle.gj_coords.specs.Fault.{fault_at, lesser, least, comes_first}
 use Rattle.gj_coords.specs.Items.{items}
 use Rattle.gj_coords.specs.Ring.{agree, last_of}

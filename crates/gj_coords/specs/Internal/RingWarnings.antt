@@ -4,9 +4,9 @@ use Rattle.std.specs.List.{flat_map}
 use Rattle.std.proofs.Common.{◌∙◌, ap}
 use Rattle.gj_json.specs.Tree.{Tree}
 use Rattle.gj_coords.specs.declared.fault.Fault.{Fault}
-use Rattle.gj_coords.specs.declared.position.Position.{Position}
+use Rattle.gj_coords.specs.declared.watcher.position.Position.{Position}
 use Rattle.gj_coords.specs.declared.ring.Positions.{Positions}
-use Rattle.gj_coords.specs.declared.ring.RingGather.{RingGather}
+use Rattle.gj_coords.specs.declared.watcher.ring.RingGather.{RingGather}
 use Rattle.gj_coords.specs.Shape.{is_empty, position}
 use Rattle.gj_coords.specs.Winding.{cut_position, ring_turn}
 use Rattle.gj_coords.specs.Internal.WindingGather.{winding_added, all_added, turn_in}

@@ -2,9 +2,12 @@
 use Rattle.gj_json.specs.Tree.{Tree}
 use Rattle.std.specs.Prelude.{ℕ}
 use Rattle.gj_coords.specs.declared.array.Array.{Array}
-use Rattle.gj_coords.specs.declared.findings.Findings.{Findings}
-use Rattle.gj_coords.specs.declared.ring.LinearRing.{LinearRing}
-use Rattle.gj_coords.specs.declared.several.Several.{Several}
+use Rattle.gj_coords.specs.declared.element.Element.{Element}
+use Rattle.gj_coords.specs.declared.watcher.findings.Findings.{Findings}
+use Rattle.gj_coords.specs.declared.position.Numbers.{Numbers}
+use Rattle.gj_coords.specs.declared.watcher.position.Position.{Position}
+use Rattle.gj_coords.specs.declared.watcher.ring.LinearRing.{LinearRing}
+use Rattle.gj_coords.specs.declared.watcher.several.Several.{Several}
 use Rattle.gj_coords.specs.declared.watcher.or_empty.OrEmpty.{OrEmpty}
 use Rattle.gj_coords.specs.declared.simple.Simple.{Simple}
 use Rattle.gj_coords.specs.declared.simple.Simple.TheVariants.{Point, MultiPoint, LineString, MultiLineString, Polygon, MultiPolygon}
@@ -18,7 +21,6 @@ use Rattle.gj_coords.specs.Internal.PositionGather.{numbers_gathering, position_
 use Rattle.gj_coords.specs.Internal.PositionsGather.{ring_gathering, ring_judged}
 use Rattle.gj_coords.specs.Internal.ListGather.{several_gathering}
 use Rattle.gj_coords.specs.Internal.OrEmptyGather.{or_empty_gathering}
-use Rattle.gj_coords.specs.Internal.LevelGather.{position_machine}
 use Rattle.gj_coords.specs.Internal.ElementLaws.{element_answers}
 use Rattle.gj_coords.specs.Internal.ArrayLaws.{array_answers}
 
@@ -48,6 +50,9 @@ type_answer Polygon = whole_several ring_judged 0 ring_answer
 type_answer MultiPolygon = whole_several findings_judged 0 polygon_answer
 
 -- ---- and that they do
+
+abbrev position_machine : Machine (Array Element Numbers) Position
+position_machine = array_machine element_machine numbers_gathering
 
 position_answers : Answers position_machine position_answer
 position_answers = array_answers element_machine numbers_gathering head element_answers

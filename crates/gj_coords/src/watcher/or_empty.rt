@@ -1,6 +1,6 @@
 //! The value of `coordinates` may be an empty array.
-use crate::findings::Findings;
-use crate::value_reader::{Gather, Judged, ValueReader};
+use crate::value_reader::{Gather, ValueReader};
+use crate::watcher::findings::{Findings, Judged};
 use gj_json::Event;
 
 /// What the value itself gathers: what its shape gathers, and whether it is empty.

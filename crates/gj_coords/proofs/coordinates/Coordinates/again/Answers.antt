@@ -1,5 +1,5 @@
-use Rattle.gj_coords.proofs.Walks.AnswersOfWalks.{walk_ready}
+use Rattle.gj_coords.proofs.Walks.AnswersOfWalks.{none_read, stands_at}
 use Rattle.gj_coords.proofs.coordinates.Coordinates.again.Goals as goal
 
 pub returns : goal.returns
-returns c = record { stands = record { holds = walk_ready _ c.restart.ensures } }
+returns c = record { stands = stands_at _ _ (none_read _ c.again.ensures) }

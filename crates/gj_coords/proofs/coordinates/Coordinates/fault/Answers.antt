@@ -1,19 +1,13 @@
-use Rattle.std.proofs.Common.{sym, ◌∙◌}
-use Rattle.gj_coords.proofs.Walks.AnswersOfWalks.{holds_whole, holds_walk, walk_least, whole_least}
+use Rattle.std.proofs.Common.{◌∙◌}
+use Rattle.gj_coords.proofs.Walks.AnswersOfWalks.{walk_least, whole_least}
 use Rattle.gj_coords.proofs.coordinates.Coordinates.fault.Goals as goal
 
-pub returns-then-is_whole : goal.returns-then-is_whole
-returns-then-is_whole c = record {
-  least = λ value stands room.
-      let s = c.args.self.now in
-      c.held_fault.ensures
-      ∙ whole_least c.args.simple s.walk value (holds_whole s.depth s.floor _ s.walk (sym c.is_whole.ensures ∙ c.if-is_whole.true) stands.holds) room;
+pub returns-then-self : goal.returns-then-self
+returns-then-self c = record {
+  least = λ value stands room. c.held_fault.ensures ∙ whole_least c.args.simple c.args.self.now value c.if-self.true stands room;
 }
 
-pub returns-else-is_whole : goal.returns-else-is_whole
-returns-else-is_whole c = record {
-  least = λ value stands room.
-      let s = c.args.self.now in
-      c.least_fault.ensures
-      ∙ walk_least c.args.simple s.walk value (holds_walk s.depth s.floor _ s.walk (sym c.is_whole.ensures ∙ c.if-is_whole.false) stands.holds) room;
+pub returns-else-self : goal.returns-else-self
+returns-else-self c = record {
+  least = λ value stands room. c.fault.ensures ∙ walk_least c.args.simple c.args.self.now value c.if-self.false stands room;
 }

@@ -1,15 +1,7 @@
-use Rattle.std.proofs.Common.{[]}
 use Rattle.gj_json.specs.declared.event.What.{What}
 use Rattle.gj_coords.specs.Internal.SentEvents.{event_at}
-use Rattle.gj_coords.proofs.Walks.AnswersOfWalks.{holds_more, walk_more}
+use Rattle.gj_coords.proofs.Walks.AnswersOfWalks.{stands_more}
 use Rattle.gj_coords.proofs.coordinates.Coordinates.open_array.Goals as goal
 
 pub returns : goal.returns
-returns c = record {
-  stands = λ events stands.
-      let s = c.args.self.now in
-      let e = event_at c.args.place What.OpenArray in
-      record {
-        holds = rw c.open_array.ensures (holds_more s.depth s.floor events e [] s.walk _ stands.holds (walk_more s.walk events e));
-      };
-}
+returns c = record { stands = λ events stands. stands_more c.args.self.now events (event_at c.args.place What.OpenArray) _ c.open_array.ensures stands }

@@ -1,31 +1,23 @@
-use Rattle.std.proofs.Common.{sym, ◌∙◌, ap}
+use Rattle.std.proofs.Common.{◌∙◌, ap}
 use Rattle.gj_coords.specs.Internal.GatheredWarnings.{all_in}
-use Rattle.gj_coords.proofs.Walks.AnswersOfWalks.{holds_whole, holds_walk, walk_kept, whole_kept}
+use Rattle.gj_coords.proofs.Walks.AnswersOfWalks.{walk_kept, whole_kept}
 use Rattle.gj_coords.proofs.Lists.KeptOfShortValues.{kept_is, countable}
 use Rattle.gj_coords.proofs.coordinates.Coordinates.warnings.Goals as goal
 
-pub returns-then-is_whole-clause-kept : goal.returns-then-is_whole-clause-kept
-returns-then-is_whole-clause-kept c = λ value stands room.
-    let s = c.args.self.now in
-    c.all.ensures ∙ (ap all_in c.held_warned.ensures
-    ∙ whole_kept c.args.simple s.walk value (holds_whole s.depth s.floor _ s.walk (sym c.is_whole.ensures ∙ c.if-is_whole.true) stands.holds) room)
+pub returns-then-self-clause-kept : goal.returns-then-self-clause-kept
+returns-then-self-clause-kept c = λ value stands room.
+    c.all.ensures ∙ (ap all_in c.held_warned.ensures ∙ whole_kept c.args.simple c.args.self.now value c.if-self.true stands room)
 
-pub returns-then-is_whole-clause-stands : goal.returns-then-is_whole-clause-stands
-returns-then-is_whole-clause-stands c = λ value stands few.
-    let s = c.args.self.now in
+pub returns-then-self-clause-stands : goal.returns-then-self-clause-stands
+returns-then-self-clause-stands c = λ value stands few.
     c.all.ensures ∙ (ap all_in c.held_warned.ensures ∙
-    (whole_kept c.args.simple s.walk value (holds_whole s.depth s.floor _ s.walk (sym c.is_whole.ensures ∙ c.if-is_whole.true) stands.holds)
-    (countable value few) ∙ kept_is c.args.simple value few))
+    (whole_kept c.args.simple c.args.self.now value c.if-self.true stands (countable value few) ∙ kept_is c.args.simple value few))
 
-pub returns-else-is_whole-clause-kept : goal.returns-else-is_whole-clause-kept
-returns-else-is_whole-clause-kept c = λ value stands room.
-    let s = c.args.self.now in
-    c.all_warnings.ensures
-    ∙ walk_kept c.args.simple s.walk value (holds_walk s.depth s.floor _ s.walk (sym c.is_whole.ensures ∙ c.if-is_whole.false) stands.holds) room
+pub returns-else-self-clause-kept : goal.returns-else-self-clause-kept
+returns-else-self-clause-kept c = λ value stands room.
+    c.warnings.ensures ∙ walk_kept c.args.simple c.args.self.now value c.if-self.false stands room
 
-pub returns-else-is_whole-clause-stands : goal.returns-else-is_whole-clause-stands
-returns-else-is_whole-clause-stands c = λ value stands few.
-    let s = c.args.self.now in
-    c.all_warnings.ensures ∙
-    (walk_kept c.args.simple s.walk value (holds_walk s.depth s.floor _ s.walk (sym c.is_whole.ensures ∙ c.if-is_whole.false) stands.holds)
-    (countable value few) ∙ kept_is c.args.simple value few)
+pub returns-else-self-clause-stands : goal.returns-else-self-clause-stands
+returns-else-self-clause-stands c = λ value stands few.
+    c.warnings.ensures ∙
+    (walk_kept c.args.simple c.args.self.now value c.if-self.false stands (countable value few) ∙ kept_is c.args.simple value few)

@@ -1,22 +1,20 @@
 //! The value of `coordinates` itself, as each of the six types.
-use crate::array::Stage;
 use crate::fault::{Fault, join_fault};
-use crate::flat;
 use crate::kind::Kind;
 use crate::position::{Numbers, misshapen};
 use crate::ring::RingRole;
-use crate::several::line_fault;
 use crate::simple::Simple;
 use crate::simple_faults::SimpleFaults;
-use crate::value_reader::Gather;
-use crate::walk::middle_array::{MiddleArray, MiddleReader};
+use crate::tally::line_fault;
+use crate::walk::level::Level;
 use crate::warned::Warned;
-use gj_json::{Event, Flat};
+use crate::{cuts, flat};
+use gj_json::{CutPosition, Event, Flat};
 
 /// What the whole value gathers of its elements: as numbers; and, as positions, as lines, as linear rings and as
 /// polygons, their least fault and what deserves a warning in them.
 #[derive(Clone, Copy)]
-pub struct OuterArray {
+pub struct Outermost {
     pub numbers: Numbers,
     pub positions_warned: Warned,
     pub lines_warned: Warned,
@@ -28,17 +26,11 @@ pub struct OuterArray {
     pub polygons: Option<Fault>,
 }
 
-/// What is known of the whole value.
-#[derive(Clone, Copy)]
-pub enum OuterSummary {
-    /// Where it begins. It is no array.
-    Other(u64),
-    /// What an array gathered.
-    Level(OuterArray),
-}
-
-impl OuterArray {
-    ghost use Rattle.std.specs.Prelude.{◌≡◌};
+impl Outermost {
+    ghost use Rattle.std.specs.Prelude.{◌≡◌, ◌≤◌, List, length, take};
+    ghost use Rattle.gj_json.specs.declared.flat.Flat.{Flat};
+    ghost use Rattle.gj_json.specs.CutPosition.{AreCutPositions};
+    ghost use Rattle.gj_coords.specs.Internal.AddedPositions.{all_first};
     ghost use Rattle.gj_coords.specs.Internal.SteadyWalk.{IsCounted, first_steady};
     ghost use Rattle.gj_coords.specs.Internal.FlatPosition.{flat_second, flat_held, held_fault, held_warned};
     ghost use Rattle.gj_coords.specs.SimpleFaults.{by_simple};
@@ -46,8 +38,39 @@ impl OuterArray {
     ghost use Rattle.gj_coords.specs.Internal.LevelGather.{point_warned_in, some_quiet_in, quiet_in};
     ghost use Rattle.gj_coords.specs.Internal.GatheredWarnings.{taken};
 
+    pub fn new() -> Outermost
+        ensures { result ≡ first_gathering.opened 0 }
+    {
+        Outermost {
+            numbers: Numbers::none(),
+            positions_warned: Warned::none(),
+            lines_warned: Warned::none(),
+            rings_warned: Warned::none(),
+            polygons_warned: Warned::none(),
+            positions: None,
+            lines: None,
+            rings: None,
+            polygons: None,
+        }
+    }
+
+    /// Begins an array at the place, whatever was gathered before.
+    pub fn open(&mut self, place: u64)
+        ensures { self.new ≡ first_gathering.opened place }
+    {
+        self.numbers.clear(place);
+        self.positions_warned.clear();
+        self.lines_warned.clear();
+        self.rings_warned.clear();
+        self.polygons_warned.clear();
+        self.positions = None;
+        self.lines = None;
+        self.rings = None;
+        self.polygons = None;
+    }
+
     /// Adds an element that is an array, by what it gathered.
-    fn add_array(&mut self, element: &MiddleArray)
+    pub fn add_level(&mut self, element: &Level)
         ensures { self.new ≡ first_gathering.added self.old (second_gathering.closed element.now) }
     {
         let place = element.numbers.tally.place;
@@ -89,6 +112,19 @@ impl OuterArray {
     {
         self.numbers.count_array();
         flat::warn_quick(position, &mut self.positions_warned);
+    }
+
+    /// Adds such elements that come as their cut values, up to the first of which more is asked, where no fault and no count
+    /// changes: how many.
+    pub fn add_cuts(&mut self, positions: &[CutPosition]) -> usize
+        ensures few { result ≤ length positions.now }
+        ensures added { (flats : List Flat) → AreCutPositions (take result positions.now) flats → IsCounted self.old.numbers
+            → self.new ≡ all_first self.old flats }
+    {
+        if self.numbers.tally.is_open() {
+            return 0;
+        }
+        cuts::warn_all(positions, &mut self.positions_warned)
     }
 
     /// Takes a position that is the whole value and comes as one [`Flat`]: it keeps the least fault of its numbers as
@@ -138,7 +174,7 @@ impl OuterArray {
     }
 
     /// Adds an element that is no array, by its first event.
-    fn add_other(&mut self, head: &Event)
+    pub fn add_other(&mut self, head: &Event)
         ensures { self.new ≡ first_gathering.added self.old (second_gathering.otherwise head.now) }
     {
         self.numbers.add_element(head);
@@ -269,58 +305,5 @@ impl OuterArray {
         self.numbers
             .warn_as(&self.numbers.least_fault(), &mut warned);
         warned
-    }
-}
-
-impl Gather<MiddleReader> for OuterArray {
-    ghost use Rattle.gj_coords.specs.Internal.LevelGather.{first_gathering};
-
-    type Answer = OuterSummary;
-
-    ghost gathering = { first_gathering };
-
-    fn new() -> OuterArray {
-        OuterArray {
-            numbers: Numbers::none(),
-            positions_warned: Warned::none(),
-            lines_warned: Warned::none(),
-            rings_warned: Warned::none(),
-            polygons_warned: Warned::none(),
-            positions: None,
-            lines: None,
-            rings: None,
-            polygons: None,
-        }
-    }
-
-    fn open(&mut self, place: u64) {
-        self.numbers.clear(place);
-        self.positions_warned.clear();
-        self.lines_warned.clear();
-        self.rings_warned.clear();
-        self.polygons_warned.clear();
-        self.positions = None;
-        self.lines = None;
-        self.rings = None;
-        self.polygons = None;
-    }
-
-    fn add(&mut self, item: &MiddleReader) {
-        match item.stage {
-            Stage::Broken => self.add_other(&item.other.first),
-            _ => self.add_array(&item.gather),
-        }
-    }
-
-    fn add_single(&mut self, event: &Event) {
-        self.add_other(event);
-    }
-
-    fn close(&self) -> OuterSummary {
-        OuterSummary::Level(*self)
-    }
-
-    fn other(head: &Event) -> OuterSummary {
-        OuterSummary::Other(head.place)
     }
 }

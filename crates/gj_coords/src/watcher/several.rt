@@ -1,28 +1,15 @@
 //! Lists and lines (RFC 7946, sections 3.1.3 to 3.1.7).
-ghost use Rattle.std.specs.Prelude.{◌≡◌};
-ghost use Rattle.gj_coords.specs.Internal.ListGather.{line_closed};
-
 use crate::array::Array;
 use crate::fault::{Fault, Rule, join_fault, lesser_fault};
-use crate::findings::Findings;
-use crate::position::PositionReader;
-use crate::tally::Tally;
-use crate::value_reader::{Gather, Judged, ValueReader};
+use crate::tally::{LINE_NEEDS, Tally};
+use crate::value_reader::{Gather, ValueReader};
 use crate::warned::Warned;
+use crate::watcher::findings::{Findings, Judged};
+use crate::watcher::position::PositionReader;
 use gj_json::Event;
 
 /// A list may be empty.
 pub const LIST_NEEDS: u8 = 0;
-
-/// The least number of positions of a line.
-pub const LINE_NEEDS: u8 = 2;
-
-/// The least fault of a line whose positions have this least fault.
-pub fn line_fault(tally: &Tally, positions: Option<Fault>) -> Option<Fault>
-    ensures { result ≡ line_closed tally.now positions }
-{
-    lesser_fault(tally.few(LINE_NEEDS, Rule::G13), positions)
-}
 
 /// What a list of at least `NEEDED` values gathers.
 #[derive(Clone, Copy)]

@@ -1,9 +1,24 @@
 //! What is found in a value.
+ghost use Rattle.std.specs.Prelude.{◌≡◌};
+ghost use Rattle.gj_coords.specs.Internal.Findings.{Judgement};
+
 use crate::fault::Fault;
 use crate::kind::Kind;
 use crate::position::misshapen;
-use crate::value_reader::Judged;
 use crate::warned::Warned;
+
+/// An answer that has the least fault of its value, and what deserves a warning in it.
+pub trait Judged: Copy {
+    /// What its methods do, as functions.
+    ghost judgement: { Judgement Self };
+
+    fn fault(&self) -> Option<Fault>
+        ensures { result ≡ judgement.fault_of self.now };
+
+    /// Notes what deserves a warning in the value, which is an element after this many others.
+    fn warn(&self, others: u8, warned: &mut Warned)
+        ensures { warned.new ≡ judgement.warned_behind others warned.old self.now };
+}
 
 /// What is found in a value: its least fault, and what deserves a warning in it.
 #[derive(Clone, Copy)]

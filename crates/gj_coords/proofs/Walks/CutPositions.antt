@@ -1,0 +1,122 @@
+-- Positions that come as their cut values are added as their arrays of numbers are.
+use Rattle.std.proofs.Common.{◌≡◌, ◌∙◌, ℕ, zero, suc, ◌<◌, ◌≤◌, List, [], ◌∷◌, ◌++◌, length, take, slice_index_or, Bool, true, false}
+use Rattle.std.proofs.Common.{Some, None, refl, sym, ap, arith}
+use Rattle.std.proofs.lemmas.Bool.Decides.{Decides-eqb, Decides-and}
+use Rattle.gj_json.specs.declared.cut_position.CutPosition.{CutPosition}
+use Rattle.gj_json.specs.declared.flat.Flat.{Flat}
+use Rattle.gj_json.specs.CutPosition.{IsCutPosition, AreCutPositions, RiseAfter, Rise}
+use Rattle.gj_coords.specs.declared.position.Values.{Values}
+use Rattle.gj_coords.specs.declared.ring.Positions.{Positions}
+use Rattle.gj_coords.specs.declared.walk.level.Level.{Level}
+use Rattle.gj_coords.specs.declared.walk.outermost.Outermost.{Outermost}
+use Rattle.gj_coords.specs.declared.warned.Warned.{Warned}
+use Rattle.gj_coords.specs.declared.winding.Corner.{Corner}
+use Rattle.gj_coords.specs.declared.winding.Winding.{Winding}
+use Rattle.gj_coords.specs.Winding.{corner_of}
+use Rattle.gj_coords.specs.Internal.AddedPositions.{positions_added, all_noted, all_steady, all_first, AllAfter}
+use Rattle.gj_coords.specs.Internal.FlatPosition.{flat_position, flat_values}
+use Rattle.gj_coords.specs.Internal.PositionGather.{corner_in, same_values, sound_noted, array_counted}
+use Rattle.gj_coords.specs.Internal.PositionsGather.{position_added}
+use Rattle.gj_coords.specs.Internal.SteadyWalk.{second_steady, first_steady}
+use Rattle.gj_coords.specs.Internal.WindingGather.{winding_added}
+use Rattle.gj_coords.proofs.Readers.AgreeingPositions.{option_decides}
+
+-- the same values have the same corner
+same_corner : (a b : Values) → same_values a b ≡ true → corner_in a ≡ corner_in b
+same_corner a b same =
+    let d = Decides-and _ _ (Decides-eqb a.count b.count) (Decides-and _ _ (option_decides a.first b.first)
+    (Decides-and _ _ (option_decides a.second b.second) (option_decides a.third b.third))) in
+    let p = d.0 same in
+    (λ i. corner_of (p.1.0 i) (p.1.1.0 i))
+
+differ : (a b : Values) → (corner_in a ≡ corner_in b → ⊥) → same_values a b ≡ false
+differ a b other = go (same_values a b) refl
+  where
+    go : (same : Bool) → same_values a b ≡ same → same ≡ false
+    go false e = refl
+    go true e = absurd (other (same_corner a b e))
+
+pub cut_added : (s : Positions) (flat : Flat) (first : Values) (corner : Corner) (winding : Winding) (warned : Warned) → s.fault ≡ None → s.first ≡ Some first
+    → corner_in (flat_values flat) ≡ Some corner → (corner_in first ≡ Some corner → ⊥) → winding ≡ winding_added s.winding (Some corner)
+    → warned ≡ sound_noted s.warned (flat_position flat)
+    → record { first = s.first; winding = winding; warned = warned; fault = s.fault; closes = false } ≡ position_added s (flat_position flat)
+cut_added s flat first corner winding warned sound begun at other runs notes =
+    let apart : same_values first (flat_values flat) ≡ false = differ first (flat_values flat) (λ e. other (e ∙ at)) in
+    rw (sound, begun, runs, notes) (λ i. record {
+      first = Some first;
+      winding = winding_added s.winding (sym at i);
+      warned = sound_noted s.warned (flat_position flat);
+      fault = None;
+      closes = sym apart i;
+    })
+
+-- ---- one more
+
+-- the last of so many
+pub record IsMore (ps : List CutPosition) (d : CutPosition) (k : ℕ) (flats : List Flat) : Type 0 where
+  pub before : List Flat
+  pub last : Flat
+  pub joined : flats ≡ before ++ last ∷ []
+  pub are : AreCutPositions (take k ps) before
+  pub is : IsCutPosition (slice_index_or ps k d) last
+
+pub more_of : (ps : List CutPosition) (d : CutPosition) (k : ℕ) (flats : List Flat) → k < length ps → AreCutPositions (take (suc k) ps) flats
+    → IsMore ps d k flats
+more_of [] d k flats less are = absurd (omega (arith, less))
+more_of (p ∷ ps) d k [] less are = absurd are
+more_of (p ∷ ps) d zero (f ∷ []) less are = record { before = []; last = f; joined = refl; are = tt; is = are.0 }
+more_of (p ∷ ps) d zero (f ∷ g ∷ fs) less are = absurd are.1
+more_of (p ∷ ps) d (suc k) (f ∷ fs) less are =
+    let m = more_of ps d k fs (omega (arith, less)) are.1 in
+    record { before = f ∷ m.before; last = m.last; joined = ap (λ xs. f ∷ xs) m.joined; are = (are.0, m.are); is = m.is }
+
+pub added_more : (fs : List Flat) (f : Flat) (s : Positions) → positions_added s (fs ++ f ∷ []) ≡ position_added (positions_added s fs) (flat_position f)
+added_more [] f s = refl
+added_more (g ∷ fs) f s = added_more fs f (position_added s (flat_position g))
+
+pub noted_more : (fs : List Flat) (f : Flat) (w : Warned) → all_noted w (fs ++ f ∷ []) ≡ sound_noted (all_noted w fs) (flat_position f)
+noted_more [] f w = refl
+noted_more (g ∷ fs) f w = noted_more fs f (sound_noted w (flat_position g))
+
+-- ---- by the arrays around them
+
+-- where four are counted, the count stays
+steady_same : (f : Flat) (h : Level) → h.numbers ≡ array_counted h.numbers
+    → second_steady f h ≡ record h { positions = position_added h.positions (flat_position f) }
+steady_same f h e = λ i. record h { numbers = sym e i; positions = position_added h.positions (flat_position f) }
+
+pub level_added : (fs : List Flat) (h : Level) → h.numbers ≡ array_counted h.numbers → all_steady h fs ≡ record h { positions = positions_added h.positions fs }
+level_added [] h e = refl
+level_added (f ∷ fs) h e =
+    ap (λ k. all_steady k fs) (steady_same f h e) ∙ level_added fs (record h { positions = position_added h.positions (flat_position f) }) e
+
+first_same : (f : Flat) (g : Outermost) → g.numbers ≡ array_counted g.numbers
+    → first_steady f g ≡ record g { positions_warned = sound_noted g.positions_warned (flat_position f) }
+first_same f g e = λ i. record g { numbers = sym e i; positions_warned = sound_noted g.positions_warned (flat_position f) }
+
+pub outermost_added : (fs : List Flat) (g : Outermost) → g.numbers ≡ array_counted g.numbers
+    → all_first g fs ≡ record g { positions_warned = all_noted g.positions_warned fs }
+outermost_added [] g e = refl
+outermost_added (f ∷ fs) g e =
+    ap (λ k. all_first k fs) (first_same f g e) ∙ outermost_added fs (record g { positions_warned = sound_noted g.positions_warned (flat_position f) }) e
+
+-- ---- all of them stand after a place
+
+after_rise : (floor place : ℕ) (ps : List CutPosition) (k : ℕ) (flats : List Flat) → floor ≤ place → RiseAfter place ps → AreCutPositions (take k ps) flats
+    → AllAfter floor flats
+after_rise floor place [] zero [] least rise are = tt
+after_rise floor place [] (suc k) [] least rise are = tt
+after_rise floor place [] zero (f ∷ fs) least rise are = absurd are
+after_rise floor place [] (suc k) (f ∷ fs) least rise are = absurd are
+after_rise floor place (p ∷ ps) zero [] least rise are = tt
+after_rise floor place (p ∷ ps) zero (f ∷ fs) least rise are = absurd are
+after_rise floor place (p ∷ ps) (suc k) [] least rise are = absurd are
+after_rise floor place (p ∷ ps) (suc k) (f ∷ fs) least rise are =
+    let here = are.0.place in
+    let next = rise.0 in
+    (omega arith, after_rise floor p.place ps k fs (omega arith) rise.1 are.1)
+
+pub all_after : (floor : ℕ) (d : CutPosition) (ps : List CutPosition) (k : ℕ) (flats : List Flat) → 0 < length ps → floor < (slice_index_or ps 0 d).place
+    → Rise ps → AreCutPositions (take k ps) flats → AllAfter floor flats
+all_after floor d [] k flats some less rise are = absurd (omega (arith, some))
+all_after floor d (p ∷ ps) k flats some less rise are = after_rise floor floor (p ∷ ps) k flats (omega arith) (less, rise) are

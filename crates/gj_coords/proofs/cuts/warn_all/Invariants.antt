@@ -1,0 +1,14 @@
+use Rattle.std.proofs.Common.{◌≡◌, ◌≤◌, ◌-◌, List, length, take}
+use Rattle.gj_json.specs.declared.flat.Flat.{Flat}
+use Rattle.gj_json.specs.CutPosition.{AreCutPositions}
+use Rattle.gj_coords.specs.Internal.AddedPositions.{all_noted}
+use Rattle.gj_coords.proofs.cuts.warn_all.Given as goal
+
+abbrev pub invariant-loop-at : goal.invariant-loop-at
+invariant-loop-at l = record {
+  within : l.at ≤ length l.positions;
+  noted : (flats : List Flat) → AreCutPositions (take l.at l.positions) flats → l.warned ≡ all_noted l.fn.warned flats;
+}
+
+abbrev pub decreases-loop-at : goal.decreases-loop-at
+decreases-loop-at l = length l.positions - l.at
