@@ -9,5 +9,6 @@ pub mod IgnoredValues
 pub mod LinterEvents
 pub mod WiderLimits
 pub mod OneFlatMore
+pub mod PositionsMore
 pub mod PlacesOfFaults
 pub mod PlacesOfWarnings

@@ -7,7 +7,7 @@ mod kinds;
 use crate::feature::{FeatureSink, ForgetfulSink};
 use crate::feature_count::FeatureCount;
 use crate::rules::Rules;
-use gj_json::{Event, EventSink, Flat, Head, What};
+use gj_json::{CutPosition, Event, EventSink, Flat, Head, What};
 
 /// Rules that report what is found in each feature of a text, with the last event of the feature.
 ///
@@ -173,6 +173,14 @@ impl<S: FeatureSink> EventSink for FeatureRules<S> {
             self.rules.tell_flat(flat);
         } else {
             self.tell_each(flat);
+        }
+    }
+
+    fn tell_positions(&mut self, positions: &[CutPosition]) -> usize {
+        if self.count.inner > 0 {
+            self.rules.tell_positions(positions)
+        } else {
+            0
         }
     }
 

@@ -8,7 +8,7 @@ mod sound;
 
 use crate::role::Role;
 use crate::shapes::{Shapes, simple_of};
-use gj_coords::{Coordinates, Fault, Simple, lesser_fault};
+use gj_coords::{Coordinates, Fault, Rule, Simple, lesser_fault};
 use gj_json::{Known, Word};
 
 /// How many names have a slot: the known ones.
@@ -54,12 +54,14 @@ pub struct MemberSlots {
     pub shapes: Shapes,
     /// What of `shapes` was set: the rest does not count.
     pub shaped: Shaped,
-    /// The names of which a member has come, a bit for each: the other slots do not count.
+    /// The names of which a member has come, a bit for each: what is kept of the others does not count.
     pub present: u8,
-    /// Those whose first member may have a fault in its value: the faults of the others do not count.
+    /// Of these, those whose first member has a fault in its value.
     pub faulty: u8,
-    /// By the place of a name among the names.
-    pub slots: [Slot; NAMES],
+    /// Where the first member's name stands, by the place of the name among the names.
+    pub names_at: [u64; NAMES],
+    /// The least fault of its value so far, where it has one.
+    pub faults: [Fault; NAMES],
 }
 
 impl MemberSlots {
@@ -78,9 +80,9 @@ impl MemberSlots {
     pub fn new(role: Role, place: u64) -> Self
         ensures { slots_in result ≡ blank role place }
     {
-        let slot = Slot {
-            name_at: 0,
-            fault: None,
+        let fault = Fault {
+            place: 0,
+            rule: Rule::G1,
         };
         MemberSlots {
             place,
@@ -91,7 +93,8 @@ impl MemberSlots {
             shaped: Shaped::No,
             present: 0,
             faulty: 0,
-            slots: [slot; NAMES],
+            names_at: [0; NAMES],
+            faults: [fault; NAMES],
         }
     }
 
@@ -127,13 +130,12 @@ impl MemberSlots {
     #[inline(always)]
     fn counted_slot(&self, index: usize) -> Slot
         requires { index < NAMES }
-        ensures { result ≡ counted_slot self.now.faulty self.now.slots index }
+        ensures { result ≡ counted_slot self.now.faulty self.now.names_at self.now.faults index }
     {
-        let slot = self.slots[index];
         Slot {
-            name_at: slot.name_at,
+            name_at: self.names_at[index],
             fault: if self.faulty >> index & 1 == 1 {
-                slot.fault
+                Some(self.faults[index])
             } else {
                 None
             },
@@ -147,9 +149,13 @@ impl MemberSlots {
     {
         let index = name as usize;
         self.present |= 1 << index;
-        self.slots[index] = slot;
-        if slot.fault.is_some() {
-            self.faulty |= 1 << index;
+        self.names_at[index] = slot.name_at;
+        match slot.fault {
+            Some(fault) => {
+                self.faults[index] = fault;
+                self.faulty |= 1 << index;
+            }
+            None => self.faulty &= !(1 << index),
         }
     }
 

@@ -15,7 +15,7 @@ use crate::mode::Mode;
 use crate::role::Role;
 use gj_coords::laws::kept_warnings;
 use gj_coords::{Bbox, Coordinates, Fault, Warned, Warnings};
-use gj_json::{Event, EventSink, Flat, Head, Known, MOST_LEVELS, What};
+use gj_json::{CutPosition, Event, EventSink, Flat, Head, Known, MOST_LEVELS, What};
 use std::mem::size_of;
 
 /// How many objects with a role can be open in a text within the limits: at most one for each two levels, and one.
@@ -343,6 +343,15 @@ impl<const FRAMES: usize> EventSink for FramedRules<FRAMES> {
             self.feed_flat(flat);
         } else {
             self.tell_each(flat);
+        }
+    }
+
+    #[inline(always)]
+    fn tell_positions(&mut self, positions: &[CutPosition]) -> usize {
+        if self.is_in_coordinates() {
+            self.feed_positions(positions)
+        } else {
+            0
         }
     }
 

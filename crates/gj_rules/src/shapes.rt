@@ -16,9 +16,10 @@ use gj_json::Word;
 /// A LineString has the warnings of a MultiPoint: those of each position.
 #[derive(Clone, Copy)]
 pub struct Shapes {
-    pub faults: SimpleFaults,
-    /// The warnings. Mostly there are none.
-    pub point: Warned,
+    /// The faults. Where they are kept for one type alone, `point` is that of this type.
+    faults: SimpleFaults,
+    /// The warnings, of which mostly there are none: of a Point, or of the one type for which they are kept.
+    pub point_or_one: Warned,
     pub multi_point: Warned,
     pub multi_line_string: Warned,
     pub polygon: Warned,
@@ -62,7 +63,7 @@ impl Shapes {
         let none = Warned::none();
         Shapes {
             faults: SimpleFaults::all(None),
-            point: none,
+            point_or_one: none,
             multi_point: none,
             multi_line_string: none,
             polygon: none,
@@ -77,7 +78,7 @@ impl Shapes {
     {
         summary.faults(&mut self.faults);
         if summary.is_quiet() {
-            self.point.clear();
+            self.point_or_one.clear();
             self.multi_point.clear();
             self.multi_line_string.clear();
             self.polygon.clear();
@@ -87,16 +88,16 @@ impl Shapes {
         }
     }
 
-    /// Sets what is found in it for one type alone, which stands where that for a Point does.
+    /// Sets what is found in it for one type alone, which takes the room of what is found for a Point.
     #[inline]
     pub fn set_one(&mut self, simple: Simple, summary: &Coordinates)
         ensures { (value : Tree) → depth value ≤ most_levels → StandsForCoordinates summary.now (value_events value) → one_in self.new ≡ found_as simple value }
     {
         self.faults.point = summary.fault(simple);
         if summary.is_quiet() {
-            self.point.clear();
+            self.point_or_one.clear();
         } else {
-            set_warned(&mut self.point, summary, simple);
+            set_warned(&mut self.point_or_one, summary, simple);
         }
     }
 
@@ -106,7 +107,7 @@ impl Shapes {
         ensures { (value : Tree) → depth value ≤ most_levels → StandsForCoordinates summary.now (value_events value)
             → shapes_in self.new ≡ shapes_by self.old.faults (λ simple. coordinates_kept simple value) }
     {
-        set_warned(&mut self.point, summary, Simple::Point);
+        set_warned(&mut self.point_or_one, summary, Simple::Point);
         set_warned(&mut self.multi_point, summary, Simple::MultiPoint);
         set_warned(
             &mut self.multi_line_string,
@@ -115,6 +116,13 @@ impl Shapes {
         );
         set_warned(&mut self.polygon, summary, Simple::Polygon);
         set_warned(&mut self.multi_polygon, summary, Simple::MultiPolygon);
+    }
+
+    /// The fault for the one type for which it is kept.
+    pub fn one_fault(&self) -> Option<Fault>
+        ensures { result ≡ (one_in self.now).fault }
+    {
+        self.faults.point
     }
 
     /// The fault for one type.
@@ -136,7 +144,7 @@ impl Shapes {
         ensures { all_in result.now ≡ warned_for simple (shapes_in self.now) }
     {
         match simple {
-            Simple::Point => &self.point,
+            Simple::Point => &self.point_or_one,
             Simple::MultiPoint | Simple::LineString => &self.multi_point,
             Simple::MultiLineString => &self.multi_line_string,
             Simple::Polygon => &self.polygon,

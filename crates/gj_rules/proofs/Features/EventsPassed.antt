@@ -9,6 +9,7 @@ use Rattle.gj_json.specs.declared.names.Known.TheVariants.{Id, TypeName, Geometr
 use Rattle.gj_json.specs.declared.flat.Flat.{Flat}
 use Rattle.gj_json.specs.declared.flat.Numbered.{Numbered}
 use Rattle.gj_json.specs.Flat.{number_event, numbers_of, flat_events}
+use Rattle.gj_json.specs.CutPosition.{flats_events}
 use Rattle.gj_json.specs.declared.head.Located.{Located}
 use Rattle.gj_json.specs.declared.head.Typed.{Typed}
 use Rattle.gj_json.specs.Head.{typed_events, located_events}
@@ -169,6 +170,13 @@ quiet_flat Says flat c events l h = go c.inner refl
         let same : with_levels (0 + suc n) c ≡ c = ap (λ k. with_levels k c) (omega (arith, e)) in
         subst (λ z. FeaturesAre Says z (events ++ flat_events flat)) same
         (quiet_events Says (flat_events flat) c events 0 (suc n) (suc n) (omega (arith, e)) (flat_leaves flat n) h)
+
+pub quiet_flats : (Says : List Feature → Type 0) (flats : List Flat) (c : FeatureCount) (events : List Event) → 0 < c.inner → FeaturesAre Says c events
+    → FeaturesAre Says c (events ++ flats_events flats)
+quiet_flats Says [] c events l h = subst (FeaturesAre Says c) (sym (append-nil events)) h
+quiet_flats Says (f ∷ fs) c events l h =
+    subst (FeaturesAre Says c) (append_assoc events (flat_events f) (flats_events fs))
+    (quiet_flats Says fs c (events ++ flat_events f) l (quiet_flat Says f c events l h))
 
 -- ---- the beginning of an object
 

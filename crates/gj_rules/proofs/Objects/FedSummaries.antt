@@ -13,14 +13,15 @@ use Rattle.gj_rules.specs.declared.rules.FramedRules.{FramedRules}
 use Rattle.gj_rules.specs.Internal.RulesState.{core_of, Holds, HoldsIn, Fed}
 use Rattle.gj_rules.specs.Internal.Summaries.{StandsForCoordinates}
 
-held : (k : ℕ) (m : Mode) (c : C.Coordinates) (bbox : Bbox) (es : List Event) → k ≡ 0 → m ≡ Due Coordinates → HoldsIn k m c bbox es → StandsForCoordinates c es
+pub held : (k : ℕ) (m : Mode) (c : C.Coordinates) (bbox : Bbox) (es : List Event) → k ≡ 0 → m ≡ Due Coordinates → HoldsIn k m c bbox es
+    → StandsForCoordinates c es
 held k m c bbox es a b h = rw (a, b) at h
 
 lost : (b : Bool) → b ≡ false → IsTrue b → ⊥
 lost true e i = cc
 lost false e i = cc
 
-held_now : (k : ℕ) (m : Mode) (c : C.Coordinates) (bbox : Bbox) (es : List Event) → k ≡ 0 → m ≡ Due Coordinates → StandsForCoordinates c es
+pub held_now : (k : ℕ) (m : Mode) (c : C.Coordinates) (bbox : Bbox) (es : List Event) → k ≡ 0 → m ≡ Due Coordinates → StandsForCoordinates c es
     → HoldsIn k m c bbox es
 held_now k m c bbox es a b h = rw (a, b) h
 

@@ -2,8 +2,6 @@
 use Rattle.std.proofs.Common.{◌≡◌, ℕ, zero, suc, ◌<◌, List, [], ◌∷◌, ◌++◌, refl, sym, ap, subst, ◌∙◌, arith, append_assoc, append-nil}
 use Rattle.gj_json.specs.declared.event.Event.{Event}
 use Rattle.gj_json.specs.Ignored.{levels_behind, Leaves}
-use Rattle.gj_coords.specs.declared.coordinates.Coordinates as C
-use Rattle.gj_coords.specs.declared.bbox.Bbox as B
 use Rattle.gj_rules.specs.declared.rules.FramedRules.{FramedRules}
 use Rattle.gj_rules.specs.Internal.RulesState.{core_of, Holds}
 use Rattle.gj_rules.specs.Rules.{StandsFor}

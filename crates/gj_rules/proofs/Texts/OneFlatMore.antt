@@ -1,5 +1,6 @@
 -- What a call leaves stands for the events of an array of numbers more.
-use Rattle.std.proofs.Common.{◌≡◌, ℕ, ◌+◌, ◌⊎◌, inl, inr, Bool, true, false, List, [], ◌∷◌, ◌++◌, map, refl, sym, ap, subst, ◌∙◌, append_assoc}
+use Rattle.std.proofs.Common.{◌≡◌, ℕ, ◌+◌, ◌^◌, ◌≤◌, ◌<◌, ◌⊎◌, inl, inr, Bool, true, false, List, [], ◌∷◌, ◌++◌, map, refl, sym, ap, subst, ◌∙◌}
+use Rattle.std.proofs.Common.{append_assoc, append-nil}
 use Rattle.std.proofs.lemmas.List.{map-append}
 use Rattle.std.specs.List.{AllByRecursion}
 use Rattle.gj_json.specs.declared.constant.Constant.TheVariants.{Null, True, False}
@@ -8,13 +9,17 @@ use Rattle.gj_json.specs.declared.event.What.{What}
 use Rattle.gj_json.specs.declared.flat.Numbered.{Numbered}
 use Rattle.gj_json.specs.Events as E
 use Rattle.gj_json.specs.Events.{value_events, elements_events, members_events, timed}
-use Rattle.gj_json.specs.Flat.{number_event, numbers_events}
-use Rattle.gj_json.specs.Tree.{Tree, constant, number, string, array, object}
+use Rattle.gj_json.specs.declared.flat.Flat.{Flat}
+use Rattle.gj_json.specs.Flat.{number_event, numbers_of, numbers_events, flat_events}
+use Rattle.gj_json.specs.CutPosition.{flats_events}
+use Rattle.gj_coords.specs.Coordinates.{NotEnded, NoneEnds}
+use Rattle.gj_json.specs.Tree.{Tree, constant, number, string, array, object, depth}
 use Rattle.gj_rules.specs.Internal.FrameMeaning.{Findings}
 use Rattle.gj_rules.specs.Internal.FrameMeaning.{Frame}
 use Rattle.gj_rules.specs.declared.mode.Mode.{Mode}
 use Rattle.gj_rules.specs.declared.rules.FramedRules.{FramedRules}
-use Rattle.gj_rules.specs.Internal.RulesState.{core_of, top_of, Stands, Fed, FeedsMany}
+use Rattle.gj_rules.specs.Internal.RulesState.{core_of, top_of, Stands, Holds, Fed, FeedsMany}
+use Rattle.gj_rules.specs.Levels.{most_levels}
 use Rattle.gj_rules.specs.Rules.{StandsFor}
 use Rattle.gj_rules.specs.Internal.EventSteps.{Core, Feed, State, is_feeding, ended, fed, idle, step, run, start}
 use Rattle.gj_rules.specs.Internal.LabelledEvents.{Told, event_of, text_told}
@@ -183,18 +188,18 @@ within_value place numbers close v taken left front bs next later l s e = elim (
 
 -- ---- a call
 
-module _ {frames : ℕ} (old new : FramedRules frames) (place : ℕ) (numbers : List Numbered) (close : ℕ) (feeds : is_feeding old.skipped old.mode ≡ true)
-    (t : FeedsMany old (numbers_events place numbers close) new) where
-  abbrev fs : List Event
-  fs = numbers_events place numbers close
-
+-- Events come of a value that a summary takes, and the value does not end before they do.
+module _ {frames : ℕ} (old new : FramedRules frames) (fs : List Event) (feeds : is_feeding old.skipped old.mode ≡ true) (t : FeedsMany old fs new)
+    (some : fs ≡ [] → ⊥)
+    (within : (v : Tree) (taken left front bs : List Event) (next : Event) (later : List Event) → depth v ≤ most_levels → Holds old taken
+    → left ≡ next ∷ later → taken ++ left ≡ value_events v → fs ++ front ≡ left ++ bs → (more : List Event) × (left ≡ fs ++ more)) where
   from_fits : (x : Told) (xs rest : List Told) (v : Tree) (taken left : List Event) → map event_of (x ∷ xs) ≡ fs
       → Stands old (with_feed (core_of old) (feeding v taken left)) → Fits (feeding v taken left) ((x ∷ xs) ++ rest)
       → Stands new (run (x ∷ xs) (with_feed (core_of old) (feeding v taken left)))
   from_fits x xs rest v taken left e h f =
       let comes : fs ++ map event_of rest ≡ left ++ f.more =
       ap (λ (es : List Event). es ++ map event_of rest) (sym e) ∙ (sym (map-append event_of (x ∷ xs) rest) ∙ f.comes) in
-      let w = within_value place numbers close v taken left (map event_of rest) f.more f.next f.later f.left f.split comes in
+      let w = within v taken left (map event_of rest) f.more f.next f.later f.deep h.1 f.left f.split comes in
       let l : left ≡ map event_of (x ∷ xs) ++ w.0 = w.1 ∙ ap (λ (es : List Event). es ++ w.0) (sym e) in
       let all : (taken ++ fs) ++ w.0 ≡ value_events v = append_assoc taken fs w.0 ∙ (ap (λ (es : List Event). taken ++ es) (sym w.1) ∙ f.split) in
       let done = outcome_stands old new v (taken ++ fs) w.0 feeds (t v taken w.0 f.deep h.1 all) in
@@ -203,20 +208,65 @@ module _ {frames : ℕ} (old new : FramedRules frames) (place : ℕ) (numbers : 
       (sym (ap (λ (es : List Event). run (x ∷ xs) (with_feed (core_of old) (feeding v taken es))) l
       ∙ (r ∙ ap (λ (es : List Event). outcome w.0 v (taken ++ es) (core_of old)) e))) done
 
-  flat_run : (xs rest : List Told) (s : State) (found : Findings) → map event_of xs ≡ fs → Stands old s → Leads frames (xs ++ rest) s found
+  events_run : (xs rest : List Told) (s : State) (found : Findings) → map event_of xs ≡ fs → Stands old s → Leads frames (xs ++ rest) s found
       → Stands new (run xs s)
-  flat_run [] rest s found e h g = cc
-  flat_run (x ∷ xs) rest s found e h g =
+  events_run [] rest s found e h g = absurd (some (sym e))
+  events_run (x ∷ xs) rest s found e h g =
       let fits = fits_of frames x (xs ++ rest) s.feed old.skipped old.mode (top_of old) (core_of old).outer (core_of old).answer feeds
       (good_core old x (xs ++ rest) s h.0 g.0) in
       subst (λ (c : Core). Stands new (run (x ∷ xs) (with_feed c s.feed))) h.0 (from_fits x xs rest s.feed.value s.feed.taken s.feed.left e (refl, h.1) fits)
 
-  pub told_flat : (events : List Event) → StandsFor old events → StandsFor new (events ++ fs)
-  told_flat events h = λ text done rest e f d.
+  pub events_told : (events : List Event) → StandsFor old events → StandsFor new (events ++ fs)
+  events_told events h = λ text done rest e f d.
       let k = split_told done events fs f in
       let split : text_told text ≡ k.0 ++ (k.1 ++ rest) = e ∙ (ap (λ (ts : List Told). ts ++ rest) k.2 ∙ append_assoc k.0 k.1 rest) in
       let stands = h text k.0 (k.1 ++ rest) split k.3 d in
       let leads = leads_at frames k.0 (k.1 ++ rest) start (text_found text)
       (subst (λ (ts : List Told). Leads frames ts start (text_found text)) split (lead_text frames old.few text d)) in
       subst (λ (s : State). Stands new s) (sym (ap (λ (ts : List Told). run ts start) k.2 ∙ run-append k.0 k.1 start))
-      (flat_run k.1 rest (run k.0 start) (text_found text) k.4 stands leads)
+      (events_run k.1 rest (run k.0 start) (text_found text) k.4 stands leads)
+
+pub told_flat : {frames : ℕ} (old new : FramedRules frames) (place : ℕ) (numbers : List Numbered) (close : ℕ) → is_feeding old.skipped old.mode ≡ true
+    → FeedsMany old (numbers_events place numbers close) new → (events : List Event) → StandsFor old events
+    → StandsFor new (events ++ numbers_events place numbers close)
+told_flat old new place numbers close feeds t =
+    events_told old new (numbers_events place numbers close) feeds t (λ e. cc)
+    (λ v taken left front bs next later deep held. within_value place numbers close v taken left front bs next later)
+
+-- ---- arrays of two numbers, of which none ends the value
+
+cancel : (xs ys zs : List Event) → xs ++ ys ≡ xs ++ zs → ys ≡ zs
+cancel [] ys zs e = e
+cancel (x ∷ xs) ys zs e = cancel xs ys zs (cc)
+
+-- after the first of them more is left of the value
+after_first : (f : Flat) (fs : List Flat) (v : Tree) (taken left front bs more : List Event) → left ≡ flat_events f ++ more → depth v < 2 ^ 64
+    → NotEnded (taken ++ flat_events f) → taken ++ left ≡ value_events v → (flat_events f ++ flats_events fs) ++ front ≡ left ++ bs
+    → ((x : Event) (xs : List Event) → (taken ++ flat_events f) ++ (x ∷ xs) ≡ value_events v → flats_events fs ++ front ≡ (x ∷ xs) ++ bs
+    → (end : List Event) × (x ∷ xs ≡ flats_events fs ++ end))
+    → (end : List Event) × (left ≡ (flat_events f ++ flats_events fs) ++ end)
+after_first f fs v taken left front bs [] m deep goes s e next =
+    absurd (goes v deep (ap (λ (es : List Event). taken ++ es) (sym (append-nil (flat_events f)) ∙ sym m) ∙ s))
+after_first f fs v taken left front bs (x ∷ xs) m deep goes s e next =
+    let split : (taken ++ flat_events f) ++ (x ∷ xs) ≡ value_events v =
+    append_assoc taken (flat_events f) (x ∷ xs) ∙ ap (λ (es : List Event). taken ++ es) (sym m) ∙ s in
+    let cut : flats_events fs ++ front ≡ (x ∷ xs) ++ bs =
+    cancel (flat_events f) (flats_events fs ++ front) ((x ∷ xs) ++ bs)
+    (sym (append_assoc (flat_events f) (flats_events fs) front) ∙ e ∙ ap (λ (es : List Event). es ++ bs) m ∙ append_assoc (flat_events f) (x ∷ xs) bs) in
+    let w = next x xs split cut in
+    (w.0, m ∙ ap (λ (es : List Event). flat_events f ++ es) w.1 ∙ sym (append_assoc (flat_events f) (flats_events fs) w.0))
+
+pub within_values : (flats : List Flat) (v : Tree) (taken left front bs : List Event) (next : Event) (later : List Event) → depth v < 2 ^ 64
+    → NoneEnds taken flats → left ≡ next ∷ later → taken ++ left ≡ value_events v → flats_events flats ++ front ≡ left ++ bs
+    → (more : List Event) × (left ≡ flats_events flats ++ more)
+within_values [] v taken left front bs next later deep none l s e = (left, refl)
+within_values (f ∷ fs) v taken left front bs next later deep none l s e =
+    let w = within_value f.place (numbers_of f) f.close v taken left (flats_events fs ++ front) bs next later l s
+    (sym (append_assoc (flat_events f) (flats_events fs) front) ∙ e) in
+    after_first f fs v taken left front bs w.0 w.1 deep none.0 s e
+    (λ x xs split cut. within_values fs v (taken ++ flat_events f) (x ∷ xs) front bs x xs deep none.1 refl split cut)
+
+pub last_goes_on : (events : List Event) (f : Flat) (fs : List Flat) → NoneEnds events (f ∷ fs) → NotEnded (events ++ flats_events (f ∷ fs))
+last_goes_on events f [] none = subst NotEnded (ap (λ es. events ++ es) (sym (append-nil (flat_events f)))) none.0
+last_goes_on events f (g ∷ fs) none =
+    subst NotEnded (append_assoc events (flat_events f) (flats_events (g ∷ fs))) (last_goes_on (events ++ flat_events f) g fs none.1)

@@ -1,9 +1,9 @@
 -- As what a frame is read. What was kept of an object that has closed is left in it, and does not show here: a
 -- member counts where it is present, what a coordinates value shows where it was set, warnings where there are some.
-use Rattle.std.specs.Prelude.{ℕ, Bool, true, false, if◌then◌else◌, nat_eq, List, slice_index_or, Option, Some, None}
+use Rattle.std.specs.Prelude.{ℕ, Bool, true, false, if◌then◌else◌, nat_eq, List, slice_index_or, Option, Some, None, is_none}
 use Rattle.std.specs.Int.{bit_at}
 use Rattle.gj_coords.specs.declared.fault.Fault.{Fault}
-use Rattle.gj_coords.specs.declared.fault.Rule.TheVariants.{G10}
+use Rattle.gj_coords.specs.declared.fault.Rule.TheVariants.{G1, G10}
 use Rattle.gj_coords.specs.Fault.{fault_at}
 use Rattle.gj_coords.specs.declared.simple.Simple.{Simple}
 use Rattle.gj_coords.specs.declared.simple_faults.SimpleFaults.{SimpleFaults}
@@ -38,7 +38,7 @@ shapes_by faults warned = record {
 }
 
 abbrev pub warned_in : DS.Shapes → Simple → Warnings
-warned_in x Simple.Point = all_in x.point
+warned_in x Simple.Point = all_in x.point_or_one
 warned_in x Simple.MultiPoint = all_in x.multi_point
 warned_in x Simple.LineString = all_in x.multi_point
 warned_in x Simple.MultiLineString = all_in x.multi_line_string
@@ -48,9 +48,9 @@ warned_in x Simple.MultiPolygon = all_in x.multi_polygon
 abbrev pub shapes_in : DS.Shapes → Shapes
 shapes_in x = shapes_by x.faults (warned_in x)
 
--- what is found for one type alone
+-- what is found for one type alone, in the room of what is found for a Point
 abbrev pub one_in : DS.Shapes → Findings
-one_in x = record { fault = x.faults.point; warned = all_in x.point }
+one_in x = record { fault = x.faults.point; warned = all_in x.point_or_one }
 
 -- those that were set
 abbrev pub shapes_if : Shaped → DS.Shapes → Shapes
@@ -58,25 +58,27 @@ shapes_if Shaped.No shapes = no_shapes
 shapes_if Shaped.One shapes = alike (one_in shapes)
 shapes_if Shaped.Each shapes = shapes_in shapes
 
--- a slot that was not set
-abbrev pub no_slot : Slot
-no_slot = record { name_at = 0; fault = None }
+-- whether nothing was set of the warnings, or nothing is held of those for one type: those for each are not looked through
+abbrev pub looks_unwarned : Shaped → DS.Shapes → Bool
+looks_unwarned Shaped.No shapes = true
+looks_unwarned Shaped.One shapes = is_none shapes.point_or_one.warnings
+looks_unwarned Shaped.Each shapes = false
 
--- where a bit says that it counts
-abbrev pub fault_if : Bool → Option Fault → Option Fault
-fault_if true fault = fault
-fault_if false fault = None
+-- at a place where no fault lies
+abbrev pub unset_fault : Fault
+unset_fault = fault_at 0 G1
 
--- the slot at a place, with its fault where one counts
-abbrev pub counted_slot : ℕ → List Slot → ℕ → Slot
-counted_slot faulty slots index = record {
-  name_at = (slice_index_or slots index no_slot).name_at;
-  fault = fault_if (nat_eq (bit_at faulty index) 1) (slice_index_or slots index no_slot).fault;
+-- the slot at a place, with its fault where a bit says that it counts
+abbrev pub counted_slot : ℕ → List ℕ → List Fault → ℕ → Slot
+counted_slot faulty names_at faults index = record {
+  name_at = slice_index_or names_at index 0;
+  fault = if nat_eq (bit_at faulty index) 1 then Some (slice_index_or faults index unset_fault) else None;
 }
 
 -- where a member of its name is present
-unfoldable pub slot_in : ℕ → ℕ → List Slot → ℕ → Option Slot
-slot_in present faulty slots index = if nat_eq (bit_at present index) 1 then Some (counted_slot faulty slots index) else None
+unfoldable pub slot_in : ℕ → ℕ → List ℕ → List Fault → ℕ → Option Slot
+slot_in present faulty names_at faults index =
+    if nat_eq (bit_at present index) 1 then Some (counted_slot faulty names_at faults index) else None
 
 -- the fault of the least repeated name
 abbrev pub repeated_in : Option ℕ → Option Fault
@@ -90,7 +92,7 @@ slots_in x = record {
   repeated = repeated_in x.repeated;
   type_value = x.type_value;
   shapes = shapes_if x.shaped x.shapes;
-  slots = λ name. slot_in x.present x.faulty x.slots (index_of name);
+  slots = λ name. slot_in x.present x.faulty x.names_at x.faults (index_of name);
 }
 
 abbrev pub warnings_if : Bool → Warned → Warnings

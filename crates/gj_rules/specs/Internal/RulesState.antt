@@ -31,7 +31,7 @@ no_frame = record {
     type_value = None;
     shapes = record {
       faults = by_simple (λ simple. None);
-      point = no_warned;
+      point_or_one = no_warned;
       multi_point = no_warned;
       multi_line_string = no_warned;
       polygon = no_warned;
@@ -40,7 +40,8 @@ no_frame = record {
     shaped = Shaped.No;
     present = 0;
     faulty = 0;
-    slots = [];
+    names_at = [];
+    faults = [];
   };
   gathered = record {
     own = record { warned = no_warned; counts = false };

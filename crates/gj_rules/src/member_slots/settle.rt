@@ -21,7 +21,7 @@ impl MemberSlots {
         ensures { result ≡ shape_for simple (slots_in self.now).shapes }
     {
         match self.shaped {
-            Shaped::One => self.shapes.faults.point,
+            Shaped::One => self.shapes.one_fault(),
             Shaped::Each => self.shapes.fault(simple),
             Shaped::No => None,
         }
@@ -44,7 +44,7 @@ impl MemberSlots {
         ensures { all_in warned.new ≡ joined (all_in warned.old) (warned_for simple (slots_in self.now).shapes) }
     {
         match self.shaped {
-            Shaped::One => warned.take(&self.shapes.point),
+            Shaped::One => warned.take(&self.shapes.point_or_one),
             Shaped::Each => warned.take(self.shapes.warned(simple)),
             Shaped::No => {}
         }

@@ -1,10 +1,10 @@
 -- A slot is set at the place of its name.
 use Rattle.std.proofs.Common.{arith}
-use Rattle.gj_rules.proofs.Objects.SlotsByPlace.{slot_set, sound_set}
+use Rattle.gj_rules.proofs.Objects.SlotsByPlace.{faulty_set, sound_set}
 use Rattle.gj_rules.proofs.member_slots.MemberSlots.set_slot.Goals as goal
 
-pub returns-then-is_some : goal.returns-then-is_some
-returns-then-is_some c = slot_set c.args.name c.args.slot c.args.self.now c.requires (omega arith)
+pub returns-in-Some : goal.returns-in-Some
+returns-in-Some c = faulty_set c.args.name c.args.slot c.in-Some.fault c.args.self.now c.requires (omega arith) (omega arith) c.in-Some.is
 
-pub returns-else-is_some : goal.returns-else-is_some
-returns-else-is_some c = sound_set c.args.name c.args.slot c.args.self.now c.requires (omega arith) (cc)
+pub returns-in-None : goal.returns-in-None
+returns-in-None c = sound_set c.args.name c.args.slot c.args.self.now c.requires (omega arith) (omega arith) c.in-None.is
