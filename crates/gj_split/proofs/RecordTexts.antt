@@ -1,9 +1,9 @@
 -- The text of a record, by the bytes at its place.
-use Rattle.std.proofs.Common.{◌≡◌, ℕ, zero, suc, get_or, ◌+◌, ◌-◌, ◌≤◌, Bool, true, false, nat_eq, if◌then◌else◌, List, [], ◌∷◌, ◌++◌, length, take, drop, refl}
-use Rattle.std.proofs.Common.{sym, ap, ◌∙◌, arith, add-sub_of_le}
-use Rattle.std.proofs.Common.{Option, Some, Ok, ◌⊎◌, inl, inr, length-append, drop-drop, take-add}
+use Rattle.std.proofs.Common.{◌≡◌, ℕ, zero, suc, get_or, ◌+◌, ◌-◌, ◌≤◌, Bool, true, false, nat_eq, if◌then◌else◌, List, [], ◌∷◌, ◌++◌, length, take, drop}
+use Rattle.std.proofs.Common.{refl, sym, ap, ◌∙◌, arith, add-sub_of_le, Option, Some, Ok, ◌⊎◌, inl, inr, length-append, drop-drop, take-add}
 use Rattle.std.proofs.lemmas.Bool.{eqb-true}
 use Rattle.std.proofs.lemmas.List.{append-nil, take-append-drop}
+use Rattle.std.proofs.Math.Seq.{take-append_seam}
 use Rattle.std.specs.List.{AllByRecursion}
 use Rattle.gj_json.specs.Bytes.{line_feed}
 use Rattle.gj_json.specs.Limits.{Allowed}
@@ -11,8 +11,7 @@ use Rattle.gj_rules.specs.declared.records.framing.Framing.{Framing}
 use Rattle.gj_rules.specs.declared.records.framing.RecordEnd.{RecordEnd}
 use Rattle.gj_rules.specs.declared.records.framing.RecordEnd.TheVariants.{Separator, Input, Limit}
 use Rattle.gj_rules.specs.Records.{Part, part_at, separator_of, with_first, parts_from, parts_of, is_too_long, Entry, entry_at, entry_if, is_counted}
-use Rattle.gj_rules.specs.Records.{number_after}
-use Rattle.gj_rules.specs.Records.{entries_from, entries_of, first_number}
+use Rattle.gj_rules.specs.Records.{number_after, entries_from, entries_of, first_number}
 use Rattle.gj_rules.specs.Sequence.{separator, last_byte}
 use Rattle.gj_split.specs.Ranges.{StandsAt, ReadsFrom}
 use Rattle.gj_split.specs.Split.{bytes_between}
@@ -21,19 +20,14 @@ use Rattle.gj_split.proofs.ReadParts.{part_read}
 
 -- ---- the last byte
 
-last_of_more : (b last : ℕ) (bytes : List ℕ) → last_byte b (bytes ++ last ∷ []) ≡ last
+pub last_of_more : (b last : ℕ) (bytes : List ℕ) → last_byte b (bytes ++ last ∷ []) ≡ last
 last_of_more b last [] = refl
 last_of_more b last (c ∷ bytes) = last_of_more c last bytes
 
 all_but_last : (last : ℕ) (bytes : List ℕ) → take (length (bytes ++ last ∷ []) - 1) (bytes ++ last ∷ []) ≡ bytes
-all_but_last last bytes = ap (λ n. take n (bytes ++ last ∷ [])) (counted (length bytes) _ (length-append bytes (last ∷ []))) ∙ before bytes
-  where
-    counted : (n m : ℕ) → m ≡ n + 1 → m - 1 ≡ n
-    counted n m e = omega (arith, e)
-
-    before : (xs : List ℕ) → take (length xs) (xs ++ last ∷ []) ≡ xs
-    before [] = refl
-    before (x ∷ xs) = ap (λ ys. x ∷ ys) (before xs)
+all_but_last last bytes =
+    let less : length (bytes ++ last ∷ []) - 1 ≡ length bytes = omega (arith, length-append bytes (last ∷ [])) in
+    ap (λ n. take n (bytes ++ last ∷ [])) less ∙ take-append_seam bytes (last ∷ [])
 
 -- by the last byte
 pub text_in_more : (last : ℕ) (bytes : List ℕ) → text_in (bytes ++ last ∷ []) ≡ (if nat_eq last line_feed then bytes else bytes ++ last ∷ [])

@@ -14,12 +14,13 @@ use Rattle.gj_coords.specs.Fault.{least}
 use Rattle.gj_coords.specs.Internal.KeptWarnings.{no_warnings, joined, shifted}
 use Rattle.gj_coords.specs.declared.warnings.Warnings.{Warnings}
 use Rattle.gj_rules.specs.Faults.{text_faults}
-use Rattle.gj_rules.specs.Sequence.{separator, is_separator, begins_with_separator, up_to_separator, SequenceRecord, records_from, records_of, last_byte}
+use Rattle.gj_rules.specs.Sequence.{separator, is_separator, begins_with_separator, up_to_separator, SequenceRecord, records_from, records_of}
 use Rattle.gj_rules.specs.Sequence.{ends_in_line_feed, own_limits, IsRecordVerdict, AllValid, is_stray}
 use Rattle.gj_rules.specs.Verdict.{IsVerdict}
 use Rattle.gj_rules.specs.declared.verdict.Verdict.{Verdict}
 use Rattle.gj_rules.specs.declared.verdict.Verdict.TheVariants.{Valid, Broken, NotJson}
 use Rattle.gj_split.specs.Split.{sequence_of, IsValidSequence}
+use Rattle.gj_split.proofs.RecordTexts.{last_of_more}
 use Rattle.gj_split.proofs.SpelledBytes.{AreInText, InText, no_separator_byte}
 use Rattle.gj_split.proofs.TextsAlone.{IsSoundAlone}
 use Rattle.gj_number.proofs.Grammar.FoundParts.{all-append}
@@ -101,12 +102,8 @@ as_many : (place : ℕ) (texts : List (List ℕ)) → length texts ≡ length (r
 as_many place [] = refl
 as_many place (own ∷ more) = ap suc (as_many (place + 1 + length (line_of own)) more)
 
-last_of_line : (b : ℕ) (own : List ℕ) → last_byte b (own ++ line_feed ∷ []) ≡ line_feed
-last_of_line b [] = refl
-last_of_line b (c ∷ own) = last_of_line c own
-
 line_ends : (own : List ℕ) → ends_in_line_feed (line_of own) ≡ true
-line_ends own = rw (last_of_line separator own) refl
+line_ends own = rw (last_of_more separator line_feed own) refl
 
 -- ---- each is valid
 
@@ -147,13 +144,14 @@ module _ (some : (limits : Allowed) (bytes : List ℕ) → (verdict : Verdict) �
   not_stray [] = refl
   not_stray (own ∷ more) = refl
 
-  whole : (limits : Allowed) (bytes : List ℕ) → length bytes ≤ limits.bytes → records_of limits bytes ≡ records_from false 0 bytes
-  whole limits bytes l = rw (le-ltb limits.bytes (length bytes) l, take_all limits.bytes bytes l) refl
+  within_limits : (limits : Allowed) (bytes : List ℕ) → length bytes ≤ limits.bytes → records_of limits bytes ≡ records_from false 0 bytes
+  within_limits limits bytes l = rw (le-ltb limits.bytes (length bytes) l, take_all limits.bytes bytes l) refl
 
   pub valid_sequence : (levels : ℕ) (texts : List (List ℕ)) → AllByRecursion (IsSoundLine levels) texts
       → IsValidSequence levels (length texts) (sequence_of texts)
   valid_sequence levels texts h most l =
       let limits : Allowed = record { depth = levels; bytes = most } in
       let v = all_valid levels 0 texts h in
-      let e : records_of limits (sequence_of texts) ≡ records_at 0 texts = whole limits (sequence_of texts) l ∙ cut 0 texts (are_plain levels texts h) in
+      let e : records_of limits (sequence_of texts) ≡ records_at 0 texts =
+      within_limits limits (sequence_of texts) l ∙ cut 0 texts (are_plain levels texts h) in
       (v.0, rw (not_stray texts, e) (v.1, as_many 0 texts))

@@ -1,7 +1,6 @@
 -- Which bytes a value is spelled with, and where it ends.
-use Rattle.std.proofs.Common.{◌≡◌, ℕ, ◌+◌, ◌≤◌, ◌<◌, inl, inr, List, [], ◌∷◌, ◌++◌, length, true, false, ltb, eqb, Some, refl, sym, ap, subst, ◌∙◌, arith}
-use Rattle.std.proofs.lemmas.Bool.{cases_lt, eqb-false}
-use Rattle.std.proofs.lemmas.Bool.Decides.{nat_tests}
+use Rattle.std.proofs.Common.{◌≡◌, ℕ, ◌+◌, ◌≤◌, inl, inr, List, [], ◌∷◌, ◌++◌, length, false, eqb, Some, refl, sym, ap, subst, ◌∙◌, arith}
+use Rattle.std.proofs.lemmas.Bool.{cases_lt, eqb-false, le-ltb, lt-ltb}
 use Rattle.std.proofs.lemmas.List.{length-append}
 use Rattle.std.specs.List.{AllByRecursion}
 use lib.Utf8.{encode}
@@ -69,18 +68,12 @@ pub high_all : (c : ℕ) (bytes : List ℕ) → IsUtf8 c bytes → AllByRecursio
 unfolding encode
 high_all c bytes h = subst (AllByRecursion IsHigh) (sym h.2) (by_size c h.1)
   where
-    lt_yes : (a b : ℕ) → a < b → ltb a b ≡ true
-    lt_yes a b h = grind (arith, nat_tests)
-
-    lt_no : (a b : ℕ) → b ≤ a → ltb a b ≡ false
-    lt_no a b h = grind (arith, nat_tests)
-
     by_size : (c : ℕ) → 0x80 ≤ c → AllByRecursion IsHigh (encode c)
     by_size c l = elim (cases_lt c 2048) [
-      | inl u ↦ rw (lt_no c 128 l, lt_yes c 2048 u) (omega arith, (omega arith, tt))
+      | inl u ↦ rw (le-ltb c 128 l, lt-ltb c 2048 u) (omega arith, (omega arith, tt))
       | inr m ↦ elim (cases_lt c 65536) [
-        | inl u ↦ rw (lt_no c 128 l, lt_no c 2048 m, lt_yes c 65536 u) (omega arith, (omega arith, (omega arith, tt)))
-        | inr n ↦ rw (lt_no c 128 l, lt_no c 2048 m, lt_no c 65536 n) (omega arith, (omega arith, (omega arith, (omega arith, tt))))
+        | inl u ↦ rw (le-ltb c 128 l, le-ltb c 2048 m, lt-ltb c 65536 u) (omega arith, (omega arith, (omega arith, tt)))
+        | inr n ↦ rw (le-ltb c 128 l, le-ltb c 2048 m, le-ltb c 65536 n) (omega arith, (omega arith, (omega arith, (omega arith, tt))))
       ]
     ]
 

@@ -1,6 +1,6 @@
 -- What was told of the features of a text, where each ends, is what is found in them.
 use Rattle.std.proofs.Common.{◌≡◌, ℕ, suc, ◌+◌, ◌≤◌, ◌<◌, inl, inr, true, false, ◌==◌, if◌then◌else◌, eqb, List, [], ◌∷◌, ◌++◌, length, drop}
-use Rattle.std.proofs.Common.{Option, Some, None, refl, sym, ap, subst, ◌∙◌, arith, add-zero, append_assoc, length-append}
+use Rattle.std.proofs.Common.{Option, Some, None, refl, sym, ap, subst, ◌∙◌, arith, add-zero, append_assoc, append-nil, length-append}
 use Rattle.std.proofs.lemmas.Bool.{ne_eqb, or_from}
 use Rattle.std.specs.List.{AllByRecursion}
 use Rattle.std.proofs.Math.Seq.{drop-append_seam}
@@ -178,12 +178,8 @@ scalar_length : (v : Tree) (n : ℕ) (own after : List ℕ) → Spells v n own �
     → scan_length Scan.Start (own ++ after) ≡ length own
 scalar_length (constant which place) n own after h f e = rw (h.1) (letters_length which after f)
 scalar_length (number place literal end) n own after h f e =
-    let own_is : own ≡ literal = h.2.joined ∙ (ap (λ xs. h.2.first ++ xs) h.2.after.0 ∙ (append_nil h.2.first ∙ h.2.before)) in
+    let own_is : own ≡ literal = h.2.joined ∙ (ap (λ xs. h.2.first ++ xs) h.2.after.0 ∙ (append-nil h.2.first ∙ h.2.before)) in
     rw own_is (number_length literal after (number_all literal h.1) f)
-  where
-    append_nil : (xs : List ℕ) → xs ++ [] ≡ xs
-    append_nil [] = refl
-    append_nil (x ∷ xs) = ap (λ ys. x ∷ ys) (append_nil xs)
 scalar_length (string place content end) n own after h f e =
     let q = h.1 in
     let inner = q.after.first in
