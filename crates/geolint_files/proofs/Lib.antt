@@ -1,2 +1,3 @@
+mod Common
 mod Runs
 mod Walks

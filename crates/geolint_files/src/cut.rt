@@ -3,9 +3,11 @@
 //! No contract can say what an open file gives. Those here say which part a line is of and with which options, and that what is
 //! joined is the verdict of the file, with the notes on its records that are asked for, if the lines are true.
 
-ghost use Rattle.std.specs.Prelude.{◌≡◌, ℕ, List, IfOk, Some};
+ghost use Rattle.std.specs.Prelude.{◌≡◌, ◌⊎◌, ℕ, List, IfOk, None, Some};
 ghost use Rattle.std.specs.List.{All};
 ghost use Rattle.gj_json.specs.Limits.{Allowed};
+ghost use Rattle.geolint_report.specs.declared.every.listing.Asked.{Asked};
+ghost use Rattle.geolint_report.specs.declared.every.listing.Notes.{Notes};
 ghost use Rattle.gj_join.specs.Joined.{IsVerdictOf};
 ghost use Rattle.gj_rules.specs.declared.records.framing.Framing.{Framing};
 ghost use Rattle.part_lines.specs.Lines.{IsLineOf, IsListedLineOf};
@@ -100,7 +102,10 @@ fn line_of(rt: &HostRuntime, order: &Order, share: Share, name: &[u8]) -> io::Re
 }
 
 /// The notes of a part, with what was asked for.
-fn listed_of(asked: Option<Asked>, notes: Option<Notes>) -> Option<Listed> {
+fn listed_of(asked: Option<Asked>, notes: Option<Notes>) -> Option<Listed>
+    ensures both { (what : Asked) (found : Notes) → asked ≡ Some what → notes ≡ Some found → result ≡ Some (record { asked = what; notes = found }) }
+    ensures none { (asked ≡ None) ⊎ (notes ≡ None) → result ≡ None }
+{
     match (asked, notes) {
         (Some(asked), Some(notes)) => Some(Listed { asked, notes }),
         _ => None,

@@ -7,6 +7,7 @@ ghost use Rattle.clap.specs.Matches.{found_of, first_value, one_text};
 ghost use Rattle.gj_coords.specs.Warnings.{kinds};
 ghost use Rattle.gj_json.specs.Limits.{most};
 ghost use Rattle.gj_rules.specs.declared.records.framing.Framing.{Framing};
+ghost use Rattle.name_lists.specs.declared.listed.NameEnd.{NameEnd};
 ghost use Rattle.geolint_files.specs.Words.{every_by, format_by, kind_name};
 
 use crate::arguments::to_bytes;
@@ -32,6 +33,15 @@ const VERSION: &str = "0.1.0";
 
 /// The words for the forms of the report.
 const FORMATS: [&str; 5] = ["text", "lines", "json", "github", "sarif"];
+
+/// The options whose words may be wrong, as the line on such a word names them.
+const FOR_KINDS: &str = "'--allow <KINDS>'";
+
+const FOR_CODE: &str = "'--explain <CODE>': the codes are G1 to G21, W1 to W9 and J1 to J4";
+
+const FOR_ENDING: &str = "'--ending <ENDING>'";
+
+const FOR_PART: &str = "'--part <I/N>': a part is named as 3/8";
 
 /// What `--help` says after the options.
 const AFTER_HELP: &str = "\
@@ -270,76 +280,102 @@ fn with_manual<'a>(alloc: Global, command: Command<'a>) -> Result<Command<'a>, A
 fn order_of(alloc: Global, given: &ArgMatches<'_>) -> Result<Result<Order, String>, AllocError> {
     let options = match options_of(given) {
         Ok(options) => options,
-        Err(word) => {
-            return Ok(Err(format!(in alloc; "invalid value '{word}' for '--allow <KINDS>'")?));
-        }
+        Err(word) => return Ok(Err(invalid(alloc, word, FOR_KINDS)?)),
     };
     let explained = match explained_in(given) {
         Ok(explained) => explained,
-        Err(word) => {
-            return Ok(Err(format!(in alloc;
-                "invalid value '{word}' for '--explain <CODE>': the codes are G1 to G21, W1 to W9 and J1 to J4"
-            )?));
-        }
+        Err(word) => return Ok(Err(invalid(alloc, word, FOR_CODE)?)),
     };
-    let mut endings = Vec::new(alloc);
-    for word in given.get_strs("ending").unwrap_or(&[]) {
-        match ending_in(alloc, word)? {
-            Some(ending) => endings.push(ending)?,
-            None => {
-                return Ok(Err(format!(in alloc;
-                    "invalid value '{word}' for '--ending <ENDING>'"
-                )?));
-            }
-        }
-    }
-    let mut paths = Vec::new(alloc);
-    for path in given.get_strs("path").unwrap_or(&[]) {
-        paths.push(to_bytes(alloc, path)?)?;
-    }
+    let endings = match endings_in(alloc, given)? {
+        Ok(endings) => endings,
+        Err(wrong) => return Ok(Err(wrong)),
+    };
     let list = match given.get_str("files-from") {
         Some(name) => Some(to_bytes(alloc, name)?),
         None => None,
     };
-    if paths.is_empty() && list.is_none() {
-        paths.push(Vec::from_slice(alloc, b"-")?)?;
-    }
+    let paths = paths_in(alloc, given, list.is_some())?;
     if let Some(wrong) = wrong_split(given, paths.as_slice(), list.is_some()) {
         return Ok(Err(String::from_str(alloc, wrong)?));
     }
     let cut = match cut_in(given) {
         Ok(cut) => cut,
-        Err(word) => {
-            return Ok(Err(format!(in alloc;
-                "invalid value '{word}' for '--part <I/N>': a part is named as 3/8"
-            )?));
-        }
+        Err(word) => return Ok(Err(invalid(alloc, word, FOR_PART)?)),
     };
     if let Some(wrong) = wrong_cut(given, paths.as_slice(), list.is_some()) {
         return Ok(Err(String::from_str(alloc, wrong)?));
     }
-    let parts = match given.get_str("split") {
-        Some(prefix) => Some(Parts {
-            prefix: to_bytes(alloc, prefix)?,
-            overwrites: given.get_flag("force"),
-        }),
-        None => None,
-    };
-    let name_end = match given.get_flag("null") {
-        true => NameEnd::Nul,
-        false => NameEnd::Lf,
-    };
     Ok(Ok(Order {
         options,
         explained,
         paths,
         list,
-        name_end,
+        name_end: name_end_in(given),
         endings,
         allows_empty: given.get_flag("allow-empty"),
-        parts,
+        parts: parts_in(alloc, given)?,
         cut,
     }))
+}
+
+/// The line on a word that an option does not take.
+fn invalid(alloc: Global, word: &str, option: &str) -> Result<String, AllocError> {
+    format!(in alloc; "invalid value '{word}' for {option}")
+}
+
+/// The endings beside the usual ones, or the line on a word that is none.
+fn endings_in(
+    alloc: Global,
+    given: &ArgMatches<'_>,
+) -> Result<Result<Vec<Vec<u8>>, String>, AllocError> {
+    let mut endings = Vec::new(alloc);
+    for word in given.get_strs("ending").unwrap_or(&[]) {
+        match ending_in(alloc, word)? {
+            Some(ending) => endings.push(ending)?,
+            None => return Ok(Err(invalid(alloc, word, FOR_ENDING)?)),
+        }
+    }
+    Ok(Ok(endings))
+}
+
+/// The paths that are given: standard input where there is none, and no list.
+fn paths_in(
+    alloc: Global,
+    given: &ArgMatches<'_>,
+    has_list: bool,
+) -> Result<Vec<Vec<u8>>, AllocError> {
+    let mut paths = Vec::new(alloc);
+    for path in given.get_strs("path").unwrap_or(&[]) {
+        paths.push(to_bytes(alloc, path)?)?;
+    }
+    if paths.is_empty() && !has_list {
+        paths.push(Vec::from_slice(alloc, b"-")?)?;
+    }
+    Ok(paths)
+}
+
+/// The byte that ends each name in a list.
+fn name_end_in(given: &ArgMatches<'_>) -> NameEnd
+    ensures nul { one_text (found_of given.now) (codes "null") ≡ Some (codes "true") → result ≡ NameEnd.Nul }
+    ensures line_feed { one_text (found_of given.now) (codes "null") ≡ Some (codes "false") → result ≡ NameEnd.Lf }
+{
+    match given.get_flag("null") {
+        true => NameEnd::Nul,
+        false => NameEnd::Lf,
+    }
+}
+
+/// The files that the features of a file are set apart into, where that is asked for.
+fn parts_in(alloc: Global, given: &ArgMatches<'_>) -> Result<Option<Parts>, AllocError>
+    ensures { first_value (found_of given.now) (codes "split") ≡ None → IfOk result (λ parts. parts ≡ None) }
+{
+    match given.get_str("split") {
+        Some(prefix) => Ok(Some(Parts {
+            prefix: to_bytes(alloc, prefix)?,
+            overwrites: given.get_flag("force"),
+        })),
+        None => Ok(None),
+    }
 }
 
 /// What is to be explained, or a word that is no code.

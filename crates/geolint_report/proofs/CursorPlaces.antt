@@ -1,18 +1,17 @@
 -- Lemmas on a cursor that passes bytes of a text.
-use Rattle.std.proofs.Common.{arith, ◌≡◌, ◌≤◌, ℕ, ◌+◌, ◌++◌, List, ap, sym, ◌∙◌, subst, length, take, drop, length-append, length-take-le, length-drop}
+use Rattle.geolint_report.proofs.Common.{arith, ◌≡◌, ◌≤◌, ℕ, ◌+◌, ◌++◌, List, ap, sym, ◌∙◌, subst, length, take, drop, length-append, Option, Some, None}
+use Rattle.geolint_report.proofs.Common.{StandsFor, Framing}
+use Rattle.std.proofs.Common.{length-take-le, length-drop}
 use Rattle.std.proofs.lemmas.List.{take-append-le, take-take, take_all}
 use Rattle.std.proofs.Math.Seq.{take-add}
-use Rattle.std.specs.Prelude.{Option, Some, None, IfSome}
+use Rattle.std.specs.Prelude.{IfSome}
 use Rattle.gj_json.specs.declared.path.Path.{Path}
-use Rattle.gj_places.specs.Counting.{StandsFor}
 use Rattle.gj_places.specs.declared.lines.Lines.{Lines}
-use Rattle.gj_rules.specs.declared.records.framing.Framing.{Framing}
 use Rattle.geolint_report.specs.declared.every.cursor.Cursor.{Cursor}
 use Rattle.geolint_report.specs.declared.every.cursor.Mark.{Mark}
 use Rattle.geolint_report.specs.declared.every.text_path.TextPath.{TextPath}
 use Rattle.geolint_report.specs.Every.{GaveFrom, GaveBy}
-use Rattle.geolint_report.specs.Cursors.{Passed, StandsBy}
-use Rattle.geolint_report.specs.Cursors.{StandsIn}
+use Rattle.geolint_report.specs.Cursors.{Passed, StandsBy, StandsIn}
 use Rattle.geolint_report.specs.Internal.TextPaths.{StandsIn as Follows}
 use Rattle.geolint_report.specs.Marks.{IsMark, IsMarkBy}
 use Rattle.geolint_report.specs.Sites.{IsSpot, IsPathOf, LeadsTo, text_of}

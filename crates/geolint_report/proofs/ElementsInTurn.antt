@@ -1,15 +1,8 @@
--- Lists with one element more, what their elements give one after another, and what calls append one after another.
-use Rattle.std.proofs.Common.{arith, ◌≡◌, ℕ, ◌+◌, ◌<◌, ◌≤◌, List, [], ◌∷◌, ◌++◌, length, get_or, take, ap, ◌∙◌, subst, append-nil, append_assoc}
+-- Lists with one element more, and what their elements give one after another.
+use Rattle.std.proofs.Common.{arith, ◌≡◌, ℕ, ◌+◌, ◌<◌, ◌≤◌, List, [], ◌∷◌, ◌++◌, length, get_or, take, ap, ◌∙◌, subst, append-nil}
 use Rattle.std.specs.List.{flat_map}
-use Rattle.std.specs.Prelude.{Result, Ok, Err, OnOk}
 use Rattle.std.proofs.lemmas.List.{length-take, take_more, take-append-le}
 use Rattle.std.proofs.lemmas.List.Concat.{flat_map-append}
-
--- what a last call appends stands after what was appended before it
-pub after : {T E : Type 0} (r : Result T E) (start middle new first last : List ℕ) → middle ≡ start ++ first → OnOk r (new ≡ middle ++ last)
-    → OnOk r (new ≡ start ++ (first ++ last))
-after (Ok x) start middle new first last before is = is ∙ (ap (λ (ys : List ℕ). ys ++ last) before ∙ append_assoc start first last)
-after (Err x) start middle new first last before is = is
 
 -- where there is no room for one more, the first elements stay the same
 pub take-full : {A : Type 0} (room : ℕ) (all : List A) (x : A) → room ≤ length (take room all) → take room (all ++ x ∷ []) ≡ take room all

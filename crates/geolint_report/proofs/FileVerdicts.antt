@@ -1,13 +1,10 @@
 -- Lemmas on the verdict of what was read.
-use Rattle.std.proofs.Common.{◌≡◌, ℕ, List, [], ◌++◌, Some, None, take, ap, sym, ◌∙◌, subst, append-nil}
-use Rattle.std.specs.Prelude.{Option}
+use Rattle.geolint_report.proofs.Common.{◌≡◌, ℕ, List, [], ◌++◌, Some, None, take, ap, sym, ◌∙◌, subst, append-nil, Option, Consumes-trans, Allowed}
+use Rattle.geolint_report.proofs.Common.{IsVerdict}
 use Rattle.std.specs.Io.KnownBytes.{Consumes, IsAtEnd}
-use Rattle.std.proofs.KnownBytes.{Consumes-trans}
-use Rattle.gj_json.specs.Limits.{Allowed}
 use Rattle.gj_json.specs.Refusal.{IsRefusal}
 use Rattle.gj_json.specs.declared.fault.JsonFault.{JsonFault}
 use Rattle.gj_rules.specs.declared.verdict.Verdict.TheVariants.{NotJson}
-use Rattle.gj_rules.specs.Verdict.{IsVerdict}
 use Rattle.geolint_report.specs.Judged.{JudgesBy}
 use Rattle.geolint_report.specs.ReadingLoop.{Ends}
 use Rattle.geolint_report.specs.declared.reading_loop.Stage.{Stage}

@@ -1,14 +1,12 @@
 -- Lemmas on the paths that a second reading finds.
-use Rattle.std.proofs.Common.{arith, refl, ◌≡◌, ◌<◌, ◌≤◌, ℕ, suc, ◌+◌, ◌++◌, ◌∷◌, ◌||◌, [], List, Bool, length, take, drop, get_or, ap, sym, ◌∙◌}
-use Rattle.std.proofs.Common.{subst, true, false, append_assoc, append-nil, length-append, length-drop, length-take-le, if◌then◌else◌, Option, Some, None}
-use Rattle.std.proofs.Common.{IfSome}
-use Rattle.std.specs.Io.KnownBytes.{Consumes}
+use Rattle.geolint_report.proofs.Common.{arith, refl, ◌≡◌, ◌<◌, ◌≤◌, ℕ, ◌+◌, ◌++◌, ◌∷◌, [], List, length, take, drop, get_or, ap, sym, ◌∙◌, subst, true}
+use Rattle.geolint_report.proofs.Common.{false, append_assoc, append-nil, length-append, Option, Some, None, Consumes, Framing, Site}
+use Rattle.std.proofs.Common.{suc, ◌||◌, Bool, length-drop, length-take-le, if◌then◌else◌, IfSome}
 use Rattle.std.proofs.lemmas.List.{take-append-le, take_at, take_more, get_or-drop, take-append-drop}
 use Rattle.std.proofs.lemmas.Bool.{or_parts, false_from_ne_true}
-use Rattle.std.proofs.Math.Bool.{or-true, or-false, or_assoc}
+use Rattle.std.proofs.Math.Bool.{or-true, or-false}
+use Rattle.std.proofs.lemmas.List.Recursion.{or_push}
 use Rattle.gj_json.specs.declared.path.Path.{Path}
-use Rattle.gj_rules.specs.declared.records.framing.Framing.{Framing}
-use Rattle.geolint_report.specs.declared.sites.Site.{Site}
 use Rattle.geolint_report.specs.declared.sites.Finder.{Finder}
 use Rattle.geolint_report.specs.declared.sites.Sites.{Sites}
 use Rattle.geolint_report.specs.Sites.{is_separator, has_separator, last_record, text_of, IsPathOf, LeadsTo, ArePaths, PathsBy}
@@ -18,9 +16,7 @@ module _ (framing : Framing) where
   -- ---- records, byte by byte
 
   has_separator-more : (bytes : List ℕ) (byte : ℕ) → has_separator framing (bytes ++ byte ∷ []) ≡ (has_separator framing bytes || is_separator framing byte)
-  has_separator-more [] byte = or-false (is_separator framing byte)
-  has_separator-more (first ∷ more) byte = ap (λ (b : Bool). is_separator framing first || b) (has_separator-more more byte)
-      ∙ sym (or_assoc (is_separator framing first) (has_separator framing more) (is_separator framing byte))
+  has_separator-more = or_push (has_separator framing) (is_separator framing) refl (λ x xs. refl)
 
   pub has_separator-here : (bytes : List ℕ) (byte : ℕ) → is_separator framing byte ≡ true → has_separator framing (bytes ++ byte ∷ []) ≡ true
   has_separator-here bytes byte is =

@@ -1,13 +1,10 @@
 -- Lemmas on what a second reading finds.
-use Rattle.std.proofs.Common.{arith, rules, refl, ◌≡◌, ◌≤◌, ◌<◌, ℕ, zero, suc, ◌+◌, ◌-◌, ◌++◌, ◌∷◌, [], List, length, take, drop, set, get_or, ap, sym, ◌∙◌}
-use Rattle.std.proofs.Common.{subst, true, false, append-nil, length-append, Option, Some, None}
-use Rattle.std.specs.Io.Iter.{u64_saturate}
-use Rattle.std.specs.Io.KnownBytes.{Consumes}
+use Rattle.geolint_report.proofs.Common.{arith, rules, refl, ◌≡◌, ◌≤◌, ◌<◌, ℕ, ◌+◌, ◌-◌, ◌++◌, ◌∷◌, [], List, length, take, drop, get_or, ap, sym, ◌∙◌}
+use Rattle.geolint_report.proofs.Common.{subst, true, false, append-nil, length-append, Option, Some, None, u64_saturate, Consumes, StandsFor, Site}
+use Rattle.std.proofs.Common.{zero, suc, set}
 use Rattle.std.proofs.lemmas.List.{take_all, take-append-le, take_at}
 use Rattle.gj_places.specs.Lines.{line_of, column_of}
-use Rattle.gj_places.specs.Counting.{StandsFor}
 use Rattle.gj_places.specs.declared.lines.Lines.{Lines}
-use Rattle.geolint_report.specs.declared.sites.Site.{Site}
 use Rattle.geolint_report.specs.declared.sites.Spot.{Spot}
 use Rattle.geolint_report.specs.declared.sites.Finder.{Finder}
 use Rattle.geolint_report.specs.declared.sites.Sites.{Sites}

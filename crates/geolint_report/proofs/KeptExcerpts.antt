@@ -1,12 +1,11 @@
 -- Lemmas on the excerpt that a second reading keeps.
-use Rattle.std.proofs.Common.{arith, refl, inl, inr, ◌≡◌, ◌≤◌, ◌<◌, ◌⊎◌, ℕ, ◌+◌, ◌-◌, ◌^◌, ◌++◌, ◌∷◌, [], List, length, take, drop, get_or, ap, sym, ◌∙◌, subst}
-use Rattle.std.proofs.Common.{append-nil, length-append, Option, Some, None}
+use Rattle.geolint_report.proofs.Common.{arith, inl, inr, ◌≡◌, ◌≤◌, ◌<◌, ◌⊎◌, ℕ, ◌+◌, ◌-◌, ◌^◌, ◌++◌, ◌∷◌, [], List, length, take, drop, get_or, ap}
+use Rattle.geolint_report.proofs.Common.{sym, ◌∙◌, subst, append-nil, length-append, Option, Some, None, cases_lt, Site}
 use Rattle.std.specs.Io.KnownBytes.{Consumes, IsAtEnd}
-use Rattle.std.proofs.lemmas.Bool.{cases_lt}
 use Rattle.std.proofs.lemmas.List.{take_all, drop_all, take-append-le, drop-append-le, get_or-map}
+use Rattle.std.proofs.Math.Seq.{get_or-append_seam}
 use Rattle.gj_places.specs.Keeping.{Keeps as KeepsLine}
 use Rattle.gj_places.specs.declared.excerpt.Excerpt.{Excerpt}
-use Rattle.geolint_report.specs.declared.sites.Site.{Site}
 use Rattle.geolint_report.specs.declared.sites.Finder.{Finder}
 use Rattle.geolint_report.specs.declared.sites.Sites.{Sites}
 use Rattle.geolint_report.specs.Sites.{sought, IsUnread, IsExcerpt, ExcerptBy}
@@ -35,12 +34,8 @@ IsAt-more old new place bytes more is fed =
 
 -- ---- the last place
 
-get-last : (before : List ℕ) (place e : ℕ) → get_or (before ++ place ∷ []) (length before) e ≡ place
-get-last [] place e = refl
-get-last (first ∷ more) place e = get-last more place e
-
 sought-last : (sites : Sites) (before : List ℕ) (place e : ℕ) → sought sites ≡ before ++ place ∷ [] → get_or (sought sites) (length before) e ≡ place
-sought-last sites before place e last = ap (λ (places : List ℕ). get_or places (length before) e) last ∙ get-last before place e
+sought-last sites before place e last = ap (λ (places : List ℕ). get_or places (length before) e) last ∙ get_or-append_seam before place [] e
 
 sought-long : (sites : Sites) (before : List ℕ) (place : ℕ) → sought sites ≡ before ++ place ∷ [] → length (sought sites) ≡ length before + 1
 sought-long sites before place last = ap (λ (places : List ℕ). length places) last ∙ length-append before (place ∷ [])

@@ -1,15 +1,11 @@
 -- Lemmas on the notes that are kept.
-use Rattle.std.proofs.Common.{arith, refl, inl, inr, ◌⊎◌, true, false, ◌≡◌, ◌<◌, ◌≤◌, ℕ, ◌+◌, ◌^◌, ◌++◌, ◌∷◌, [], List, Bool, ap, sym, ◌∙◌, subst, length, take}
-use Rattle.std.proofs.Common.{drop, append-nil}
-use Rattle.std.proofs.Common.{length-append}
-use Rattle.std.proofs.lemmas.Bool.{cases_lt}
+use Rattle.geolint_report.proofs.Common.{arith, refl, inl, inr, ◌⊎◌, true, false, ◌≡◌, ◌<◌, ◌≤◌, ℕ, ◌+◌, ◌^◌, ◌++◌, ◌∷◌, [], List, ap, sym, ◌∙◌, subst}
+use Rattle.geolint_report.proofs.Common.{length, take, drop, append-nil, length-append, cases_lt, u64_saturate, flat_map, Option, Some, None, Allowed}
+use Rattle.geolint_report.proofs.Common.{Framing, Note, Asked}
+use Rattle.std.proofs.Common.{Bool}
 use Rattle.std.proofs.lemmas.List.{drop-append-le, drop_all}
 use Rattle.std.proofs.lemmas.List.Concat.{flat_map-append}
-use Rattle.std.specs.Io.Iter.{u64_saturate}
 use Rattle.std.specs.Io.KnownBytes.{Consumes, IsAtEnd}
-use Rattle.std.specs.List.{flat_map}
-use Rattle.std.specs.Prelude.{Option, Some, None}
-use Rattle.gj_json.specs.Limits.{Allowed}
 use Rattle.gj_json.specs.declared.fault.JsonFault.{JsonFault}
 use Rattle.gj_rules.specs.declared.verdict.Verdict.{Verdict}
 use Rattle.gj_rules.specs.declared.verdict.Verdict.TheVariants.{Valid, Broken, NotJson}
@@ -17,10 +13,7 @@ use Rattle.gj_coords.specs.Internal.KeptWarnings.{no_warnings}
 use Rattle.gj_rules.specs.CleanFeature.{feature_of}
 use Rattle.gj_rules.specs.declared.feature.CleanFeature.{CleanFeature}
 use Rattle.gj_rules.specs.declared.feature.Feature.{Feature}
-use Rattle.gj_rules.specs.declared.records.framing.Framing.{Framing}
 use Rattle.geolint_report.specs.declared.judge.Finding.{Finding}
-use Rattle.geolint_report.specs.declared.every.listing.Note.{Note}
-use Rattle.geolint_report.specs.declared.every.listing.Asked.{Asked}
 use Rattle.geolint_report.specs.declared.every.listing.Listing.{Listing}
 use Rattle.geolint_report.specs.declared.every.tally.Tally.{Tally}
 use Rattle.geolint_report.specs.Every.{feature_notes, notes_of, notes_of_records, Keeps, KeepsOf, KeepsNotes, Lists, ListsIn, ListsBy, ListsFor, AreFirst}

@@ -1,20 +1,13 @@
 -- Lemmas on the notes of records that are kept.
-use Rattle.std.proofs.Common.{arith, ◌≡◌, ◌<◌, ◌≤◌, ℕ, ◌+◌, ◌++◌, ◌∷◌, [], List, Bool, true, false, ap, sym, ◌∙◌, subst, append-nil, inl, inr}
-use Rattle.std.proofs.lemmas.Bool.{cases_lt}
+use Rattle.geolint_report.proofs.Common.{arith, ◌≡◌, ◌<◌, ◌≤◌, ℕ, ◌+◌, ◌++◌, ◌∷◌, [], List, true, false, ap, sym, ◌∙◌, subst, append-nil, inl, inr}
+use Rattle.geolint_report.proofs.Common.{cases_lt, u64_saturate, flat_map, Option, Some, None, Allowed, Framing, IsWholeVerdict, Asked, Note}
+use Rattle.std.proofs.Common.{Bool}
 use Rattle.std.proofs.lemmas.List.Concat.{flat_map-append}
-use Rattle.std.specs.Io.Iter.{u64_saturate}
 use Rattle.std.specs.Io.KnownBytes.{Consumes, IsAtEnd}
-use Rattle.std.specs.List.{flat_map}
-use Rattle.std.specs.Prelude.{Option, Some, None}
-use Rattle.gj_json.specs.Limits.{Allowed}
-use Rattle.gj_rules.specs.declared.records.framing.Framing.{Framing}
 use Rattle.gj_rules.specs.declared.records.record.Record.{Record}
 use Rattle.gj_rules.specs.declared.sequence.verdict.SeqVerdict.{SeqVerdict}
-use Rattle.gj_rules.specs.RecordFindings.{IsWholeVerdict}
 use Rattle.gj_rules.specs.RecordsStand.{HaveToldAll}
-use Rattle.geolint_report.specs.declared.every.listing.Asked.{Asked}
 use Rattle.geolint_report.specs.declared.every.listing.Listing.{Listing}
-use Rattle.geolint_report.specs.declared.every.listing.Note.{Note}
 use Rattle.geolint_report.specs.Every.{Keeps, record_notes, notes_of_records, KeepsRecords, ListsRecords, ListsBy}
 use Rattle.geolint_report.specs.Judged.{JudgesBy}
 use Rattle.geolint_report.proofs.KeptNotes.{items-more}

@@ -1,3 +1,4 @@
+mod Common
 pub mod PieceReads
 pub mod ElementsInTurn
 mod FileVerdicts

@@ -1,7 +1,5 @@
 -- Lemmas on what lines are.
-use Rattle.std.proofs.Common.{◌≡◌, ℕ, List, [], ◌++◌, ap, sym, ◌∙◌, subst}
-use Rattle.gj_json.specs.Limits.{Allowed}
-use Rattle.gj_rules.specs.declared.records.framing.Framing.{Framing}
+use Rattle.geolint_report.proofs.Common.{◌≡◌, ℕ, List, [], ◌++◌, ap, sym, ◌∙◌, subst, Allowed, Framing}
 use Rattle.gj_rules.specs.declared.records.framing.Framing.TheVariants.{Lines}
 use Rattle.gj_rules.specs.declared.records.record.Record.{Record}
 use Rattle.gj_rules.specs.declared.sequence.verdict.SeqVerdict.{SeqVerdict}

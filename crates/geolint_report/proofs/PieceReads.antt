@@ -1,11 +1,7 @@
 -- Lemmas on the loop that reads.
-use Rattle.std.proofs.Common.{inl, inr, arith, ◌+◌, ◌-◌, ◌<◌, ◌≤◌, ◌^◌, ◌≡◌, ℕ, List, [], ◌++◌, Some, None, length, ◌∙◌}
-use Rattle.std.specs.Prelude.{Option, ◌⊎◌}
-use Rattle.std.specs.Io.Iter.{u64_saturate}
+use Rattle.geolint_report.proofs.Common.{inl, inr, arith, ◌+◌, ◌-◌, ◌<◌, ◌≤◌, ◌^◌, ◌≡◌, ℕ, List, [], ◌++◌, Some, None, length, ◌∙◌, Option, ◌⊎◌}
+use Rattle.geolint_report.proofs.Common.{u64_saturate, cases_lt, Consumes, Allowed}
 use Rattle.std.proofs.Math.Nat.{min-eq_left, min-eq_right}
-use Rattle.std.proofs.lemmas.Bool.{cases_lt}
-use Rattle.std.specs.Io.KnownBytes.{Consumes}
-use Rattle.gj_json.specs.Limits.{Allowed}
 use Rattle.geolint_report.specs.ReadingLoop.{StopsBy}
 
 -- a count of bytes that stops at the greatest `u64`, one read later

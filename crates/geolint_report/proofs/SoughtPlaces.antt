@@ -1,15 +1,13 @@
 -- Lemmas on the places that a second reading seeks.
-use Rattle.std.proofs.Common.{arith, refl, ◌≡◌, ◌≤◌, ◌<◌, ◌⊎◌, inl, inr, min, zero, suc, add-one, ℕ, ◌+◌, ◌-◌, ◌^◌, ◌++◌, ◌∷◌, [], List, length, take, map, set}
-use Rattle.std.proofs.Common.{get_or, ap, sym, ◌∙◌, subst, true, false, append-nil, Option, Some, None}
+use Rattle.geolint_report.proofs.Common.{arith, refl, ◌≡◌, ◌≤◌, ◌<◌, ◌⊎◌, inl, inr, ℕ, ◌+◌, ◌-◌, ◌^◌, ◌++◌, ◌∷◌, [], List, length, take, get_or, ap, sym}
+use Rattle.geolint_report.proofs.Common.{◌∙◌, subst, true, false, append-nil, Option, Some, None, IsNonDecreasing, cases_lt, Site}
+use Rattle.std.proofs.Common.{min, zero, suc, add-one, map, set}
 use Rattle.std.specs.Io.KnownBytes.{Consumes, IsAtEnd}
 use Rattle.std.specs.List.{Contains, list_any}
-use Rattle.std.specs.List.Sorted.{IsNonDecreasing}
-use Rattle.std.proofs.lemmas.Bool.{cases_lt}
 use Rattle.std.proofs.lemmas.Bool.Decides.{nat_tests}
 use Rattle.std.proofs.lemmas.List.{get_or-take, get_or-map, length-take, length-map, length-set, get_or-set_same, get_or-set_other}
 use Rattle.std.proofs.lemmas.List.Folds.{list_any_at}
 use Rattle.std.proofs.Math.Seq.{map-set_same}
-use Rattle.geolint_report.specs.declared.sites.Site.{Site}
 use Rattle.geolint_report.specs.declared.sites.Finder.{Finder}
 use Rattle.geolint_report.specs.declared.sites.Sites.{Sites}
 use Rattle.geolint_report.specs.Sites.{sought, is_found_at, AllFound, FoundBy}

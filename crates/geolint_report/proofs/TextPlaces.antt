@@ -1,21 +1,19 @@
 -- The places of a text, or of a record: the bytes up to one can go on.
-use Rattle.std.proofs.Common.{arith, refl, inl, inr, ◌⊎◌, ◌≡◌, ◌≤◌, ◌<◌, ◌||◌, ◌&&◌, ℕ, zero, suc, ◌+◌, ◌-◌, ◌^◌, ◌∷◌, [], List, Bool, length, take, drop}
-use Rattle.std.proofs.Common.{get_or, ap, sym, ◌∙◌, subst, true, false, not, if◌then◌else◌, length-take-le, Option, Some, None}
-use Rattle.std.specs.List.{Contains}
+use Rattle.geolint_report.proofs.Common.{arith, refl, inl, inr, ◌⊎◌, ◌≡◌, ◌≤◌, ◌<◌, ℕ, ◌+◌, ◌-◌, ◌^◌, ◌∷◌, [], List, length, take, drop, get_or, ap, sym}
+use Rattle.geolint_report.proofs.Common.{◌∙◌, subst, true, false, Option, Some, None, Contains, Framing, Site}
+use Rattle.std.proofs.Common.{◌||◌, ◌&&◌, zero, suc, Bool, not, if◌then◌else◌, length-take-le}
 use Rattle.std.proofs.lemmas.Bool.Decides.{nat_tests}
 use Rattle.std.proofs.lemmas.List.{take-append-drop, take-take, length-take}
 use Rattle.std.proofs.lemmas.Bool.{and_parts, or_right, or_from}
 use Rattle.gj_json.specs.Limits.{Allowed, IsAllowed}
 use Rattle.gj_json.specs.Text.{IsTextWithin}
 use Rattle.gj_json.specs.Tree.{Text}
-use Rattle.gj_rules.specs.declared.records.framing.Framing.{Framing}
 use Rattle.gj_rules.specs.declared.records.framing.Framing.TheVariants.{Sequence, Lines}
 use Rattle.gj_rules.specs.declared.records.framing.RecordEnd.{RecordEnd}
 use Rattle.gj_rules.specs.declared.records.framing.RecordEnd.TheVariants.{Separator, Input, Limit}
 use Rattle.gj_rules.specs.Records.{Part, part_at, parts_from, parts_of, with_first, is_too_long}
 use Rattle.gj_rules.specs.Sequence.{is_separator as is_RS, has_separator as has_RS, begins_with_separator, up_to_separator, SequenceRecord, records_from}
 use Rattle.gj_rules.specs.Sequence.{records_of}
-use Rattle.geolint_report.specs.declared.sites.Site.{Site}
 use Rattle.geolint_report.specs.Sites.{is_separator, has_separator, last_record, CanGoOn, IsUnderWay, IsInText, ToldBy, ToldInTextsBy}
 
 -- some bytes of a text can go on

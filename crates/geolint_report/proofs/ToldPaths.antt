@@ -1,6 +1,7 @@
 -- Lemmas on the places whose path a second reading tells.
-use Rattle.std.proofs.Common.{arith, refl, ◌≡◌, ◌<◌, ℕ, ◌+◌, ◌++◌, ◌∷◌, [], List, length, take, set, ap, sym, ◌∙◌, subst, true, false, append_assoc, append-nil}
-use Rattle.std.proofs.Common.{length-append, Option, Some, None}
+use Rattle.geolint_report.proofs.Common.{arith, refl, ◌≡◌, ◌<◌, ℕ, ◌+◌, ◌++◌, ◌∷◌, [], List, length, take, ap, sym, ◌∙◌, subst, true, false, append_assoc}
+use Rattle.geolint_report.proofs.Common.{append-nil, length-append, Option, Some, None, Allowed, Framing, Site}
+use Rattle.std.proofs.Common.{set}
 use Rattle.std.specs.Prelude.{IsSome, Result, Ok, Err, is_err}
 use Rattle.std.specs.Io.KnownBytes.{Consumes, IsAtEnd}
 use Rattle.std.proofs.lemmas.List.{take-append-le}
@@ -8,12 +9,9 @@ use Rattle.gj_json.specs.declared.fault.Cause.{Cause}
 use Rattle.gj_json.specs.declared.fault.Cause.TheVariants.{Syntax, Truncated, Depth, Length}
 use Rattle.gj_json.specs.declared.fault.JsonFault.{JsonFault}
 use Rattle.gj_json.specs.declared.path.Path.{Path}
-use Rattle.gj_json.specs.Limits.{Allowed}
 use Rattle.gj_json.specs.Reader.{Answers}
 use Rattle.gj_json.specs.Refusal.{Stops, RefusedFor}
 use Rattle.gj_json.specs.Text.{IsTextWithin, IsViableWithin}
-use Rattle.gj_rules.specs.declared.records.framing.Framing.{Framing}
-use Rattle.geolint_report.specs.declared.sites.Site.{Site}
 use Rattle.geolint_report.specs.declared.sites.Finder.{Finder}
 use Rattle.geolint_report.specs.declared.sites.Sites.{Sites}
 use Rattle.geolint_report.specs.Sites.{AreRight, ArePaths, text_of, text_limits, CanGoOn, has_begun, IsUnderWay, IsTold, AreTold, ToldBy, NoneFound}

@@ -1,9 +1,8 @@
 -- So many warnings, by halves.
-use Rattle.std.proofs.Common.{◌≡◌, ◌+◌, ℕ, ap, subst, ◌∙◌, List, [], ◌∷◌, ◌++◌, replicate}
+use Rattle.part_lines.proofs.Common.{◌≡◌, ◌+◌, ℕ, ap, subst, ◌∙◌, List, [], ◌∷◌, ◌++◌, replicate, Warnings}
 use Rattle.std.proofs.lemmas.List.{replicate_more, replicate-append-replicate}
 use Rattle.gj_coords.specs.Warnings.{Warning}
 use Rattle.gj_coords.specs.WarningsStand.{StandsFor}
-use Rattle.gj_coords.specs.declared.warnings.Warnings.{Warnings}
 
 pub even_many : (all : Warnings) (warning : Warning) (half count : ℕ) → half + half ≡ count
     → StandsFor all (replicate half warning ++ replicate half warning)

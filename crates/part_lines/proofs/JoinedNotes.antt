@@ -1,19 +1,14 @@
 -- The notes on the records of one part more.
-use Rattle.std.proofs.Common.{arith, ◌≡◌, ◌+◌, ◌-◌, ◌<◌, ◌≤◌, ◌^◌, ℕ, suc, zero, refl, ap, sym, subst, ◌∙◌, Bool, true, false, inl, inr}
-use Rattle.std.proofs.Common.{List, [], ◌∷◌, ◌++◌, length, map, take, drop, Some, None, append_assoc, get_or, length-append, vec_len}
+use Rattle.part_lines.proofs.Common.{arith, ◌≡◌, ◌+◌, ◌<◌, ◌≤◌, ℕ, refl, ap, sym, subst, ◌∙◌, Bool, true, false, List, [], ◌∷◌, ◌++◌, length, map, take}
+use Rattle.part_lines.proofs.Common.{Some, get_or, flat_map, Syntax, Kind, Warnings, kinds, Framing, Note, CheckedPart}
+use Rattle.std.proofs.Common.{◌-◌, ◌^◌, suc, zero, inl, inr, drop, None, append_assoc, length-append, vec_len}
 use Rattle.std.specs.Prelude.{◌⊎◌, Option, cond, count_by, sum_by}
 use Rattle.std.specs.Io.Iter.{u64_saturate}
-use Rattle.std.specs.List.{flat_map}
 use Rattle.std.proofs.lemmas.List.{length-map, length-take, map-append, take-map, take-take, take_all, take_more}
 use Rattle.std.proofs.lemmas.List.Sums.{sum_by-cons, sum_by-append, sum_by_push}
 use Rattle.gj_json.specs.Limits.{Allowed}
-use Rattle.gj_json.specs.declared.fault.Cause.TheVariants.{Syntax}
-use Rattle.gj_coords.specs.declared.kind.Kind.{Kind}
-use Rattle.gj_coords.specs.declared.warnings.Warnings.{Warnings}
-use Rattle.gj_coords.specs.Warnings.{kinds}
 use Rattle.gj_rules.specs.RecordFindings.{AreAllFindings}
 use Rattle.gj_rules.specs.Sequence.{not_json}
-use Rattle.gj_rules.specs.declared.records.framing.Framing.{Framing}
 use Rattle.gj_rules.specs.declared.records.record.Record.{Record}
 use Rattle.gj_rules.specs.declared.verdict.Verdict.{Verdict}
 use Rattle.gj_rules.specs.declared.verdict.Verdict.TheVariants.{Valid, Broken, NotJson}
@@ -25,7 +20,6 @@ use Rattle.geolint_report.specs.Items.{item_number}
 use Rattle.geolint_report.specs.Tallies.{of_broken, notes_code, count_of, Tallies, IsTotal}
 use Rattle.geolint_report.specs.declared.every.listing.Asked.{Asked}
 use Rattle.geolint_report.specs.declared.every.listing.Item.{Item}
-use Rattle.geolint_report.specs.declared.every.listing.Note.{Note}
 use Rattle.geolint_report.specs.declared.every.tally.Tally.{Tally}
 use Rattle.geolint_report.specs.declared.report.Told.{Told}
 use Rattle.geolint_report.proofs.ElementsInTurn.{take-full}
@@ -33,7 +27,6 @@ use Rattle.sequence_parts.proofs.NotesOfWholes.{goes-on}
 use Rattle.sequence_parts.specs.Checked.{IsPartOf, AreNotesOfPart}
 use Rattle.sequence_parts.specs.Cuts.{bytes_between}
 use Rattle.sequence_parts.specs.JoinedNotes.{moved_note, joined_notes}
-use Rattle.sequence_parts.specs.declared.checked.CheckedPart.{CheckedPart}
 use Rattle.part_lines.specs.Internal.NotesSoFar.{ListsWhatIsAsked, numbered_among, records_noted, AreNotesTo}
 use Rattle.part_lines.specs.declared.line.Listed.{Listed}
 use Rattle.part_lines.specs.declared.notes.SoFar.{SoFar}

@@ -1,3 +1,4 @@
+mod Common
 mod LinesOfParts
 mod DoubledWarnings
 mod SameSettings

@@ -1,6 +1,7 @@
 -- The object of a line says all members of one line.
-use Rattle.std.proofs.Common.{arith, ◌≡◌, ◌<◌, ◌+◌, ◌^◌, ℕ, refl, ap, sym, subst, ◌∙◌, Bool, true, false, Some, None, Option}
-use Rattle.std.proofs.Common.{List, [], ◌∷◌, ◌++◌, codes, decimal, replicate}
+use Rattle.part_lines.proofs.Common.{arith, ◌≡◌, ◌<◌, ◌+◌, ℕ, refl, ap, sym, subst, ◌∙◌, Bool, true, false, Some, List, [], ◌∷◌, ◌++◌, codes, replicate}
+use Rattle.part_lines.proofs.Common.{Kind, Warnings, CheckedPart, Code, Framing, Note, PartLine}
+use Rattle.std.proofs.Common.{◌^◌, None, Option, decimal}
 use Rattle.std.specs.Prelude.{if◌then◌else◌, ◌==◌, option_and_then}
 use Rattle.std.proofs.lemmas.Bool.Decides.{nat_tests}
 use Rattle.std.proofs.lemmas.Fmt.{decimal_injective}
@@ -11,9 +12,7 @@ use Rattle.gj_coords.specs.Internal.KeptWarnings.{warnings_of}
 use Rattle.gj_coords.specs.Warnings.{Warning, kind_number, warning_at}
 use Rattle.gj_coords.specs.declared.fault.Rule.{Rule}
 use Rattle.gj_coords.specs.declared.fault.Rule.TheVariants.{G1, G2, G3, G4, G5, G6, G7, G8, G9, G10, G11, G12, G13, G14, G15, G16, G17, G18, G19, G20, G21}
-use Rattle.gj_coords.specs.declared.kind.Kind.{Kind}
 use Rattle.gj_coords.specs.declared.kind.Kind.TheVariants.{W1, W2, W3, W4, W5, W6, W7, W8, W9}
-use Rattle.gj_coords.specs.declared.warnings.Warnings.{Warnings}
 use Rattle.gj_json.specs.Texts.{cause_number}
 use Rattle.gj_json.specs.declared.fault.Cause.{Cause}
 use Rattle.gj_json.specs.declared.fault.Cause.TheVariants.{Syntax, Truncated, Depth, Length}
@@ -23,16 +22,11 @@ use Rattle.serde_json.specs.View.{items_of}
 use Rattle.part_lines.specs.Agreed.{AreSameNotes, AreSameIf, Agree}
 use Rattle.geolint_report.specs.Texts.{code_name}
 use Rattle.part_lines.specs.Lines.{framing_word, every_word}
-use Rattle.part_lines.specs.LineObject.{number_in, text_in, truth_in, array_in, IsRecordIn, AreWarnings, AreWarningsIn, IsVerdictIn, IsCheckedIn}
-use Rattle.part_lines.specs.LineObject.{IsNoteIn, AreNotes, IsListedIn, IsListedIf, IsLineIn}
-use Rattle.sequence_parts.specs.declared.checked.CheckedPart.{CheckedPart}
-use Rattle.geolint_report.specs.declared.texts.Code.{Code}
-use Rattle.gj_rules.specs.declared.records.framing.Framing.{Framing}
+use Rattle.part_lines.specs.LineObject.{number_in, text_in, truth_in, array_in, IsRecordIn, AreWarnings, AreWarningsIn, IsVerdictIn, IsCheckedIn, IsNoteIn}
+use Rattle.part_lines.specs.LineObject.{AreNotes, IsListedIn, IsListedIf, IsLineIn}
 use Rattle.gj_rules.specs.declared.records.framing.Framing.TheVariants.{Sequence, Lines}
 use Rattle.geolint_report.specs.declared.every.listing.Item.{Item}
 use Rattle.part_lines.specs.declared.line.Listed.{Listed}
-use Rattle.geolint_report.specs.declared.every.listing.Note.{Note}
-use Rattle.part_lines.specs.declared.line.PartLine.{PartLine}
 use Rattle.gj_rules.specs.declared.sequence.verdict.SeqVerdict.{SeqVerdict}
 use Rattle.gj_rules.specs.declared.verdict.Verdict.{Verdict}
 

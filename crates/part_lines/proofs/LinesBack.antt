@@ -1,14 +1,12 @@
 -- What is read of the text of a written line.
-use Rattle.std.proofs.Common.{◌≡◌, ◌∙◌, ℕ, List, ◌++◌, Some, sym, subst, codes}
+use Rattle.part_lines.proofs.Common.{◌≡◌, ◌∙◌, ℕ, List, ◌++◌, Some, sym, subst, codes, Data, PartLine}
 use Rattle.std.specs.Prelude.{Result, Ok, Err, IfOk}
 use Rattle.std.proofs.lemmas.List.{append_cancel_right}
-use Rattle.serde_json.specs.Data.{Data}
 use Rattle.serde_json.specs.Read.{read}
 use Rattle.part_lines.specs.Agreed.{Agree}
 use Rattle.part_lines.specs.LineObject.{IsLineIn}
 use Rattle.part_lines.specs.LineText.{line_text}
 use Rattle.part_lines.specs.Writable.{IsWritable}
-use Rattle.part_lines.specs.declared.line.PartLine.{PartLine}
 
 -- a written line is the text of such an object
 abbrev WritesObject : PartLine → Type 0

@@ -1,17 +1,13 @@
 -- Parts of which each is that of a line.
-use Rattle.std.proofs.Common.{◌≡◌, ◌<◌, ℕ, List, length, get_or}
-use Rattle.std.proofs.Common.{Some, subst, sym, ap, ◌∙◌, inl, inr}
-use Rattle.std.specs.Prelude.{slice_get}
+use Rattle.part_lines.proofs.Common.{◌≡◌, ◌<◌, ℕ, List, length, get_or, Some, subst, sym, ap, ◌∙◌, map, Framing, CheckedPart, PartLine}
+use Rattle.std.proofs.Common.{inl, inr}
+use Rattle.std.specs.Prelude.{slice_get, Option, IfSome}
 use Rattle.std.proofs.lemmas.Bool.{cases_lt}
 use Rattle.std.proofs.lemmas.Option.{get_or_from_slice_get, slice_get_past}
-use Rattle.std.specs.Prelude.{map, Option, IfSome}
 use Rattle.std.specs.List.{All, Contains}
 use Rattle.std.proofs.lemmas.List.Elements.{All-map, All-contains}
 use Rattle.gj_json.specs.Limits.{Allowed}
-use Rattle.gj_rules.specs.declared.records.framing.Framing.{Framing}
 use Rattle.sequence_parts.specs.Checked.{IsPartOf}
-use Rattle.sequence_parts.specs.declared.checked.CheckedPart.{CheckedPart}
-use Rattle.part_lines.specs.declared.line.PartLine.{PartLine}
 use Rattle.part_lines.specs.Lines.{checked_in, IsLineOf, IsListedLineOf, AreAmong, ArePlacedFrom}
 
 pub true_parts : (framing : Framing) (limits : Allowed) (text : List ℕ) (lines : List PartLine) (parts : List CheckedPart)

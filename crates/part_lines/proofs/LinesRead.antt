@@ -1,17 +1,16 @@
 -- A written line is read as what it was written for.
-use Rattle.std.proofs.Common.{arith, ◌≡◌, ◌<◌, ◌≤◌, ◌^◌, ℕ, suc, zero, refl, ap, sym, ◌∙◌, min, Bool, true, false, cond, Some, None, Option}
-use Rattle.std.proofs.Common.{List, [], ◌∷◌, ◌++◌, length, map, filter, replicate, codes, string_bytes}
+use Rattle.part_lines.proofs.Common.{arith, ◌≡◌, ◌<◌, ◌≤◌, ℕ, refl, ap, sym, ◌∙◌, Bool, true, false, Some, List, [], ◌∷◌, ◌++◌, length, map, replicate}
+use Rattle.part_lines.proofs.Common.{codes, flat_map, All, Kind, Warnings, code_name, Code, Note, PartLine}
+use Rattle.std.proofs.Common.{◌^◌, suc, zero, min, cond, None, Option, filter, string_bytes}
 use Rattle.std.specs.Prelude.{option_and_then, unwrap_or, ◌==◌, if◌then◌else◌}
 use Rattle.std.proofs.lemmas.Bool.Decides.{nat_tests}
 use Rattle.std.proofs.lemmas.List.{length-replicate}
 use Rattle.std.proofs.lemmas.List.Concat.{flat_map-append}
 use Rattle.std.proofs.lemmas.List.Elements.{All-nil, All-cons, All-append}
-use Rattle.std.specs.List.{flat_map, All}
 use Rattle.serde_json.specs.Data.{Data, Items, Members, string, boolean, array, object}
 use Rattle.serde_json.specs.Find.{get, get_member, as_number, as_u64, as_str, as_bool, as_array}
 use Rattle.serde_json.specs.Read.{read}
 use Rattle.serde_json.specs.View.{items_of}
-use Rattle.gj_coords.specs.declared.kind.Kind.{Kind}
 use Rattle.gj_coords.specs.declared.kind.Kind.TheVariants.{W1, W2, W3, W4, W5, W6, W7, W8, W9}
 use Rattle.gj_coords.proofs.Lists.ListsStoodFor.{kept_of}
 use Rattle.gj_coords.specs.Internal.ByKind.{same_itself}
@@ -21,25 +20,20 @@ use Rattle.gj_coords.specs.Internal.WarningLaws.{by_kind_alike}
 use Rattle.gj_coords.specs.Warnings.{Warning, warning_at, kinds, same_kind, places_of, greatest_count, least_place, lesser_place}
 use Rattle.gj_coords.specs.WarningsStand.{StandsFor}
 use Rattle.gj_coords.specs.declared.kind_warnings.KindWarnings.{KindWarnings}
-use Rattle.gj_coords.specs.declared.warnings.Warnings.{Warnings}
 use Rattle.geolint_report.specs.Items.{item_number}
-use Rattle.geolint_report.specs.Texts.{code_name}
 use Rattle.report_forms.specs.Passing.{contains}
 use Rattle.part_lines.specs.Lines.{framing_word, every_word}
 use Rattle.part_lines.specs.LineText.{line_text}
 use Rattle.part_lines.specs.LineObject.{number_in, text_in, array_in, IsKindName, AreWarnings, AreWarningsOf, IsVerdictIn, AreNotes, IsListedIf, IsLineIn}
 use Rattle.part_lines.specs.Writable.{AreWritableWarnings, IsWritableVerdict, AreWritableNotes, IsWritableIf, IsWritable}
-use Rattle.geolint_report.specs.declared.texts.Code.{Code}
 use Rattle.report_forms.specs.declared.options.Kinds.{Kinds}
 use Rattle.part_lines.specs.declared.line.Listed.{Listed}
 use Rattle.geolint_report.specs.declared.every.listing.Item.{Item}
-use Rattle.geolint_report.specs.declared.every.listing.Note.{Note}
-use Rattle.part_lines.specs.declared.line.PartLine.{PartLine}
 use Rattle.gj_rules.specs.declared.sequence.verdict.SeqVerdict.{SeqVerdict}
 use Rattle.gj_rules.specs.declared.verdict.Verdict.{Verdict}
 use Rattle.part_lines.proofs.ReadTexts.{read-text}
-use Rattle.part_lines.proofs.MembersRead.{num, allowed-if, allowed-data, warnings-if, kind-data, note-data, verdict-members}
-use Rattle.part_lines.proofs.MembersRead.{few, listed-members-if, head-members, line-members, object-text, text-ends, object-read}
+use Rattle.part_lines.proofs.MembersRead.{num, allowed-if, allowed-data, warnings-if, kind-data, note-data, verdict-members, few, listed-members-if}
+use Rattle.part_lines.proofs.MembersRead.{head-members, line-members, object-text, text-ends, object-read}
 
 -- ---- what its members say
 

@@ -1,22 +1,20 @@
 -- The text of a written line is that of an object with these members.
-use Rattle.std.proofs.Common.{arith, ◌≡◌, ◌<◌, ◌+◌, ◌^◌, ℕ, suc, refl, ap, sym, subst, ◌∙◌, Bool, true, false, Some, None, Option}
-use Rattle.std.proofs.Common.{List, [], ◌∷◌, ◌++◌, append_assoc, get_or, map, codes, decimal, string_bytes}
+use Rattle.part_lines.proofs.Common.{arith, ◌≡◌, ◌<◌, ◌+◌, ℕ, refl, ap, sym, subst, ◌∙◌, Bool, true, false, Some, List, [], ◌∷◌, ◌++◌, get_or, map, codes}
+use Rattle.part_lines.proofs.Common.{flat_map, Kind, Warnings, Code, Framing, Note, PartLine}
+use Rattle.std.proofs.Common.{◌^◌, suc, None, Option, append_assoc, decimal, string_bytes}
 use Rattle.std.specs.Prelude.{nat_lt, if◌then◌else◌}
 use Rattle.std.specs.Fmt.{digits}
 use Rattle.std.specs.Io.Iter.{u64_saturate}
-use Rattle.std.specs.List.{flat_map}
 use Rattle.json.specs.Print.{escape_byte, escape, quoted}
 use Rattle.serde_json.specs.Data.{Data, Members, no_members, put, number, unsigned, string, boolean, array, object}
 use Rattle.serde_json.specs.View.{items_of}
 use Rattle.gj_coords.specs.declared.fault.Rule.TheVariants.{G1, G2, G3, G4, G5, G6, G7, G8, G9, G10, G11, G12, G13, G14, G15, G16, G17, G18, G19, G20, G21}
-use Rattle.gj_coords.specs.declared.kind.Kind.{Kind}
 use Rattle.gj_coords.specs.declared.kind.Kind.TheVariants.{W1, W2, W3, W4, W5, W6, W7, W8, W9}
 use Rattle.gj_coords.proofs.Lists.ListsStoodFor.{kept_of}
 use Rattle.gj_coords.specs.Internal.KeptWarnings.{first_in, count_in}
 use Rattle.gj_coords.specs.Warnings.{Warning, kinds, count_of}
 use Rattle.gj_coords.specs.WarningsStand.{StandsFor}
 use Rattle.gj_coords.specs.declared.kind_warnings.KindWarnings.{KindWarnings}
-use Rattle.gj_coords.specs.declared.warnings.Warnings.{Warnings}
 use Rattle.gj_json.specs.declared.fault.Cause.TheVariants.{Syntax, Truncated, Depth, Length}
 use Rattle.geolint_report.specs.Items.{item_number}
 use Rattle.geolint_report.specs.Line.{truth}
@@ -26,26 +24,21 @@ use Rattle.geolint_report.specs.declared.texts.TheConstants.{RULES, CAUSES}
 use Rattle.report_forms.specs.Forms.Json.{with_commas, behind_commas}
 use Rattle.report_forms.specs.Passing.{contains}
 use Rattle.part_lines.specs.Lines.{framing_word, every_word}
-use Rattle.part_lines.specs.LineText.{place_text, file_text, code_string, allowed_kind, allowed_text, settings_text}
-use Rattle.part_lines.specs.LineText.{warning_text, warning_if, kind_texts, warnings_text}
-use Rattle.part_lines.specs.LineText.{fault_text, valid_text, count_text, count_texts, rule_counts, kind_counts, cause_counts, counts_text, tally_text}
-use Rattle.part_lines.specs.LineText.{note_text, note_texts, notes_text, listed_text, listed_text_of, broken_text, verdict_text, line_text}
+use Rattle.part_lines.specs.LineText.{place_text, file_text, code_string, allowed_kind, allowed_text, settings_text, warning_text, warning_if, kind_texts}
+use Rattle.part_lines.specs.LineText.{warnings_text, fault_text, valid_text, count_text, count_texts, rule_counts, kind_counts, cause_counts, counts_text}
+use Rattle.part_lines.specs.LineText.{tally_text, note_text, note_texts, notes_text, listed_text, listed_text_of, broken_text, verdict_text, line_text}
 use Rattle.part_lines.specs.Internal.JsonTexts.{Reads, ReadsItems, ReadsMembers}
 use Rattle.part_lines.specs.Writable.{Fits, IsWritableVerdict, AreWritableNotes, IsWritableListed, IsWritableIf, IsWritable}
-use Rattle.geolint_report.specs.declared.texts.Code.{Code}
 use Rattle.part_lines.specs.declared.line.FileState.{FileState}
-use Rattle.gj_rules.specs.declared.records.framing.Framing.{Framing}
 use Rattle.gj_rules.specs.declared.records.framing.Framing.TheVariants.{Sequence, Lines}
 use Rattle.report_forms.specs.declared.options.Kinds.{Kinds}
 use Rattle.part_lines.specs.declared.line.Listed.{Listed}
-use Rattle.geolint_report.specs.declared.every.listing.Note.{Note}
-use Rattle.part_lines.specs.declared.line.PartLine.{PartLine}
 use Rattle.gj_rules.specs.declared.sequence.verdict.SeqVerdict.{SeqVerdict}
 use Rattle.gj_rules.specs.declared.verdict.Verdict.{Verdict}
 use Rattle.part_lines.specs.declared.line.Settings.{Settings}
 use Rattle.geolint_report.specs.declared.every.tally.Tally.{Tally}
-use Rattle.part_lines.proofs.ReadTexts.{reads-number, reads-string, reads-boolean, comma, no-more-items, one-item, reads-array}
-use Rattle.part_lines.proofs.ReadTexts.{no-more-members, one-member, reads-object}
+use Rattle.part_lines.proofs.ReadTexts.{reads-number, reads-string, reads-boolean, comma, no-more-items, one-item, reads-array, no-more-members, one-member}
+use Rattle.part_lines.proofs.ReadTexts.{reads-object}
 
 -- ---- words
 

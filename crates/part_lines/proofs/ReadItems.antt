@@ -1,14 +1,10 @@
 -- What is read of the items of an array, with one item more.
-use Rattle.std.proofs.Common.{◌≡◌, ℕ, ◌+◌, zero, suc, ◌<◌, ◌≤◌, arith, Option, Some, List, [], ◌∷◌, ◌++◌, length, get_or, take, refl, ap, sym}
-use Rattle.std.proofs.Common.{subst, ◌∙◌, append_assoc, append-nil}
-use Rattle.std.specs.Prelude.{map, replicate}
-use Rattle.std.specs.List.{All}
+use Rattle.part_lines.proofs.Common.{◌≡◌, ℕ, ◌+◌, ◌<◌, ◌≤◌, arith, Some, List, [], ◌∷◌, ◌++◌, length, get_or, take, refl, ap, sym, subst, ◌∙◌, map}
+use Rattle.part_lines.proofs.Common.{replicate, All, Kind, Warnings, Note}
+use Rattle.std.proofs.Common.{zero, suc, Option, append_assoc, append-nil}
 use Rattle.std.proofs.lemmas.List.{take_more, take_all, get_or-map, length-map}
 use Rattle.gj_coords.specs.Warnings.{Warning, warning_at}
 use Rattle.gj_coords.specs.WarningsStand.{StandsFor}
-use Rattle.gj_coords.specs.declared.kind.Kind.{Kind}
-use Rattle.gj_coords.specs.declared.warnings.Warnings.{Warnings}
-use Rattle.geolint_report.specs.declared.every.listing.Note.{Note}
 use Rattle.serde_json.specs.Data.{Data, Items}
 use Rattle.serde_json.specs.View.{view, items_of}
 use Rattle.serde_json.specs.declared.value.Value.{Value}

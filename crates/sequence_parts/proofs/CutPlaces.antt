@@ -1,12 +1,10 @@
 -- Where an input of records may be cut, byte by byte.
-use Rattle.std.proofs.Common.{arith, ◌≡◌, ◌+◌, ◌-◌, ◌<◌, ◌≤◌, ℕ, suc, zero, refl, ap, sym, subst, ◌∙◌, List, [], ◌∷◌, ◌++◌, length, take, drop, get_or}
-use Rattle.std.proofs.Common.{true, Bool, inl, inr, length-append, length-drop}
+use Rattle.sequence_parts.proofs.Common.{arith, ◌≡◌, ◌+◌, ◌-◌, ◌<◌, ◌≤◌, ℕ, refl, ap, sym, subst, ◌∙◌, List, length, take, Allowed, Framing}
+use Rattle.std.proofs.Common.{suc, zero, [], ◌∷◌, ◌++◌, drop, get_or, true, Bool, inl, inr, length-append, length-drop}
 use Rattle.std.proofs.lemmas.Bool.{cases_lt}
-use Rattle.std.proofs.lemmas.List.{get_or-drop, length-take-le}
-use Rattle.std.proofs.Math.ListN.{get_or-append}
-use Rattle.gj_json.specs.Limits.{Allowed}
+use Rattle.std.proofs.lemmas.List.{length-take-le}
+use Rattle.std.proofs.lemmas.List.Prefix.{at_reads}
 use Rattle.gj_join.specs.Parts.{separates, separator_first, separator_last, may_begin}
-use Rattle.gj_rules.specs.declared.records.framing.Framing.{Framing}
 use Rattle.sequence_parts.specs.Cuts.{MayBeCut, NoneMayBeCut}
 use Rattle.sequence_parts.specs.Internal.Begins.{follows_at, IsBegin, NoneBegins}
 
@@ -55,14 +53,10 @@ may_be_cut framing limits text last cut =
 
 -- ---- what a piece shows
 
-byte_of : (text read rest : List ℕ) (place j : ℕ) → drop place text ≡ read ++ rest → j < length read → get_or text (place + j) 0 ≡ get_or read j 0
-byte_of text read rest place j given within =
-    sym (get_or-drop place text j 0) ∙ (ap (λ (l : List ℕ). get_or l j 0) given ∙ get_or-append read rest 0 j within)
-
 separates_at : (framing : Framing) (text read rest : List ℕ) (last j at : ℕ) → drop (suc last) text ≡ read ++ rest → j < length read → at ≡ suc last + j
     → separates framing (get_or text at 0) ≡ separates framing (get_or read j 0)
 separates_at framing text read rest last j at given within there =
-    ap (λ (n : ℕ). separates framing (get_or text n 0)) there ∙ ap (separates framing) (byte_of text read rest (suc last) j given within)
+    ap (λ (n : ℕ). separates framing (get_or text n 0)) there ∙ ap (separates framing) (at_reads 0 text read (suc last) rest given j within)
 
 before_of : (framing : Framing) (text read rest : List ℕ) (last j : ℕ) (follows : Bool) → drop (suc last) text ≡ read ++ rest
     → follows ≡ separates framing (get_or text last 0)

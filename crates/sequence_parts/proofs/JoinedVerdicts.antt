@@ -1,17 +1,15 @@
 -- A part more.
-use Rattle.std.proofs.Common.{arith, ◌≡◌, ◌+◌, ◌-◌, ◌<◌, ℕ, suc, zero, refl, ap, sym, subst, ◌∙◌, List, [], ◌∷◌, ◌++◌, length, take, drop}
-use Rattle.std.proofs.Common.{inl, inr, Some, None}
-use Rattle.std.specs.Prelude.{Option, IfSome, ◌⊎◌}
+use Rattle.sequence_parts.proofs.Common.{arith, ◌≡◌, ◌+◌, ◌-◌, ◌<◌, ℕ, refl, ap, sym, subst, ◌∙◌, List, length, take, Option, IfSome, Allowed, Framing}
+use Rattle.sequence_parts.proofs.Common.{CheckedPart}
+use Rattle.std.proofs.Common.{suc, zero, [], ◌∷◌, ◌++◌, drop, inl, inr, Some, None}
+use Rattle.std.specs.Prelude.{◌⊎◌}
 use Rattle.std.proofs.lemmas.List.{length-take-le, take_all}
 use Rattle.std.proofs.Math.Seq.{take-add}
-use Rattle.gj_json.specs.Limits.{Allowed}
-use Rattle.gj_rules.specs.declared.records.framing.Framing.{Framing}
 use Rattle.gj_rules.specs.declared.sequence.verdict.SeqVerdict.{SeqVerdict}
 use Rattle.gj_join.specs.Joined.{IsVerdictOf}
 use Rattle.gj_join.specs.Parts.{separator_first, separator_last, may_begin, ArePartsOf, limits_after}
 use Rattle.sequence_parts.specs.Cuts.{MayBeCut}
 use Rattle.sequence_parts.specs.Checked.{IsPartOf, IsVerdictOfBytes}
-use Rattle.sequence_parts.specs.declared.checked.CheckedPart.{CheckedPart}
 use Rattle.sequence_parts.specs.Internal.JoinedSoFar.{IsJoinedTo}
 
 pub begins_taken : (framing : Framing) (n : ℕ) (bytes : List ℕ) → 0 < n → separator_first framing (take n bytes) ≡ separator_first framing bytes
@@ -22,17 +20,6 @@ begins_taken framing (suc n) (byte ∷ more) some = refl
 -- nothing of the limit is used up before the first byte
 pub none_before : (limits : Allowed) → limits_after limits 0 ≡ limits
 none_before limits = ap (λ (n : ℕ). record { depth = limits.depth; bytes = n }) (omega arith)
-
-pub first_part : (framing : Framing) (limits : Allowed) (text : List ℕ) (part : CheckedPart) → part.begin ≡ 0 → IsVerdictOfBytes framing limits text part
-    → IsJoinedTo framing limits text part.end part.verdict
-first_part framing limits text part first of_it =
-    let at_start = subst (λ (n : ℕ). IsVerdictOf framing (limits_after limits n) (take (part.end - n) (drop n text)) part.verdict) first of_it.verdict in
-    let all = subst (λ (l : Allowed). IsVerdictOf framing l (take (part.end - 0) (drop 0 text)) part.verdict) (none_before limits) at_start in
-    let less : part.end - 0 ≡ part.end = omega arith in
-    record {
-      within = of_it.within;
-      verdict_of_it = subst (λ (n : ℕ). IsVerdictOf framing limits (take n text) part.verdict) less all;
-    }
 
 part_cut : (framing : Framing) (limits : Allowed) (text : List ℕ) (place : ℕ) → 0 < place → (place ≡ 0) ⊎ MayBeCut framing limits text place
     → MayBeCut framing limits text place

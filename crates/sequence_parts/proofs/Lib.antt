@@ -1,3 +1,4 @@
+mod Common
 mod CutPlaces
 mod SearchedBytes
 mod WindowReads

@@ -1,15 +1,10 @@
 -- What is told of the records of a part.
-use Rattle.std.proofs.Common.{◌≡◌, ◌<◌, ℕ, subst, List, Some, None}
-use Rattle.std.specs.Prelude.{Option, IfSome}
+use Rattle.sequence_parts.proofs.Common.{◌≡◌, ◌<◌, ℕ, subst, List, Option, IfSome, Allowed, limits_after, Framing, bytes_between, CheckedPart}
+use Rattle.std.proofs.Common.{Some, None}
 use Rattle.std.specs.Option.{option_map}
-use Rattle.gj_json.specs.Limits.{Allowed}
-use Rattle.gj_join.specs.Parts.{limits_after}
-use Rattle.gj_rules.specs.declared.records.framing.Framing.{Framing}
 use Rattle.geolint_report.specs.declared.every.listing.Asked.{Asked}
 use Rattle.geolint_report.specs.declared.every.listing.Notes.{Notes}
 use Rattle.sequence_parts.specs.Checked.{AreNotesIf, AreNotesBefore, AreNoNotes, AreNotesOfPart}
-use Rattle.sequence_parts.specs.Cuts.{bytes_between}
-use Rattle.sequence_parts.specs.declared.checked.CheckedPart.{CheckedPart}
 
 pub noted_bytes : (known had : Option (List ℕ)) (f : List ℕ → List ℕ) (framing : Framing) (limits left : Allowed) (asked : Option Asked) (told : Option Notes)
     (begin end : ℕ) → had ≡ option_map f known → left ≡ limits → AreNotesBefore framing left asked had told

@@ -1,13 +1,11 @@
 -- What is told of the records of a whole, given what is told of those of its parts.
-use Rattle.std.proofs.Common.{arith, ◌≡◌, ◌+◌, ◌-◌, ◌<◌, ◌≤◌, ℕ, refl, ap, sym, subst, ◌∙◌, zero-add, Bool, true, false, inl, inr}
-use Rattle.std.proofs.Common.{List, [], ◌∷◌, ◌++◌, length, map, take, drop}
-use Rattle.std.proofs.Common.{Some, None, length-append}
+use Rattle.sequence_parts.proofs.Common.{arith, ◌≡◌, ◌+◌, ◌-◌, ◌<◌, ◌≤◌, ℕ, refl, ap, sym, subst, ◌∙◌, List, length, take, Allowed, Framing, CheckedPart}
+use Rattle.std.proofs.Common.{zero-add, Bool, true, false, inl, inr, [], ◌∷◌, ◌++◌, map, drop, Some, None, length-append}
 use Rattle.std.specs.Prelude.{◌⊎◌, ◌==◌, if◌then◌else◌}
 use Rattle.std.specs.List.{flat_map}
 use Rattle.std.proofs.lemmas.List.{map-append, length-map, length-take-le}
 use Rattle.std.proofs.lemmas.List.Concat.{flat_map-append}
 use Rattle.std.proofs.Math.Seq.{take-add}
-use Rattle.gj_json.specs.Limits.{Allowed}
 use Rattle.gj_coords.specs.Internal.KeptWarnings.{kept, shifted, shifted_noted}
 use Rattle.gj_coords.specs.Internal.WarningLaws.{kept_by_kind}
 use Rattle.gj_coords.specs.Warnings.{kinds}
@@ -16,7 +14,6 @@ use Rattle.gj_coords.specs.declared.kind_warnings.KindWarnings.{KindWarnings}
 use Rattle.gj_coords.specs.declared.warnings.Warnings.{Warnings}
 use Rattle.gj_rules.specs.RecordFindings.{AreAllFindings}
 use Rattle.gj_rules.specs.Sequence.{shifted_verdict}
-use Rattle.gj_rules.specs.declared.records.framing.Framing.{Framing}
 use Rattle.gj_rules.specs.declared.records.record.Record.{Record}
 use Rattle.gj_rules.specs.declared.verdict.Verdict.{Verdict}
 use Rattle.gj_rules.specs.declared.verdict.Verdict.TheVariants.{Valid, Broken, NotJson}
@@ -30,7 +27,6 @@ use Rattle.geolint_report.specs.declared.every.listing.Note.{Note}
 use Rattle.sequence_parts.specs.Checked.{IsVerdictOfBytes}
 use Rattle.sequence_parts.specs.Cuts.{MayBeCut, bytes_between}
 use Rattle.sequence_parts.specs.JoinedNotes.{moved_note, joined_notes}
-use Rattle.sequence_parts.specs.declared.checked.CheckedPart.{CheckedPart}
 use Rattle.sequence_parts.proofs.JoinedVerdicts.{begins_taken, none_before}
 
 -- ---- notes on records further on

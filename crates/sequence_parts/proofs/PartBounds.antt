@@ -1,17 +1,15 @@
 -- Which bytes a part has.
-use Rattle.std.proofs.Common.{arith, ◌≡◌, ◌-◌, ◌<◌, ◌≤◌, ℕ, suc, zero, sym, subst, List, length, inl, inr, Some, None}
-use Rattle.std.specs.Prelude.{Option, IfSome, ◌⊎◌}
+use Rattle.sequence_parts.proofs.Common.{arith, ◌≡◌, ◌-◌, ◌<◌, ◌≤◌, ℕ, sym, subst, List, length, Option, IfSome, Allowed, Framing, limits_after}
+use Rattle.sequence_parts.proofs.Common.{CheckedPart}
+use Rattle.std.proofs.Common.{suc, zero, inl, inr, Some, None}
+use Rattle.std.specs.Prelude.{◌⊎◌}
 use Rattle.std.specs.Option.{option_map}
-use Rattle.gj_json.specs.Limits.{Allowed}
-use Rattle.gj_rules.specs.declared.records.framing.Framing.{Framing}
 use Rattle.gj_rules.specs.declared.records.framing.Framing.TheVariants.{Sequence, Lines}
 use Rattle.gj_rules.specs.declared.sequence.verdict.SeqVerdict.{SeqVerdict}
 use Rattle.geolint_report.specs.Judged.{JudgesBy, Finds}
 use Rattle.geolint_report.specs.declared.judge.Finding.{Finding}
 use Rattle.gj_join.specs.Joined.{IsVerdictOf}
-use Rattle.gj_join.specs.Parts.{limits_after}
 use Rattle.sequence_parts.specs.Checked.{IsPartOf, reading_of}
-use Rattle.sequence_parts.specs.declared.checked.CheckedPart.{CheckedPart}
 use Rattle.sequence_parts.specs.Cuts.{MayBeCut, bytes_between}
 use Rattle.sequence_parts.specs.Ranges.{range_begin, IsEnd, IsByRange, ArePart}
 

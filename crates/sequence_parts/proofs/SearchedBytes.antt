@@ -1,14 +1,11 @@
 -- What a search for a cut has shown so far.
-use Rattle.std.proofs.Common.{arith, ◌≡◌, ◌+◌, ◌-◌, ◌<◌, ◌≤◌, ℕ, suc, ap, sym, subst, ◌∙◌, List, ◌++◌, length, take, drop, get_or, min}
-use Rattle.std.proofs.Common.{false, Bool, inl, inr, Some, None}
-use Rattle.std.specs.Prelude.{Option, IfSome}
+use Rattle.sequence_parts.proofs.Common.{arith, ◌≡◌, ◌+◌, ◌-◌, ◌<◌, ◌≤◌, ℕ, ap, sym, subst, ◌∙◌, List, length, take, Option, IfSome, Allowed, Framing}
+use Rattle.std.proofs.Common.{suc, ◌++◌, drop, get_or, min, false, Bool, inl, inr, Some, None}
 use Rattle.std.specs.Option.{SomeIff}
 use Rattle.std.proofs.lemmas.Bool.{cases_lt, cases_eq, false≢true}
 use Rattle.std.proofs.lemmas.List.{get_or-drop, length-take-le}
 use Rattle.std.proofs.Math.ListN.{get_or-append}
-use Rattle.gj_json.specs.Limits.{Allowed}
 use Rattle.gj_join.specs.Parts.{separates, may_begin}
-use Rattle.gj_rules.specs.declared.records.framing.Framing.{Framing}
 use Rattle.geolint_report.specs.Every.{GaveBy}
 use Rattle.sequence_parts.specs.Cuts.{NoneMayBeCut, IsFirstCut}
 use Rattle.sequence_parts.specs.Internal.Begins.{follows_at, IsBegin, NoneBegins, IsFirstBegin, AreSearchedTo}

@@ -1,11 +1,10 @@
 -- All parts, one after the other, are the text.
-use Rattle.std.proofs.Common.{arith, ◌≡◌, ◌+◌, ◌-◌, ◌<◌, ◌≤◌, ℕ, suc, zero, refl, ap, sym, subst, ◌∙◌, List, ◌++◌, length, take, drop, inl, inr, Some, None}
+use Rattle.sequence_parts.proofs.Common.{arith, ◌≡◌, ◌+◌, ◌-◌, ◌<◌, ◌≤◌, ℕ, refl, ap, sym, subst, ◌∙◌, List, length, take, Allowed, Framing}
+use Rattle.std.proofs.Common.{suc, zero, ◌++◌, drop, inl, inr, Some, None}
 use Rattle.std.specs.Prelude.{◌⊎◌}
 use Rattle.std.proofs.lemmas.Bool.{cases_lt}
 use Rattle.std.proofs.lemmas.List.{append-nil, take_all}
 use Rattle.std.proofs.Math.Seq.{take-add}
-use Rattle.gj_json.specs.Limits.{Allowed}
-use Rattle.gj_rules.specs.declared.records.framing.Framing.{Framing}
 use Rattle.sequence_parts.specs.Cuts.{NoneMayBeCut, IsFirstCut, bytes_between}
 use Rattle.sequence_parts.specs.Internal.Covered.{GoTo}
 use Rattle.sequence_parts.specs.Ranges.{range_begin, IsEnd, IsByRange, ArePart, AreParts, bytes_of_parts}

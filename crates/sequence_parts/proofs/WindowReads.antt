@@ -1,19 +1,12 @@
 -- What a read gives of the bytes up to a place.
-use Rattle.std.proofs.Common.{arith, ◌≡◌, ◌+◌, ◌-◌, ◌<◌, ◌≤◌, ℕ, ap, sym, subst, ◌∙◌, List, [], ◌++◌, length, take, drop, min, inl, inr, Some, None}
-use Rattle.std.specs.Prelude.{Option}
+use Rattle.sequence_parts.proofs.Common.{arith, ◌≡◌, ◌+◌, ◌-◌, ◌<◌, ◌≤◌, ℕ, ap, sym, subst, ◌∙◌, List, length, take, Option, bytes_between}
+use Rattle.std.proofs.Common.{[], ◌++◌, drop, min, inl, inr, Some, None}
 use Rattle.std.specs.Option.{option_map}
 use Rattle.std.specs.Io.KnownBytes.{Consumes, IsAtEnd}
 use Rattle.std.proofs.lemmas.Bool.{cases_lt}
-use Rattle.std.proofs.lemmas.List.{take-append-drop, take-append-le, length-take-le, take_all, drop_all, drop-drop}
+use Rattle.std.proofs.lemmas.List.{take-append-le, length-take-le, take-take, take_all, drop_all, drop-drop}
 use Rattle.std.proofs.Math.Seq.{take-add}
 use Rattle.geolint_report.specs.Every.{GaveFrom, GaveBy}
-use Rattle.sequence_parts.specs.Cuts.{bytes_between}
-
-front_of : (piece : List ℕ) (taken count : ℕ) → taken ≤ count → count ≤ length piece → take taken (take count piece) ≡ take taken piece
-front_of piece taken count less within =
-    let long : length (take count piece) ≡ count = length-take-le count piece within in
-    sym (ap (λ (l : List ℕ). take taken l) (sym (take-append-drop count piece))
-    ∙ take-append-le taken (take count piece) (drop count piece) (omega (arith, long, less)))
 
 between_more : (text piece : List ℕ) (place end count taken : ℕ) → drop place text ≡ take count piece ++ drop (place + count) text → count ≤ length piece
     → taken ≤ count → place + taken ≤ end → bytes_between place end text ≡ take taken piece ++ bytes_between (place + taken) end text
@@ -24,7 +17,7 @@ between_more text piece place end count taken given within less fits =
     let both : end - place ≡ taken + more = omega (arith, fits) in
     let first : take taken (drop place text) ≡ take taken piece =
     ap (λ (l : List ℕ). take taken l) given
-    ∙ (take-append-le taken read (drop (place + count) text) (omega (arith, long, less)) ∙ front_of piece taken count less within) in
+    ∙ (take-append-le taken read (drop (place + count) text) (omega (arith, long, less)) ∙ take-take taken count piece less) in
     let further : drop taken (drop place text) ≡ drop (place + taken) text = drop-drop taken place text in
     ap (λ (n : ℕ). take n (drop place text)) both
     ∙ (take-add taken more (drop place text)

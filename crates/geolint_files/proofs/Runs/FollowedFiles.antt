@@ -1,6 +1,5 @@
 -- What is said of the places of notes while a source is read once.
-use Rattle.std.proofs.Common.{sym, subst, ℕ, List, [], ◌∷◌}
-use Rattle.std.specs.Prelude.{Option, Some, None}
+use Rattle.geolint_files.proofs.Common.{sym, subst, ℕ, List, [], ◌∷◌, Option, Some, None}
 use Rattle.std.specs.Io.KnownBytes.{Consumes}
 use Rattle.geolint_report.specs.declared.every.cursor.Mark.{Mark}
 use Rattle.geolint_report.specs.declared.every.listing.Note.{Note}

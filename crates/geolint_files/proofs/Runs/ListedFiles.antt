@@ -1,9 +1,8 @@
 -- A run that has told lines of the features of its last file.
-use Rattle.std.proofs.Common.{arith, zero, suc, ◌≡◌, ◌<◌, ◌≤◌, ◌+◌, ◌-◌, ◌++◌, ◌∷◌, [], List, ℕ, length, take, get_or, refl, sym, subst, ap, ◌∙◌, append_assoc}
-use Rattle.std.proofs.Common.{append-nil, length-append, ◌^◌}
+use Rattle.geolint_files.proofs.Common.{arith, ◌≡◌, ◌-◌, ◌++◌, ◌∷◌, [], List, ℕ, length, refl, sym, subst, ap, ◌∙◌, Bool, map, Option, Some, None, Vec}
+use Rattle.geolint_files.proofs.Common.{Global, StandBy, Finding, Reading, Report, Log, Options, Summary, Counts, Outcome, framing_in}
+use Rattle.std.proofs.Common.{zero, suc, ◌<◌, ◌≤◌, ◌+◌, take, get_or, append_assoc, append-nil, length-append, ◌^◌}
 use Rattle.std.specs.Io.Iter.{u64_saturate}
-use Rattle.std.specs.Prelude.{Bool, map, Option, Some, None, Vec}
-use Rattle.std.specs.declared.alloc.Global.{Global}
 use Rattle.std.specs.Io.KnownBytes.{Appends, Keeps}
 use Rattle.std.proofs.KnownBytes.{Appends-trans, Appends-kept, Keeps-refl}
 use Rattle.std.proofs.lemmas.List.{map-append, take_more, take_all}
@@ -11,32 +10,21 @@ use Rattle.std.proofs.lemmas.Option.{none-some}
 use Rattle.gj_json.specs.Limits.{Allowed}
 use Rattle.gj_rules.specs.declared.records.framing.Framing.{Framing}
 use Rattle.geolint_report.specs.declared.every.cursor.Cursors.{Cursors}
-use Rattle.geolint_report.specs.Cursors.{StandBy}
 use Rattle.geolint_report.specs.declared.every.listing.Asked.{Asked}
 use Rattle.geolint_report.specs.declared.every.listing.Note.{Note}
 use Rattle.geolint_report.specs.declared.every.tally.Tally.{Tally}
-use Rattle.geolint_report.specs.declared.judge.Finding.{Finding}
-use Rattle.geolint_report.specs.declared.judge.Reading.{Reading}
-use Rattle.geolint_report.specs.declared.report.Report.{Report}
 use Rattle.report_forms.specs.declared.every.entry.Entry.{Entry}
 use Rattle.geolint_report.specs.Tallies.{IsTotal}
 use Rattle.report_forms.specs.declared.formats.lines.Style.{Style}
-use Rattle.report_forms.specs.declared.formats.sarif.Log.{Log}
 use Rattle.report_forms.specs.declared.options.Every.{Every}
-use Rattle.report_forms.specs.declared.options.Options.{Options}
-use Rattle.report_forms.specs.declared.summary.Summary.{Summary}
-use Rattle.report_forms.specs.FileCounts.{Counts}
-use Rattle.geolint_files.specs.declared.outcome.Outcome.{Outcome}
 use Rattle.geolint_files.specs.declared.run.Run.{Run}
 use Rattle.geolint_files.specs.Outcome.{worst}
 use Rattle.geolint_files.specs.Internal.RunState.{HasTold, TellsFile, TellsLines, ToldFurther, SameTold}
-use Rattle.geolint_files.specs.Listed.{asked_in, asked_by}
-use Rattle.geolint_files.specs.Listed.{IsEntryOf, AreEntriesOf, AreLinesOf, others_of, asked_when, asked_after, AreNextBy, AreFurther, joined, most_of}
-use Rattle.geolint_files.specs.Listed.{IsPlaced, ArePlacedLines}
-use Rattle.geolint_report.specs.Judged.{framing_in}
+use Rattle.geolint_files.specs.Listed.{asked_in, asked_by, IsEntryOf, AreEntriesOf, AreLinesOf, others_of, asked_when, asked_after, AreNextBy, AreFurther}
+use Rattle.geolint_files.specs.Listed.{joined, most_of, IsPlaced, ArePlacedLines}
 use Rattle.geolint_files.proofs.Runs.ToldFiles.{tallies-append, tallies-none}
-use Rattle.geolint_files.specs.Run.{ToldFile, judged, listed, FeatureLine, others_line, finding_in, tallies_in, outcome_in, Written}
-use Rattle.geolint_files.specs.Run.{AddsFiles, AddsLine, AddsLines, begun}
+use Rattle.geolint_files.specs.Run.{ToldFile, judged, listed, FeatureLine, others_line, finding_in, tallies_in, outcome_in, Written, AddsFiles, AddsLine}
+use Rattle.geolint_files.specs.Run.{AddsLines, begun}
 
 -- ---- what is written
 

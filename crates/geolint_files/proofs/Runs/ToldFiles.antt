@@ -1,22 +1,16 @@
 -- A run that has told one file more, or some.
-use Rattle.std.proofs.Common.{◌≡◌, ◌++◌, ◌∷◌, [], List, ℕ, refl, sym, subst, ap, ◌∙◌, append_assoc, append-nil}
-use Rattle.std.specs.Prelude.{Bool, map, Option, Some, None, Result, Ok, Err, Vec, IsSomeAnd}
-use Rattle.std.specs.declared.alloc.Global.{Global}
+use Rattle.geolint_files.proofs.Common.{◌≡◌, ◌++◌, ◌∷◌, [], List, ℕ, refl, sym, subst, ap, ◌∙◌, Bool, map, Option, Some, None, Vec, Global, Finding, Report}
+use Rattle.geolint_files.proofs.Common.{Log, Options, Summary, Counts, Outcome}
+use Rattle.std.proofs.Common.{append_assoc, append-nil}
+use Rattle.std.specs.Prelude.{Result, Ok, Err, IsSomeAnd}
 use Rattle.std.specs.Io.KnownBytes.{Appends, Keeps}
 use Rattle.std.specs.Result.{OnOk}
 use Rattle.std.proofs.KnownBytes.{Appends-trans}
 use Rattle.std.proofs.lemmas.List.{map-append}
 use Rattle.geolint_report.specs.declared.every.tally.Tally.{Tally}
-use Rattle.geolint_report.specs.declared.judge.Finding.{Finding}
-use Rattle.geolint_report.specs.declared.report.Report.{Report}
 use Rattle.geolint_report.specs.declared.sites.Sites.{Sites}
 use Rattle.geolint_report.specs.Tallies.{IsTotal}
 use Rattle.report_forms.specs.declared.formats.lines.Style.{Style}
-use Rattle.report_forms.specs.declared.formats.sarif.Log.{Log}
-use Rattle.report_forms.specs.declared.options.Options.{Options}
-use Rattle.report_forms.specs.declared.summary.Summary.{Summary}
-use Rattle.report_forms.specs.FileCounts.{Counts}
-use Rattle.geolint_files.specs.declared.outcome.Outcome.{Outcome}
 use Rattle.geolint_files.specs.declared.run.Run.{Run}
 use Rattle.geolint_files.specs.Outcome.{worst}
 use Rattle.geolint_files.specs.Internal.RunState.{HasTold, TellsFile, TellsFiles, Unchanged}

@@ -1,6 +1,5 @@
 -- The worst of a list with one outcome more.
-use Rattle.std.proofs.Common.{◌≡◌, ◌++◌, ◌∷◌, [], List, refl, ap, ◌∙◌}
-use Rattle.geolint_files.specs.declared.outcome.Outcome.{Outcome}
+use Rattle.geolint_files.proofs.Common.{◌≡◌, ◌++◌, ◌∷◌, [], List, refl, ap, ◌∙◌, Outcome}
 use Rattle.geolint_files.specs.declared.outcome.Outcome.TheVariants.{Pass, Fail, Unread}
 use Rattle.geolint_files.specs.Outcome.{worse, worst}
 

@@ -1,9 +1,7 @@
-use Rattle.std.proofs.Common.{◌≡◌, ℕ, refl}
-use Rattle.std.specs.Prelude.{Result, Ok, Err, IfOk, Vec}
-use Rattle.std.specs.declared.alloc.Global.{Global}
+use Rattle.geolint_files.proofs.Common.{◌≡◌, ℕ, refl, Vec, Global, Options}
+use Rattle.std.specs.Prelude.{Result, Ok, Err, IfOk}
 use Rattle.part_lines.specs.LineText.{line_text}
 use Rattle.part_lines.specs.declared.line.PartLine.{PartLine}
-use Rattle.report_forms.specs.declared.options.Options.{Options}
 use Rattle.sequence_parts.specs.declared.ranges.Share.{Share}
 use Rattle.geolint_files.specs.AskedLine.{IsAskedLine}
 use Rattle.geolint_files.proofs.cut.line_of.Goals as goal

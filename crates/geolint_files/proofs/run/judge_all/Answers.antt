@@ -1,7 +1,4 @@
-use Rattle.std.proofs.Common.{[], List, subst, ap, ◌∙◌}
-use Rattle.std.specs.Prelude.{map}
-use Rattle.report_forms.specs.declared.options.Options.{Options}
-use Rattle.report_forms.specs.FileCounts.{Counts}
+use Rattle.geolint_files.proofs.Common.{[], List, subst, ap, ◌∙◌, map, Options, Counts}
 use Rattle.geolint_files.specs.Run.{ToldFile, finding_in, worst_of, IsWholeReport}
 use Rattle.geolint_files.proofs.run.judge_all.Goals as goal
 

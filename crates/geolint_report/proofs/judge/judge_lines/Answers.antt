@@ -1,6 +1,5 @@
-use Rattle.std.proofs.Common.{[], refl, ◌∙◌}
+use Rattle.geolint_report.proofs.Common.{[], refl, ◌∙◌, IsWholeVerdict}
 use Rattle.gj_rules.specs.declared.records.framing.Framing.TheVariants.{Lines}
-use Rattle.gj_rules.specs.RecordFindings.{IsWholeVerdict}
 use Rattle.gj_rules.specs.RecordsStand.{limits_of}
 use Rattle.geolint_report.specs.Fed.{AreLines, AreDecidedLines}
 use Rattle.geolint_report.proofs.FileVerdicts.{Judges-fed}

@@ -1,5 +1,4 @@
-use Rattle.std.proofs.Common.{◌∙◌, sym, subst}
-use Rattle.std.specs.Prelude.{Option}
+use Rattle.geolint_report.proofs.Common.{◌∙◌, sym, subst, Option}
 use Rattle.gj_coords.specs.declared.warnings.Warnings.{Warnings}
 use Rattle.gj_rules.specs.Linter.{StandsFor, limits_of}
 use Rattle.geolint_report.specs.Judged.{JudgesQuickly}

@@ -1,7 +1,6 @@
-use Rattle.std.proofs.Common.{◌∙◌}
+use Rattle.geolint_report.proofs.Common.{◌∙◌, IsVerdict}
 use Rattle.gj_rules.specs.declared.verdict.Verdict.TheVariants.{NotJson}
 use Rattle.gj_rules.specs.Linter.{StandsFor, limits_of}
-use Rattle.gj_rules.specs.Verdict.{IsVerdict}
 use Rattle.geolint_report.specs.Fed.{IsRefused}
 use Rattle.geolint_report.proofs.FileVerdicts.{Judges-fed}
 use Rattle.geolint_report.proofs.judge.judge_text.Goals as goal

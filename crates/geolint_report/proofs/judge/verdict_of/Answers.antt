@@ -1,8 +1,6 @@
-use Rattle.std.proofs.Common.{◌≡◌, ◌++◌, [], List, ℕ, append-nil, subst, ◌∙◌}
-use Rattle.gj_json.specs.Limits.{Allowed}
+use Rattle.geolint_report.proofs.Common.{◌≡◌, ◌++◌, [], List, ℕ, append-nil, subst, ◌∙◌, Allowed, IsVerdict}
 use Rattle.gj_json.specs.Refusal.{IsRefusal}
 use Rattle.gj_rules.specs.Linter.{limits_of, Answers}
-use Rattle.gj_rules.specs.Verdict.{IsVerdict}
 use Rattle.gj_rules.specs.declared.linter.Progress.{Progress}
 use Rattle.geolint_report.proofs.judge.verdict_of.Goals as goal
 

@@ -1,7 +1,5 @@
-use Rattle.std.proofs.Common.{rules, refl, arith, inr, ◌++◌, ◌+◌, ◌≡◌, ◌∙◌, take, length, ◌≤◌, subst, length-append}
-use Rattle.std.proofs.lemmas.List.{length-take-le}
-use Rattle.std.proofs.KnownBytes.{Consumes-trans}
-use Rattle.gj_json.specs.Limits.{Allowed}
+use Rattle.geolint_report.proofs.Common.{rules, refl, arith, inr, ◌++◌, ◌+◌, ◌≡◌, ◌∙◌, take, length, ◌≤◌, subst, length-append, length-take-le}
+use Rattle.geolint_report.proofs.Common.{Consumes-trans, Allowed}
 use Rattle.geolint_report.proofs.PieceReads.{given_more, one_read, stops}
 use Rattle.geolint_report.proofs.reading_loop.read_all.Goals as goal
 

@@ -1,6 +1,4 @@
-use Rattle.std.proofs.Common.{ℕ, List, [], length, ◌+◌, ◌-◌, ◌<◌, ◌≤◌, ◌≡◌, ◌^◌}
-use Rattle.std.specs.Prelude.{◌⊎◌}
-use Rattle.std.specs.Io.KnownBytes.{Consumes}
+use Rattle.geolint_report.proofs.Common.{ℕ, List, [], length, ◌+◌, ◌-◌, ◌<◌, ◌≤◌, ◌≡◌, ◌^◌, ◌⊎◌, Consumes}
 use Rattle.geolint_report.proofs.reading_loop.read_all.Given as goal
 
 abbrev pub invariant-loop-error : goal.invariant-loop-error

@@ -1,6 +1,5 @@
-use Rattle.std.proofs.Common.{ℕ, ◌≡◌, ◌<◌, ◌-◌, ◌^◌, length, get_or}
+use Rattle.geolint_report.proofs.Common.{ℕ, ◌≡◌, ◌<◌, ◌-◌, ◌^◌, length, get_or, kinds}
 use Rattle.gj_coords.specs.declared.kind.Kind.TheVariants.{W1}
-use Rattle.gj_coords.specs.Warnings.{kinds}
 use Rattle.geolint_report.specs.Internal.SoughtPlaces.{first_or_none}
 use Rattle.geolint_report.proofs.report.first_places.Given as goal
 

@@ -1,9 +1,7 @@
-use Rattle.std.proofs.Common.{arith, ap, sym, subst, ◌∙◌, ◌≡◌, ◌<◌, ◌++◌, ◌∷◌, [], ℕ, List, length, take, get_or}
+use Rattle.geolint_report.proofs.Common.{arith, ap, sym, subst, ◌∙◌, ◌≡◌, ◌<◌, ◌++◌, ◌∷◌, [], ℕ, List, length, take, get_or, take_all, sought}
 use Rattle.std.specs.List.{filter}
 use Rattle.std.proofs.lemmas.List.Elements.{filter_more}
-use Rattle.std.proofs.lemmas.List.{take_all}
 use Rattle.geolint_report.specs.Internal.SoughtPlaces.{is_sought}
-use Rattle.geolint_report.specs.Sites.{sought}
 use Rattle.geolint_report.proofs.PlacesInOrder.{filter-short}
 use Rattle.geolint_report.proofs.report.sites_at.Goals as goal
 

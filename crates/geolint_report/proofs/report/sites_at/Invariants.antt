@@ -1,6 +1,5 @@
-use Rattle.std.proofs.Common.{ℕ, List, take, ◌≡◌, Option}
+use Rattle.geolint_report.proofs.Common.{ℕ, List, take, ◌≡◌, Option, Framing}
 use Rattle.std.specs.List.{filter}
-use Rattle.gj_rules.specs.declared.records.framing.Framing.{Framing}
 use Rattle.geolint_report.specs.Internal.SoughtPlaces.{is_sought}
 use Rattle.geolint_report.specs.Sites.{AreRight, ArePaths, NoneFound, IsUnread, sought}
 use Rattle.geolint_report.proofs.report.sites_at.Given as goal

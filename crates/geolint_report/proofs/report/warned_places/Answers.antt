@@ -1,6 +1,4 @@
-use Rattle.std.proofs.Common.{subst, sym, ℕ, List}
-use Rattle.std.specs.List.{Contains}
-use Rattle.std.specs.List.Sorted.{IsNonDecreasing}
+use Rattle.geolint_report.proofs.Common.{subst, sym, ℕ, List, Contains, IsNonDecreasing}
 use Rattle.std.proofs.lemmas.List.Kept.{IsNonDecreasingBy-filter}
 use Rattle.std.proofs.lemmas.List.Sorted.{IsNonDecreasingBy-from_sort}
 use Rattle.geolint_report.specs.Internal.SoughtPlaces.{is_sought}

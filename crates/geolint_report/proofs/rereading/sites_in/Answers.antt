@@ -1,5 +1,4 @@
-use Rattle.std.proofs.Common.{[], List, ℕ, sym, subst}
-use Rattle.std.specs.List.{Contains}
+use Rattle.geolint_report.proofs.Common.{[], List, ℕ, sym, subst, Contains}
 use Rattle.geolint_report.proofs.rereading.sites_in.Goals as goal
 
 pub returns-clause-sites : goal.returns-clause-sites

@@ -1,5 +1,4 @@
-use Rattle.std.proofs.Common.{ap, sym, ◌∙◌, Option}
-use Rattle.gj_rules.specs.declared.records.framing.Framing.{Framing}
+use Rattle.geolint_report.proofs.Common.{ap, sym, ◌∙◌, Option, Framing}
 use Rattle.geolint_report.specs.Sites.{text_limits}
 use Rattle.geolint_report.proofs.sites.text_limits.Goals as goal
 

@@ -1,7 +1,5 @@
-use Rattle.std.proofs.Common.{◌≡◌, List, sym, subst, length}
-use Rattle.std.specs.List.{All}
+use Rattle.part_lines.proofs.Common.{◌≡◌, List, sym, subst, length, All, CheckedPart}
 use Rattle.sequence_parts.specs.Checked.{IsPartOf}
-use Rattle.sequence_parts.specs.declared.checked.CheckedPart.{CheckedPart}
 use Rattle.part_lines.proofs.LinesOfParts.{true_parts, first_size}
 use Rattle.part_lines.proofs.joining.join_lines.Goals as goal
 

@@ -1,7 +1,6 @@
-use Rattle.std.proofs.Common.{List, sym, subst}
+use Rattle.part_lines.proofs.Common.{List, sym, subst, CheckedPart}
 use Rattle.std.specs.List.{Contains}
 use Rattle.std.proofs.lemmas.List.Elements.{All-push}
-use Rattle.sequence_parts.specs.declared.checked.CheckedPart.{CheckedPart}
 use Rattle.part_lines.specs.Lines.{AreAmong}
 use Rattle.part_lines.proofs.LinesOfParts.{placed_here}
 use Rattle.part_lines.proofs.joining.parts_in.Goals as goal

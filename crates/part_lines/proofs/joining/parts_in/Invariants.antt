@@ -1,5 +1,4 @@
-use Rattle.std.proofs.Common.{List}
-use Rattle.sequence_parts.specs.declared.checked.CheckedPart.{CheckedPart}
+use Rattle.part_lines.proofs.Common.{List, CheckedPart}
 use Rattle.part_lines.specs.Lines.{AreAmong, ArePlacedFrom}
 use Rattle.part_lines.proofs.joining.parts_in.Given as goal
 

@@ -1,7 +1,6 @@
-use Rattle.std.proofs.Common.{arith, ◌∙◌, ◌++◌, ◌∷◌, [], ap}
+use Rattle.part_lines.proofs.Common.{arith, ◌∙◌, ◌++◌, ◌∷◌, [], ap, Note}
 use Rattle.std.specs.Prelude.{Vec}
 use Rattle.std.specs.declared.alloc.Global.{Global}
-use Rattle.geolint_report.specs.declared.every.listing.Note.{Note}
 use Rattle.sequence_parts.specs.JoinedNotes.{moved_note}
 use Rattle.part_lines.proofs.JoinedNotes.{one-longer, none-longer}
 use Rattle.part_lines.proofs.notes.add_notes.Goals as goal

@@ -1,7 +1,6 @@
-use Rattle.std.proofs.Common.{◌≡◌, ◌≤◌, ℕ, List, vec_len}
-use Rattle.std.specs.List.{All}
+use Rattle.part_lines.proofs.Common.{◌≡◌, ◌≤◌, ℕ, List, All, Framing}
+use Rattle.std.proofs.Common.{vec_len}
 use Rattle.gj_json.specs.Limits.{Allowed}
-use Rattle.gj_rules.specs.declared.records.framing.Framing.{Framing}
 use Rattle.part_lines.specs.Internal.NotesSoFar.{AreNotesTo}
 use Rattle.part_lines.specs.Lines.{IsListedLineOf}
 use Rattle.part_lines.proofs.notes.join_notes.Given as goal

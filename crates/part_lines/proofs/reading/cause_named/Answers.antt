@@ -1,9 +1,8 @@
-use Rattle.std.proofs.Common.{◌≡◌, ℕ, List, codes, refl, sym}
+use Rattle.part_lines.proofs.Common.{◌≡◌, ℕ, List, codes, refl, sym, Code}
 use Rattle.std.specs.Fmt.{digits}
 use Rattle.gj_json.specs.declared.fault.Cause.{Cause}
 use Rattle.gj_json.specs.declared.fault.Cause.TheVariants.{Syntax, Truncated, Depth, Length}
 use Rattle.geolint_report.specs.Texts.{code_name}
-use Rattle.geolint_report.specs.declared.texts.Code.{Code}
 use Rattle.part_lines.proofs.reading.cause_named.Goals as goal
 
 not-named : (name : List ℕ) → (name ≡ codes "J1" → ⊥) → (name ≡ codes "J2" → ⊥) → (name ≡ codes "J3" → ⊥) → (name ≡ codes "J4" → ⊥) → (cause : Cause)

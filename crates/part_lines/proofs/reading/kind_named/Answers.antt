@@ -1,9 +1,7 @@
-use Rattle.std.proofs.Common.{◌≡◌, ℕ, List, codes, refl, sym}
+use Rattle.part_lines.proofs.Common.{◌≡◌, ℕ, List, codes, refl, sym, Kind, Code}
 use Rattle.std.specs.Fmt.{digits}
-use Rattle.gj_coords.specs.declared.kind.Kind.{Kind}
 use Rattle.gj_coords.specs.declared.kind.Kind.TheVariants.{W1, W2, W3, W4, W5, W6, W7, W8, W9}
 use Rattle.geolint_report.specs.Texts.{code_name}
-use Rattle.geolint_report.specs.declared.texts.Code.{Code}
 use Rattle.part_lines.proofs.reading.kind_named.Goals as goal
 
 not-named : (name : List ℕ) → (name ≡ codes "W1" → ⊥) → (name ≡ codes "W2" → ⊥) → (name ≡ codes "W3" → ⊥) → (name ≡ codes "W4" → ⊥)

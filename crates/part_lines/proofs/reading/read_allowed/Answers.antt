@@ -1,9 +1,5 @@
-use Rattle.std.proofs.Common.{List, subst}
-use Rattle.std.specs.List.{All}
-use Rattle.std.specs.Prelude.{map, codes}
+use Rattle.part_lines.proofs.Common.{List, subst, All, map, codes, Data, view}
 use Rattle.std.proofs.lemmas.Option.{IfSome_then}
-use Rattle.serde_json.specs.Data.{Data}
-use Rattle.serde_json.specs.View.{view}
 use Rattle.part_lines.specs.LineObject.{array_in, IsKindName}
 use Rattle.part_lines.proofs.ReadItems.{array-is, same-items}
 use Rattle.part_lines.proofs.reading.read_allowed.Goals as goal

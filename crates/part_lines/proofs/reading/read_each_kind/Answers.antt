@@ -1,10 +1,5 @@
-use Rattle.std.proofs.Common.{List, sym, refl, subst}
-use Rattle.std.specs.List.{All}
-use Rattle.std.specs.Prelude.{map}
-use Rattle.std.proofs.Common.{take}
+use Rattle.part_lines.proofs.Common.{List, sym, refl, subst, All, map, take, Data, view}
 use Rattle.std.proofs.lemmas.List.Elements.{All-push}
-use Rattle.serde_json.specs.Data.{Data}
-use Rattle.serde_json.specs.View.{view}
 use Rattle.part_lines.specs.LineObject.{IsKindName}
 use Rattle.part_lines.proofs.ReadItems.{seen-more, seen-all, not-all}
 use Rattle.part_lines.proofs.reading.read_each_kind.Goals as goal

@@ -1,7 +1,4 @@
-use Rattle.std.proofs.Common.{take}
-use Rattle.std.specs.List.{All}
-use Rattle.std.specs.Prelude.{map}
-use Rattle.serde_json.specs.View.{view}
+use Rattle.part_lines.proofs.Common.{take, All, map, view}
 use Rattle.part_lines.specs.LineObject.{IsKindName}
 use Rattle.part_lines.proofs.reading.read_each_kind.Given as goal
 

@@ -1,9 +1,4 @@
-use Rattle.std.proofs.Common.{◌+◌, ◌++◌, ◌∷◌, [], List, take, sym, subst}
-use Rattle.std.specs.Prelude.{map}
-use Rattle.geolint_report.specs.declared.every.listing.Note.{Note}
-use Rattle.serde_json.specs.Data.{Data}
-use Rattle.serde_json.specs.View.{view}
-use Rattle.part_lines.specs.LineObject.{AreNotes}
+use Rattle.part_lines.proofs.Common.{◌+◌, ◌++◌, ◌∷◌, [], List, take, sym, subst, map, Note, Data, view, AreNotes}
 use Rattle.part_lines.proofs.ReadItems.{seen-more, seen-all, notes-more}
 use Rattle.part_lines.proofs.reading.read_each_note.Goals as goal
 

@@ -1,6 +1,4 @@
-use Rattle.std.proofs.Common.{List, [], refl, sym, subst}
-use Rattle.serde_json.specs.Data.{Data}
-use Rattle.part_lines.specs.LineObject.{AreWarningsOf}
+use Rattle.part_lines.proofs.Common.{List, [], refl, sym, subst, Data, AreWarningsOf}
 use Rattle.part_lines.proofs.ReadItems.{seen-more, seen-all, joined-more, no-warning}
 use Rattle.part_lines.proofs.reading.read_each_warning.Goals as goal
 

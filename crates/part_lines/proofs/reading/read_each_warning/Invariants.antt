@@ -1,7 +1,4 @@
-use Rattle.std.proofs.Common.{take}
-use Rattle.std.specs.Prelude.{map}
-use Rattle.serde_json.specs.View.{view}
-use Rattle.part_lines.specs.LineObject.{AreWarningsOf}
+use Rattle.part_lines.proofs.Common.{take, map, view, AreWarningsOf}
 use Rattle.part_lines.proofs.reading.read_each_warning.Given as goal
 
 -- those before this one

@@ -1,9 +1,5 @@
-use Rattle.std.proofs.Common.{◌≡◌, ℕ, Some, refl, sym}
-use Rattle.std.specs.Prelude.{codes}
-use Rattle.gj_coords.specs.declared.warnings.Warnings.{Warnings}
+use Rattle.part_lines.proofs.Common.{◌≡◌, ℕ, Some, refl, sym, codes, Warnings, Data, view}
 use Rattle.gj_rules.specs.declared.sequence.verdict.SeqVerdict.{SeqVerdict}
-use Rattle.serde_json.specs.Data.{Data}
-use Rattle.serde_json.specs.View.{view}
 use Rattle.part_lines.specs.LineObject.{number_in, AreWarningsIn, IsVerdictIn}
 use Rattle.part_lines.proofs.reading.read_verdict.Goals as goal
 

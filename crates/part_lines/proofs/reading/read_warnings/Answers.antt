@@ -1,7 +1,4 @@
-use Rattle.std.proofs.Common.{List, subst}
-use Rattle.std.specs.Prelude.{codes}
-use Rattle.serde_json.specs.Data.{Data}
-use Rattle.serde_json.specs.View.{view}
+use Rattle.part_lines.proofs.Common.{List, subst, codes, Data, view}
 use Rattle.part_lines.specs.LineObject.{array_in, AreWarningsOf}
 use Rattle.part_lines.proofs.ReadItems.{array-is, same-items}
 use Rattle.part_lines.proofs.reading.read_warnings.Goals as goal

@@ -1,9 +1,8 @@
-use Rattle.std.proofs.Common.{◌≡◌, ℕ, List, codes, refl, sym}
+use Rattle.part_lines.proofs.Common.{◌≡◌, ℕ, List, codes, refl, sym, Code}
 use Rattle.std.specs.Fmt.{digits}
 use Rattle.gj_coords.specs.declared.fault.Rule.{Rule}
 use Rattle.gj_coords.specs.declared.fault.Rule.TheVariants.{G1, G2, G3, G4, G5, G6, G7, G8, G9, G10, G11, G12, G13, G14, G15, G16, G17, G18, G19, G20, G21}
 use Rattle.geolint_report.specs.Texts.{code_name}
-use Rattle.geolint_report.specs.declared.texts.Code.{Code}
 use Rattle.part_lines.proofs.reading.rule_named.Goals as goal
 
 not-named : (name : List ℕ) → (name ≡ codes "G1" → ⊥) → (name ≡ codes "G2" → ⊥) → (name ≡ codes "G3" → ⊥) → (name ≡ codes "G4" → ⊥)

@@ -1,7 +1,4 @@
-use Rattle.std.proofs.Common.{◌≡◌, ◌+◌, ◌++◌, ℕ, List, length, take, get_or, arith, subst, sym, true}
-use Rattle.std.specs.List.{flat_map}
-use Rattle.gj_coords.specs.Warnings.{kinds}
-use Rattle.gj_coords.specs.declared.kind.Kind.TheVariants.{W1}
+use Rattle.part_lines.proofs.Common.{◌≡◌, ◌+◌, ◌++◌, ℕ, List, length, take, get_or, arith, subst, sym, true, flat_map, kinds, W1}
 use Rattle.geolint_report.proofs.ElementsInTurn.{parts-more}
 use Rattle.report_forms.specs.Internal.WrittenCommas.{next_items}
 use Rattle.part_lines.specs.LineText.{allowed_text, allowed_kind}

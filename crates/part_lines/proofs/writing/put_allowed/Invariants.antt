@@ -1,6 +1,4 @@
-use Rattle.std.proofs.Common.{take, true}
-use Rattle.std.specs.List.{flat_map}
-use Rattle.gj_coords.specs.Warnings.{kinds}
+use Rattle.part_lines.proofs.Common.{take, true, flat_map, kinds}
 use Rattle.part_lines.specs.LineText.{allowed_kind}
 use Rattle.part_lines.proofs.WrittenItems.{Wrote}
 use Rattle.part_lines.proofs.writing.put_allowed.Given as goal

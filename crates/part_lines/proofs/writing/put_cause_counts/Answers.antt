@@ -1,7 +1,5 @@
-use Rattle.std.proofs.Common.{◌≡◌, ◌+◌, ◌++◌, ℕ, List, length, take, get_or, arith, subst, sym}
-use Rattle.std.specs.List.{flat_map}
+use Rattle.part_lines.proofs.Common.{◌≡◌, ◌+◌, ◌++◌, ℕ, List, length, take, get_or, arith, subst, sym, flat_map, Syntax}
 use Rattle.geolint_report.specs.declared.texts.TheConstants.{CAUSES}
-use Rattle.gj_json.specs.declared.fault.Cause.TheVariants.{Syntax}
 use Rattle.geolint_report.proofs.ElementsInTurn.{parts-more}
 use Rattle.part_lines.specs.LineText.{cause_counts}
 use Rattle.part_lines.proofs.WrittenItems.{Wrote, wrote-more}

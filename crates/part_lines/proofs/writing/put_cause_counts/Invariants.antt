@@ -1,5 +1,4 @@
-use Rattle.std.proofs.Common.{take}
-use Rattle.std.specs.List.{flat_map}
+use Rattle.part_lines.proofs.Common.{take, flat_map}
 use Rattle.geolint_report.specs.declared.texts.TheConstants.{CAUSES}
 use Rattle.part_lines.specs.LineText.{cause_counts}
 use Rattle.part_lines.proofs.WrittenItems.{Wrote}

@@ -1,5 +1,4 @@
-use Rattle.std.proofs.Common.{ℕ, List, ◌++◌, codes}
-use Rattle.geolint_report.specs.Texts.{code_name}
+use Rattle.part_lines.proofs.Common.{ℕ, List, ◌++◌, codes, code_name}
 use Rattle.part_lines.specs.LineText.{count_text}
 use Rattle.std.specs.Fmt.{decimal}
 use Rattle.part_lines.proofs.WrittenItems.{after}

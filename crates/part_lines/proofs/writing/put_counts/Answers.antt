@@ -1,6 +1,4 @@
-use Rattle.std.proofs.Common.{◌++◌, ℕ, List, true}
-use Rattle.std.specs.List.{flat_map}
-use Rattle.gj_coords.specs.Warnings.{kinds}
+use Rattle.part_lines.proofs.Common.{◌++◌, ℕ, List, true, flat_map, kinds}
 use Rattle.geolint_report.specs.declared.texts.TheConstants.{RULES, CAUSES}
 use Rattle.part_lines.specs.LineText.{counts_text, rule_counts, kind_counts, cause_counts}
 use Rattle.part_lines.proofs.WrittenItems.{Wrote, wrote-more}

@@ -1,9 +1,7 @@
-use Rattle.std.proofs.Common.{◌≡◌, ◌+◌, ◌++◌, ◌<◌, ℕ, Bool, List, true, false, length, take, get_or, arith, subst, sym}
+use Rattle.part_lines.proofs.Common.{◌≡◌, ◌+◌, ◌++◌, ◌<◌, ℕ, Bool, List, true, false, length, take, get_or, arith, subst, sym, flat_map, Note}
 use Rattle.std.proofs.lemmas.List.{take_all}
 use Rattle.std.proofs.Math.Bool.{and-false}
-use Rattle.std.specs.List.{flat_map}
 use Rattle.geolint_report.proofs.ElementsInTurn.{parts-more}
-use Rattle.geolint_report.specs.declared.every.listing.Note.{Note}
 use Rattle.report_forms.specs.Internal.WrittenCommas.{next_items}
 use Rattle.part_lines.specs.LineText.{notes_text, note_texts}
 use Rattle.part_lines.proofs.WrittenItems.{Wrote, wrote-more}

@@ -1,5 +1,4 @@
-use Rattle.std.proofs.Common.{take, true}
-use Rattle.std.specs.List.{flat_map}
+use Rattle.part_lines.proofs.Common.{take, true, flat_map}
 use Rattle.part_lines.specs.LineText.{note_texts}
 use Rattle.part_lines.proofs.WrittenItems.{Wrote}
 use Rattle.part_lines.proofs.writing.put_each_note.Given as goal

@@ -1,5 +1,4 @@
-use Rattle.std.proofs.Common.{ℕ, List, ◌++◌, codes}
-use Rattle.geolint_report.specs.Texts.{code_name}
+use Rattle.part_lines.proofs.Common.{ℕ, List, ◌++◌, codes, code_name}
 use Rattle.part_lines.specs.LineText.{fault_text, place_text}
 use Rattle.part_lines.proofs.WrittenItems.{after}
 use Rattle.part_lines.proofs.writing.put_fault.Goals as goal

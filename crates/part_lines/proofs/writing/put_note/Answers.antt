@@ -1,6 +1,5 @@
-use Rattle.std.proofs.Common.{ℕ, List, ◌++◌, codes}
+use Rattle.part_lines.proofs.Common.{ℕ, List, ◌++◌, codes, code_name}
 use Rattle.geolint_report.specs.Items.{item_number}
-use Rattle.geolint_report.specs.Texts.{code_name}
 use Rattle.part_lines.specs.LineText.{note_text, place_text}
 use Rattle.std.specs.Fmt.{decimal}
 use Rattle.part_lines.proofs.WrittenItems.{after}

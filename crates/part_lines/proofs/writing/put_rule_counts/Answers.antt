@@ -1,5 +1,4 @@
-use Rattle.std.proofs.Common.{◌≡◌, ◌+◌, ◌++◌, ℕ, List, length, take, get_or, arith, subst, sym}
-use Rattle.std.specs.List.{flat_map}
+use Rattle.part_lines.proofs.Common.{◌≡◌, ◌+◌, ◌++◌, ℕ, List, length, take, get_or, arith, subst, sym, flat_map}
 use Rattle.geolint_report.specs.declared.texts.TheConstants.{RULES}
 use Rattle.gj_coords.specs.declared.fault.Rule.TheVariants.{G1}
 use Rattle.geolint_report.proofs.ElementsInTurn.{parts-more}

@@ -1,6 +1,4 @@
-use Rattle.std.proofs.Common.{ℕ, List, ◌++◌, codes}
-use Rattle.geolint_report.specs.Texts.{code_name}
-use Rattle.geolint_report.specs.declared.texts.Code.{Code}
+use Rattle.part_lines.proofs.Common.{ℕ, List, ◌++◌, codes, code_name, Code}
 use Rattle.part_lines.specs.LineText.{place_text, warning_text}
 use Rattle.std.specs.Fmt.{decimal}
 use Rattle.part_lines.proofs.WrittenItems.{after}

@@ -1,6 +1,5 @@
-use Rattle.std.proofs.Common.{arith, rules}
-use Rattle.gj_join.specs.Parts.{limits_after}
-use Rattle.sequence_parts.specs.Cuts.{bytes_between}
+use Rattle.sequence_parts.proofs.Common.{arith, limits_after, bytes_between}
+use Rattle.std.proofs.Common.{rules}
 use Rattle.sequence_parts.proofs.NotesOfParts.{noted_bytes}
 use Rattle.sequence_parts.proofs.PartBounds.{read_bytes}
 use Rattle.sequence_parts.proofs.checked.check_bytes.Goals as goal

@@ -1,7 +1,5 @@
-use Rattle.std.proofs.Common.{List, ℕ, subst}
-use Rattle.std.specs.Prelude.{Option, IfSome}
+use Rattle.sequence_parts.proofs.Common.{List, ℕ, subst, Option, IfSome, CheckedPart}
 use Rattle.sequence_parts.specs.Checked.{AreNotesOfPart}
-use Rattle.sequence_parts.specs.declared.checked.CheckedPart.{CheckedPart}
 use Rattle.sequence_parts.proofs.NotesOfParts.{notes-of-part}
 use Rattle.sequence_parts.proofs.PartBounds.{known_part}
 use Rattle.sequence_parts.proofs.checked.check_part.Goals as goal

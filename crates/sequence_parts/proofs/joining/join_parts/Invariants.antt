@@ -1,7 +1,5 @@
-use Rattle.std.proofs.Common.{◌≤◌, ℕ, List, length}
+use Rattle.sequence_parts.proofs.Common.{◌≤◌, ℕ, List, length, Allowed, Framing}
 use Rattle.std.specs.List.{All}
-use Rattle.gj_json.specs.Limits.{Allowed}
-use Rattle.gj_rules.specs.declared.records.framing.Framing.{Framing}
 use Rattle.sequence_parts.specs.Checked.{AreAllParts, IsPartOf}
 use Rattle.sequence_parts.specs.Internal.Covered.{GoTo}
 use Rattle.sequence_parts.specs.Internal.JoinedSoFar.{IsJoinedTo}

@@ -1,5 +1,4 @@
-use Rattle.std.proofs.Common.{ap, sym, ◌∙◌}
-use Rattle.geolint_files.specs.declared.outcome.Outcome.{Outcome}
+use Rattle.geolint_files.proofs.Common.{ap, sym, ◌∙◌, Outcome}
 use Rattle.geolint_files.specs.Outcome.{worse}
 use Rattle.geolint_files.proofs.Runs.WorstOutcome.{worst-more}
 use Rattle.geolint_files.proofs.outcome.Outcome.add.Goals as goal

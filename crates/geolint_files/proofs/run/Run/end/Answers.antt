@@ -1,12 +1,7 @@
-use Rattle.std.proofs.Common.{refl, ap, sym, ◌∙◌, subst, ◌++◌, ◌≡◌, List, ℕ}
-use Rattle.std.specs.Prelude.{map}
-use Rattle.std.specs.Io.KnownBytes.{Appends}
+use Rattle.geolint_files.proofs.Common.{refl, ap, sym, ◌∙◌, subst, ◌++◌, ◌≡◌, List, ℕ, map, Appends, Options, Summary, Counts}
 use Rattle.std.proofs.KnownBytes.{Appends-trans, Appends-kept}
 use Rattle.geolint_report.specs.declared.every.tally.Tally.{Tally}
 use Rattle.geolint_report.specs.Tallies.{IsTotal}
-use Rattle.report_forms.specs.declared.options.Options.{Options}
-use Rattle.report_forms.specs.declared.summary.Summary.{Summary}
-use Rattle.report_forms.specs.FileCounts.{Counts}
 use Rattle.geolint_files.specs.Run.{finding_in, tallies_in, end_of, summary_in}
 use Rattle.geolint_files.proofs.run.Run.end.Goals as goal
 

@@ -1,6 +1,5 @@
-use Rattle.std.proofs.Common.{sym, subst}
+use Rattle.geolint_files.proofs.Common.{sym, subst, TellsFiles}
 use Rattle.geolint_files.specs.declared.run.Run.{Run}
-use Rattle.geolint_files.specs.Internal.RunState.{TellsFiles}
 use Rattle.geolint_files.proofs.Runs.ToldFiles.{TellsFiles-none, unchanged}
 use Rattle.geolint_files.proofs.run.Run.enter.Goals as goal
 use Rattle.geolint_files.proofs.run.Run.enter.Goals.{then-branch+in-Ok+in_ok-push_entries-in-Ok, then-branch+in-Err+in_ok-tell_unread-in-Err, else-branch}

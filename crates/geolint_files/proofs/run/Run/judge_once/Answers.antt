@@ -1,10 +1,7 @@
-use Rattle.std.proofs.Common.{refl, subst}
-use Rattle.std.specs.Prelude.{None}
+use Rattle.geolint_files.proofs.Common.{refl, subst, None, Reading, judged, not_read}
 use Rattle.std.proofs.lemmas.Result.{on_ok_weaker}
-use Rattle.geolint_report.specs.declared.judge.Reading.{Reading}
 use Rattle.geolint_report.specs.Judged.{Finds}
 use Rattle.report_forms.specs.Passing.{passes}
-use Rattle.geolint_files.specs.Run.{judged, not_read}
 use Rattle.geolint_files.proofs.Runs.ToldFiles.{TellsFile-after}
 use Rattle.geolint_files.proofs.run.Run.judge_once.Goals as goal
 

@@ -1,10 +1,6 @@
-use Rattle.std.proofs.Common.{refl, sym, subst, List, ℕ}
-use Rattle.std.specs.Prelude.{Option}
+use Rattle.geolint_files.proofs.Common.{refl, sym, subst, List, ℕ, Option, Finding, Reading, judged, not_read}
 use Rattle.std.proofs.lemmas.Result.{on_ok_weaker}
-use Rattle.geolint_report.specs.declared.judge.Finding.{Finding}
-use Rattle.geolint_report.specs.declared.judge.Reading.{Reading}
 use Rattle.geolint_report.specs.Judged.{Finds}
-use Rattle.geolint_files.specs.Run.{judged, not_read}
 use Rattle.geolint_files.specs.Told.{HasSites}
 use Rattle.geolint_files.proofs.Runs.ToldFiles.{TellsFile-after}
 use Rattle.geolint_files.proofs.run.Run.judge_twice.Goals as goal

@@ -1,13 +1,7 @@
-use Rattle.std.proofs.Common.{refl, subst, sym, ◌≡◌, ◌∙◌}
-use Rattle.std.specs.Prelude.{None}
+use Rattle.geolint_files.proofs.Common.{refl, subst, sym, ◌≡◌, ◌∙◌, None, Reading, Report, framing_in, judged, not_read, listed}
 use Rattle.std.proofs.lemmas.Result.{on_ok_weaker}
-use Rattle.geolint_report.specs.declared.judge.Reading.{Reading}
-use Rattle.geolint_report.specs.declared.report.Report.{Report}
-use Rattle.geolint_files.specs.Listed.{asked_in}
+use Rattle.geolint_files.specs.Listed.{asked_in, IsListedOnce}
 use Rattle.report_forms.specs.Passing.{passes}
-use Rattle.geolint_report.specs.Judged.{framing_in}
-use Rattle.geolint_files.specs.Listed.{IsListedOnce}
-use Rattle.geolint_files.specs.Run.{judged, not_read, listed}
 use Rattle.geolint_files.specs.Told.{reading_of}
 use Rattle.geolint_files.proofs.Runs.ListedFiles.{asked-every, asked-slowly}
 use Rattle.geolint_files.proofs.Runs.FollowedFiles.{lines-by}

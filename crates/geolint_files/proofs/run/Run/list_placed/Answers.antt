@@ -1,5 +1,4 @@
-use Rattle.std.proofs.Common.{refl, subst, List, ℕ}
-use Rattle.std.specs.Prelude.{Option}
+use Rattle.geolint_files.proofs.Common.{refl, subst, List, ℕ, Option}
 use Rattle.std.proofs.lemmas.Result.{on_ok_weaker}
 use Rattle.geolint_files.specs.Listed.{ArePlacedLines}
 use Rattle.geolint_files.proofs.Runs.ListedFiles.{TellsFile-listed}

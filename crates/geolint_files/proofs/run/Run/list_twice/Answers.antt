@@ -1,12 +1,7 @@
-use Rattle.std.proofs.Common.{refl, subst, sym, ◌≡◌, ◌∙◌, List, ℕ}
-use Rattle.std.specs.Prelude.{Option}
+use Rattle.geolint_files.proofs.Common.{refl, subst, sym, ◌≡◌, ◌∙◌, List, ℕ, Option, Finding, Reading, judged, not_read, listed}
 use Rattle.std.proofs.lemmas.Result.{on_ok_weaker}
-use Rattle.geolint_report.specs.declared.judge.Finding.{Finding}
-use Rattle.geolint_report.specs.declared.judge.Reading.{Reading}
-use Rattle.geolint_files.specs.Listed.{asked_in}
+use Rattle.geolint_files.specs.Listed.{asked_in, ArePlacedLines, IsListedTwice}
 use Rattle.geolint_report.specs.Judged.{Finds, framing_in}
-use Rattle.geolint_files.specs.Listed.{ArePlacedLines, IsListedTwice}
-use Rattle.geolint_files.specs.Run.{judged, not_read, listed}
 use Rattle.geolint_files.specs.Told.{reading_of, HasSites}
 use Rattle.geolint_files.proofs.Runs.ListedFiles.{asked-every, asked-slowly}
 use Rattle.geolint_files.proofs.Runs.ToldFiles.{TellsFile-after}

@@ -1,6 +1,5 @@
-use Rattle.std.proofs.Common.{refl, sym, subst}
+use Rattle.geolint_files.proofs.Common.{refl, sym, subst, TellsFiles}
 use Rattle.geolint_files.specs.declared.run.Run.{Run}
-use Rattle.geolint_files.specs.Internal.RunState.{TellsFiles}
 use Rattle.geolint_files.proofs.Runs.ToldFiles.{TellsFiles-none, unchanged}
 use Rattle.geolint_files.proofs.run.Run.pass_over.Goals as goal
 use Rattle.geolint_files.proofs.run.Run.pass_over.Goals.{then-is_file+in_ok-add, else-is_file}

@@ -1,7 +1,5 @@
-use Rattle.std.proofs.Common.{refl, sym, subst, ◌∙◌}
-use Rattle.std.specs.Prelude.{Bool, None}
+use Rattle.geolint_files.proofs.Common.{refl, sym, subst, ◌∙◌, Bool, None, Report}
 use Rattle.std.proofs.lemmas.Result.{on_ok_weaker}
-use Rattle.geolint_report.specs.declared.report.Report.{Report}
 use Rattle.report_forms.specs.Passing.{passes}
 use Rattle.geolint_files.specs.Told.{HasSitesIf}
 use Rattle.geolint_files.proofs.run.Run.tell_found.Goals as goal

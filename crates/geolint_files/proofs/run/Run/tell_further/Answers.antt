@@ -1,9 +1,7 @@
-use Rattle.std.proofs.Common.{rules, arith, refl, subst, sym, ◌∙◌, ◌≡◌, ◌<◌, ◌+◌, ◌^◌, [], List, ℕ}
+use Rattle.geolint_files.proofs.Common.{arith, refl, subst, sym, ◌∙◌, ◌≡◌, [], List, ℕ, Option, StandBy, framing_in}
+use Rattle.std.proofs.Common.{rules, ◌<◌, ◌+◌, ◌^◌}
 use Rattle.std.specs.Io.Iter.{u64_saturate}
-use Rattle.std.specs.Prelude.{Option}
 use Rattle.geolint_report.specs.declared.every.listing.Asked.{Asked}
-use Rattle.geolint_report.specs.Cursors.{StandBy}
-use Rattle.geolint_report.specs.Judged.{framing_in}
 use Rattle.geolint_files.specs.Listed.{asked_after, AreEntriesOf, AreNextBy, IsPlaced}
 use Rattle.geolint_files.proofs.Runs.ListedFiles.{IsTold, IsTold-none, IsTold-more, none-told, StandBy-then}
 use Rattle.geolint_files.proofs.run.Run.tell_further.Goals as goal

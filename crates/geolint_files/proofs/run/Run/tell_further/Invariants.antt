@@ -1,7 +1,4 @@
-use Rattle.std.proofs.Common.{◌≡◌}
-use Rattle.geolint_report.specs.Cursors.{StandBy}
-use Rattle.geolint_report.specs.Judged.{framing_in}
-use Rattle.geolint_files.specs.Listed.{IsPlaced}
+use Rattle.geolint_files.proofs.Common.{◌≡◌, StandBy, framing_in, IsPlaced}
 use Rattle.geolint_files.proofs.Runs.ListedFiles.{IsTold}
 use Rattle.geolint_files.proofs.run.Run.tell_further.Given as goal
 

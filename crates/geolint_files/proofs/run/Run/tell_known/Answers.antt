@@ -1,11 +1,8 @@
-use Rattle.std.proofs.Common.{◌≡◌, ◌∙◌, Some, sym, subst}
-use Rattle.std.specs.Prelude.{Option}
+use Rattle.geolint_files.proofs.Common.{◌≡◌, ◌∙◌, Some, sym, subst, Option, asked_in, listed}
 use Rattle.std.proofs.lemmas.Result.{on_ok_weaker}
 use Rattle.geolint_report.specs.declared.every.listing.Asked.{Asked}
 use Rattle.geolint_report.specs.declared.every.listing.Notes.{Notes}
 use Rattle.geolint_files.specs.JoinedRun.{IsFileOf}
-use Rattle.geolint_files.specs.Listed.{asked_in}
-use Rattle.geolint_files.specs.Run.{listed}
 use Rattle.geolint_files.proofs.run.Run.tell_known.Goals as goal
 
 pub returns : goal.returns

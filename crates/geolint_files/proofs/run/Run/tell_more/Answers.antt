@@ -1,8 +1,4 @@
-use Rattle.std.proofs.Common.{refl, ap, ◌∙◌, subst, ◌++◌, List, ℕ}
-use Rattle.std.specs.Prelude.{Vec}
-use Rattle.std.specs.declared.alloc.Global.{Global}
-use Rattle.std.specs.Io.KnownBytes.{Appends}
-use Rattle.report_forms.specs.declared.formats.sarif.Log.{Log}
+use Rattle.geolint_files.proofs.Common.{refl, ap, ◌∙◌, subst, ◌++◌, List, ℕ, Vec, Global, Appends, Log}
 use Rattle.geolint_files.proofs.Runs.ListedFiles.{TellsLines-of, TellsLines-shown}
 use Rattle.geolint_files.proofs.Runs.ToldFiles.{on_ok}
 use Rattle.geolint_files.proofs.run.Run.tell_more.Goals as goal

@@ -1,10 +1,7 @@
-use Rattle.std.proofs.Common.{rules, refl, inl, inr, subst, sym, ◌≡◌, List, ℕ, length, []}
-use Rattle.std.specs.Prelude.{Option}
+use Rattle.geolint_files.proofs.Common.{refl, subst, sym, ◌≡◌, List, ℕ, length, [], Option, StandBy, framing_in, AreEntriesOf, IsPlaced}
+use Rattle.std.proofs.Common.{rules, inl, inr}
 use Rattle.std.proofs.KnownBytes.{Keeps-refl}
 use Rattle.geolint_report.specs.declared.every.listing.Note.{Note}
-use Rattle.geolint_report.specs.Cursors.{StandBy}
-use Rattle.geolint_report.specs.Judged.{framing_in}
-use Rattle.geolint_files.specs.Listed.{AreEntriesOf, IsPlaced}
 use Rattle.geolint_files.proofs.Runs.ListedFiles.{StandBy-then, TellsLines-after, TellsLines-none}
 use Rattle.geolint_files.proofs.run.Run.tell_next.Goals as goal
 

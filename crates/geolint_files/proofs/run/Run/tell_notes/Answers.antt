@@ -1,7 +1,4 @@
-use Rattle.std.proofs.Common.{arith, refl, subst, sym, ◌∙◌, List, ℕ}
-use Rattle.std.specs.Prelude.{Option}
-use Rattle.geolint_report.specs.Cursors.{StandBy}
-use Rattle.geolint_files.specs.Listed.{IsPlaced}
+use Rattle.geolint_files.proofs.Common.{arith, refl, subst, sym, ◌∙◌, List, ℕ, Option, StandBy, IsPlaced}
 use Rattle.geolint_files.specs.Run.{feature_line}
 use Rattle.geolint_files.proofs.Runs.ListedFiles.{none-told, more-told, whole-told, StandBy-then}
 use Rattle.geolint_files.proofs.run.Run.tell_notes.Goals as goal

@@ -1,9 +1,6 @@
-use Rattle.std.proofs.Common.{◌≡◌, List, take}
-use Rattle.std.specs.Prelude.{Option}
+use Rattle.geolint_files.proofs.Common.{◌≡◌, List, Option, StandBy, TellsLines, AreEntriesOf, IsPlaced}
+use Rattle.std.proofs.Common.{take}
 use Rattle.gj_rules.specs.declared.records.framing.Framing.{Framing}
-use Rattle.geolint_report.specs.Cursors.{StandBy}
-use Rattle.geolint_files.specs.Internal.RunState.{TellsLines}
-use Rattle.geolint_files.specs.Listed.{AreEntriesOf, IsPlaced}
 use Rattle.geolint_files.specs.Run.{FeatureLine}
 use Rattle.geolint_files.proofs.run.Run.tell_notes.Given as goal
 

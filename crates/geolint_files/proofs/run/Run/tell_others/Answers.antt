@@ -1,6 +1,5 @@
-use Rattle.std.proofs.Common.{arith, ◌≡◌, ℕ, sym, subst}
+use Rattle.geolint_files.proofs.Common.{arith, ◌≡◌, ℕ, sym, subst, TellsLines}
 use Rattle.std.proofs.lemmas.Result.{on_ok_weaker}
-use Rattle.geolint_files.specs.Internal.RunState.{TellsLines}
 use Rattle.geolint_files.specs.Listed.{others_of}
 use Rattle.geolint_files.proofs.Runs.ListedFiles.{TellsLines-none, others_of-some}
 use Rattle.geolint_files.proofs.Runs.ToldFiles.{on_ok}

@@ -1,10 +1,8 @@
-use Rattle.std.proofs.Common.{rules, subst, sym, ◌≡◌, ◌<◌, ◌^◌, List, ℕ, length}
-use Rattle.std.specs.Prelude.{Option}
+use Rattle.geolint_files.proofs.Common.{subst, sym, ◌≡◌, List, ℕ, length, Option, StandBy, framing_in}
+use Rattle.std.proofs.Common.{rules, ◌<◌, ◌^◌}
 use Rattle.std.proofs.lemmas.Result.{on_ok_weaker}
 use Rattle.gj_rules.specs.declared.records.framing.Framing.{Framing}
 use Rattle.geolint_report.specs.declared.every.listing.Note.{Note}
-use Rattle.geolint_report.specs.Cursors.{StandBy}
-use Rattle.geolint_report.specs.Judged.{framing_in}
 use Rattle.geolint_files.specs.Internal.RunState.{TellsLines, ToldFurther}
 use Rattle.geolint_files.specs.Listed.{AreEntriesOf, IsPlaced, most_of, others_of}
 use Rattle.geolint_files.proofs.Runs.ListedFiles.{all-placed}

@@ -1,13 +1,7 @@
-use Rattle.std.proofs.Common.{refl, ap, sym, ◌∙◌, subst, ◌++◌, ◌∷◌, [], List, ℕ}
-use Rattle.std.specs.Prelude.{None, Vec}
-use Rattle.std.specs.declared.alloc.Global.{Global}
-use Rattle.std.specs.Io.KnownBytes.{Appends}
+use Rattle.geolint_files.proofs.Common.{refl, ap, sym, ◌∙◌, subst, ◌++◌, ◌∷◌, [], List, ℕ, None, Vec, Global, Appends, Log, Summary, Counts}
 use Rattle.std.proofs.KnownBytes.{Appends-kept}
 use Rattle.std.proofs.lemmas.Result.{on_ok_weaker}
-use Rattle.report_forms.specs.declared.formats.sarif.Log.{Log}
-use Rattle.report_forms.specs.declared.summary.Summary.{Summary}
 use Rattle.report_forms.specs.Forms.{KeepsUnread}
-use Rattle.report_forms.specs.FileCounts.{Counts}
 use Rattle.geolint_files.proofs.Runs.ToldFiles.{on_ok, kept-Appends, TellsFile-of, TellsFiles-one}
 use Rattle.geolint_files.proofs.run.Run.tell_unread.Goals as goal
 

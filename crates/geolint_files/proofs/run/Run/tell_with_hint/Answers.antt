@@ -1,14 +1,7 @@
-use Rattle.std.proofs.Common.{refl, ap, sym, ◌∙◌, subst, ◌++◌, ◌∷◌, [], List, ℕ}
-use Rattle.std.specs.Prelude.{Bool, Some, Vec}
-use Rattle.std.specs.declared.alloc.Global.{Global}
-use Rattle.std.specs.Io.KnownBytes.{Appends}
+use Rattle.geolint_files.proofs.Common.{refl, ap, sym, ◌∙◌, subst, ◌++◌, ◌∷◌, [], List, ℕ, Bool, Some, Vec, Global, Appends, Report, Log, Summary, Counts}
+use Rattle.geolint_files.proofs.Common.{Outcome}
 use Rattle.std.proofs.KnownBytes.{Appends-kept}
-use Rattle.geolint_report.specs.declared.report.Report.{Report}
-use Rattle.report_forms.specs.declared.formats.sarif.Log.{Log}
-use Rattle.report_forms.specs.declared.summary.Summary.{Summary}
 use Rattle.report_forms.specs.Forms.{IsReport, first_after}
-use Rattle.report_forms.specs.FileCounts.{Counts}
-use Rattle.geolint_files.specs.declared.outcome.Outcome.{Outcome}
 use Rattle.geolint_files.specs.Outcome.{outcome_of, worst}
 use Rattle.geolint_files.proofs.Runs.ToldFiles.{on_ok, TellsFile-of}
 use Rattle.geolint_files.proofs.run.Run.tell_with_hint.Goals as goal

@@ -1,8 +1,5 @@
-use Rattle.std.proofs.Common.{[], ◌∷◌, subst, ap, ◌∙◌}
-use Rattle.geolint_report.specs.declared.judge.Finding.{Finding}
-use Rattle.report_forms.specs.declared.options.Options.{Options}
+use Rattle.geolint_files.proofs.Common.{[], ◌∷◌, subst, ap, ◌∙◌, Finding, Options, asked_in}
 use Rattle.geolint_files.specs.JoinedRun.{IsFileOf}
-use Rattle.geolint_files.specs.Listed.{asked_in}
 use Rattle.geolint_files.specs.Run.{worst_of, IsWholeReport}
 use Rattle.geolint_files.proofs.run.joined.tell_joined.Goals as goal
 

@@ -1,10 +1,8 @@
-use Rattle.std.proofs.Common.{rules, refl, arith, [], ℕ, ◌++◌, ◌+◌, ◌≡◌, ◌∙◌, ap, sym, take, length, ◌<◌, ◌≤◌, subst, length-append}
-use Rattle.std.proofs.lemmas.List.{length-take-le}
+use Rattle.geolint_report.proofs.Common.{rules, refl, arith, [], ℕ, ◌++◌, ◌+◌, ◌≡◌, ◌∙◌, ap, sym, take, length, ◌<◌, ◌≤◌, subst, length-append}
+use Rattle.geolint_report.proofs.Common.{length-take-le, Allowed, IsVerdict}
 use Rattle.std.proofs.KnownBytes.{Consumes-nil, Consumes-trans}
-use Rattle.gj_json.specs.Limits.{Allowed}
 use Rattle.gj_rules.specs.declared.verdict.Verdict.{Verdict}
 use Rattle.gj_rules.specs.FeatureLinter.{limits_of}
-use Rattle.gj_rules.specs.Verdict.{IsVerdict}
 use Rattle.geolint_report.specs.Judged.{JudgesBy}
 use Rattle.geolint_report.proofs.FileVerdicts.{Judges-end, Judges-lasting, Consumes-none, IsVerdict-of_refusal}
 use Rattle.geolint_report.proofs.KeptNotes.{KeepsNotes-none, Lists-end, Lists-refused}

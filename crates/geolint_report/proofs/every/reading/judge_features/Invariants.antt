@@ -1,5 +1,4 @@
-use Rattle.std.proofs.Common.{ℕ, [], List, length, ◌-◌, ◌≤◌, ◌≡◌}
-use Rattle.std.specs.Io.KnownBytes.{Consumes}
+use Rattle.geolint_report.proofs.Common.{ℕ, [], List, length, ◌-◌, ◌≤◌, ◌≡◌, Consumes}
 use Rattle.gj_rules.specs.FeatureLinter.{StandsFor, limits_of}
 use Rattle.geolint_report.specs.Every.{KeepsNotes}
 use Rattle.geolint_report.proofs.every.reading.judge_features.Given as goal

@@ -1,7 +1,5 @@
-use Rattle.std.proofs.Common.{subst, sym, ◌≤◌}
-use Rattle.gj_rules.specs.declared.records.framing.Framing.{Framing}
+use Rattle.geolint_report.proofs.Common.{subst, sym, ◌≤◌, Framing, IsWholeVerdict}
 use Rattle.gj_rules.specs.declared.sequence.verdict.SeqVerdict.{SeqVerdict}
-use Rattle.gj_rules.specs.RecordFindings.{IsWholeVerdict}
 use Rattle.gj_rules.specs.Sequence.{IsSequenceVerdict}
 use Rattle.geolint_report.specs.declared.judge.Finding.{Finding}
 use Rattle.geolint_report.specs.declared.judge.Reading.{Reading}

@@ -1,8 +1,6 @@
-use Rattle.std.proofs.Common.{rules, refl, arith, [], ℕ, List, ◌++◌, ◌+◌, ◌≡◌, ◌∙◌, ap, take, length, ◌<◌, ◌≤◌, length-append, append-nil, subst}
-use Rattle.std.proofs.lemmas.List.{length-take-le}
+use Rattle.geolint_report.proofs.Common.{rules, refl, arith, [], ℕ, List, ◌++◌, ◌+◌, ◌≡◌, ◌∙◌, ap, take, length, ◌<◌, ◌≤◌, length-append, append-nil, subst}
+use Rattle.geolint_report.proofs.Common.{length-take-le, Allowed, IsWholeVerdict}
 use Rattle.std.proofs.KnownBytes.{Consumes-nil, Consumes-trans}
-use Rattle.gj_json.specs.Limits.{Allowed}
-use Rattle.gj_rules.specs.RecordFindings.{IsWholeVerdict}
 use Rattle.geolint_report.proofs.FileVerdicts.{Consumes-none, Judges-end, Judges-lasting}
 use Rattle.geolint_report.proofs.KeptRecords.{KeepsRecords-none, listed-of, verdict-of, Lists-end, Lists-lasting, fits-under}
 use Rattle.geolint_report.proofs.every.records.judge_records.Goals as goal

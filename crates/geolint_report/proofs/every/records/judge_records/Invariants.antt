@@ -1,5 +1,4 @@
-use Rattle.std.proofs.Common.{ℕ, [], List, length, ◌-◌, ◌≤◌, ◌≡◌}
-use Rattle.std.specs.Io.KnownBytes.{Consumes}
+use Rattle.geolint_report.proofs.Common.{ℕ, [], List, length, ◌-◌, ◌≤◌, ◌≡◌, Consumes}
 use Rattle.gj_rules.specs.declared.records.record.Record.{Record}
 use Rattle.gj_rules.specs.RecordsStand.{StandsFor, limits_of, framing_of}
 use Rattle.geolint_report.specs.Every.{KeepsRecords}

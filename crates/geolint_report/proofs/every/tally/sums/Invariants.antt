@@ -1,5 +1,4 @@
-use Rattle.std.proofs.Common.{◌≡◌, ◌<◌, ◌+◌, ℕ, get_or, length}
-use Rattle.std.specs.Io.Iter.{u64_saturate}
+use Rattle.geolint_report.proofs.Common.{◌≡◌, ◌<◌, ◌+◌, ℕ, get_or, length, u64_saturate}
 use Rattle.geolint_report.specs.declared.texts.TheConstants.{CODES}
 use Rattle.geolint_report.proofs.every.tally.sums.Given as goal
 

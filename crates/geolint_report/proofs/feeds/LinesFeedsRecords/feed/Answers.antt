@@ -1,5 +1,4 @@
-use Rattle.std.proofs.Common.{◌∙◌, ◌++◌, ℕ, List, [], refl, subst}
-use Rattle.gj_json.specs.Limits.{Allowed}
+use Rattle.geolint_report.proofs.Common.{◌∙◌, ◌++◌, ℕ, List, [], refl, subst, Allowed}
 use Rattle.gj_rules.specs.RecordFindings.{whole_of}
 use Rattle.gj_rules.specs.RecordsStand.{limits_of}
 use Rattle.geolint_report.specs.Fed.{AreLines, FitWithin}

@@ -1,5 +1,4 @@
-use Rattle.std.proofs.Common.{ℕ, List, ◌≡◌, ◌++◌, ap, sym, subst, ◌∙◌, Option, None}
-use Rattle.gj_rules.specs.declared.records.framing.Framing.{Framing}
+use Rattle.geolint_report.proofs.Common.{ℕ, List, ◌≡◌, ◌++◌, ap, sym, subst, ◌∙◌, Option, None, Framing}
 use Rattle.geolint_report.specs.Sites.{text_of, text_limits, has_begun}
 use Rattle.geolint_report.specs.Internal.SecondReading.{Stands}
 use Rattle.geolint_report.proofs.ToldPaths.{KeepsIn-more}

@@ -1,7 +1,6 @@
-use Rattle.std.proofs.Common.{refl, ◌≡◌, ◌+◌, ◌++◌, [], ℕ, List, true, false, ap, sym, subst, ◌∙◌, drop, get_or, nat_eq, Option, Some}
+use Rattle.geolint_report.proofs.Common.{refl, ◌≡◌, ◌+◌, ◌++◌, [], ℕ, List, true, false, ap, sym, subst, ◌∙◌, drop, get_or, Option, Some, Allowed, Framing}
+use Rattle.std.proofs.Common.{nat_eq}
 use Rattle.std.proofs.lemmas.List.{take_rest}
-use Rattle.gj_json.specs.Limits.{Allowed}
-use Rattle.gj_rules.specs.declared.records.framing.Framing.{Framing}
 use Rattle.gj_rules.specs.declared.records.framing.Framing.TheVariants.{Sequence, Lines}
 use Rattle.geolint_report.specs.Sites.{is_separator, has_separator, CanGoOn, has_begun, text_of, text_limits}
 use Rattle.geolint_report.specs.Internal.SecondReading.{Stands}

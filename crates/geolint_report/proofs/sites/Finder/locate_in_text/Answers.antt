@@ -1,6 +1,5 @@
-use Rattle.std.proofs.Common.{◌≡◌, ◌++◌, false, subst}
+use Rattle.geolint_report.proofs.Common.{◌≡◌, ◌++◌, false, subst, Allowed}
 use Rattle.std.specs.Prelude.{is_err}
-use Rattle.gj_json.specs.Limits.{Allowed}
 use Rattle.gj_json.specs.Reader.{Answers}
 use Rattle.geolint_report.proofs.ToldPaths.{CanGoOn-front, never-err}
 use Rattle.geolint_report.proofs.sites.Finder.locate_in_text.Goals as goal

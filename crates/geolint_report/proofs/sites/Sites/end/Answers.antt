@@ -1,7 +1,5 @@
-use Rattle.std.proofs.Common.{rules, arith, ◌≡◌, ◌++◌, [], ℕ, List, length, take, get_or, ap, ◌∙◌, subst, append-nil, inl, inr, ◌+◌}
-use Rattle.gj_places.specs.Counting.{StandsFor}
-use Rattle.std.proofs.lemmas.Bool.{cases_lt}
-use Rattle.geolint_report.specs.Sites.{AreRight}
+use Rattle.geolint_report.proofs.Common.{rules, arith, ◌≡◌, ◌++◌, [], ℕ, List, length, take, get_or, ap, ◌∙◌, subst, append-nil, inl, inr, ◌+◌, StandsFor}
+use Rattle.geolint_report.proofs.Common.{cases_lt, AreRight}
 use Rattle.geolint_report.proofs.FoundSites.{IsSpot-end}
 use Rattle.geolint_report.proofs.SoughtPlaces.{AllFound-settled, AllFound-passed, AllFound-unstored, AllFound-long, AllFound-reached, AllFound-stored}
 use Rattle.geolint_report.proofs.SoughtPlaces.{Seeks-passed, sought-settled}

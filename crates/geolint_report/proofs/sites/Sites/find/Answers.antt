@@ -1,7 +1,6 @@
-use Rattle.std.proofs.Common.{arith, rules, ◌≡◌, ◌<◌, ◌∙◌, inl, inr, refl, sym, subst, ℕ, List, [], ◌++◌, take, length, length-append}
-use Rattle.std.specs.List.Sorted.{IsNonDecreasing}
+use Rattle.geolint_report.proofs.Common.{arith, rules, ◌≡◌, ◌<◌, ◌∙◌, inl, inr, refl, sym, subst, ℕ, List, [], ◌++◌, take, length, length-append}
+use Rattle.geolint_report.proofs.Common.{IsNonDecreasing, length-take-le, Site}
 use Rattle.std.proofs.KnownBytes.{Consumes-nil, Consumes-trans}
-use Rattle.std.proofs.lemmas.List.{length-take-le}
 use Rattle.geolint_report.proofs.FoundSites.{RightBy-read, RightBy-reached}
 use Rattle.geolint_report.proofs.FollowedPaths.{PathsBy-read, PathsBy-reached, paths-followed}
 use Rattle.geolint_report.proofs.TextPlaces.{ToldInTexts-by}
@@ -9,7 +8,6 @@ use Rattle.geolint_report.proofs.KeptExcerpts.{Shows-begins, excerpt-same, excer
 use Rattle.geolint_report.proofs.ToldPaths.{ToldBy-reached, ToldBy-end, told-now, unfound-right, unfound-paths}
 use Rattle.geolint_report.proofs.SoughtPlaces.{FoundBy-read, FoundBy-reached, Seeks-begins}
 use Rattle.geolint_report.proofs.FileVerdicts.{Consumes-none}
-use Rattle.geolint_report.specs.declared.sites.Site.{Site}
 use Rattle.geolint_report.specs.Sites.{ToldBy}
 use Rattle.geolint_report.proofs.sites.Sites.find.Goals as goal
 use Rattle.geolint_report.proofs.sites.Sites.find.Goals.{else-loop-test, then-loop-test+in_ok-count+then-count-eq0}

@@ -1,6 +1,4 @@
-use Rattle.std.proofs.Common.{◌≡◌, ◌≤◌, ℕ, List, [], length}
-use Rattle.std.specs.Io.KnownBytes.{Consumes}
-use Rattle.std.specs.List.Sorted.{IsNonDecreasing}
+use Rattle.geolint_report.proofs.Common.{◌≡◌, ◌≤◌, ℕ, List, [], length, Consumes, IsNonDecreasing}
 use Rattle.geolint_report.specs.Sites.{AreRight, ArePaths, NoneFound, IsUnread, sought}
 use Rattle.geolint_report.specs.Internal.SecondReading.{Reaches, Follows, Tells, Shows, Seeks}
 use Rattle.geolint_report.proofs.sites.Sites.find.Given as goal

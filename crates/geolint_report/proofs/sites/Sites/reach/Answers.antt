@@ -1,13 +1,11 @@
-use Rattle.std.proofs.Common.{arith, ◌≡◌, ◌≤◌, ◌<◌, ◌+◌, ◌-◌, ◌++◌, ℕ, List, length, take, drop, get_or, ap, sym, ◌∙◌, subst, append_assoc, length-append}
-use Rattle.std.proofs.Common.{length-take-le, inl, inr, refl, IfSome, Option, []}
+use Rattle.geolint_report.proofs.Common.{arith, ◌≡◌, ◌≤◌, ◌<◌, ◌+◌, ◌-◌, ◌++◌, ℕ, List, length, take, drop, get_or, ap, sym, ◌∙◌, subst, append_assoc}
+use Rattle.geolint_report.proofs.Common.{length-append, inl, inr, refl, Option, [], StandsFor, Framing, Allowed}
+use Rattle.std.proofs.Common.{length-take-le, IfSome}
 use Rattle.std.proofs.lemmas.List.{take-append-drop}
-use Rattle.gj_places.specs.Counting.{StandsFor}
 use Rattle.gj_places.specs.declared.lines.Lines.{Lines}
 use Rattle.gj_json.specs.declared.path.Path.{Path}
-use Rattle.gj_rules.specs.declared.records.framing.Framing.{Framing}
 use Rattle.gj_places.specs.Keeping.{Keeps as KeepsLine}
 use Rattle.gj_places.specs.declared.excerpt.Excerpt.{Excerpt}
-use Rattle.gj_json.specs.Limits.{Allowed}
 use Rattle.geolint_report.specs.Sites.{IsSpot, LeadsTo, IsPathOf, IsTold, IsUnderWay, text_of}
 use Rattle.geolint_report.proofs.FoundSites.{Spot-is, take-joined}
 use Rattle.geolint_report.specs.Internal.SecondReading.{Settles, StandsIn, KeepsIn}

@@ -1,6 +1,4 @@
-use Rattle.std.proofs.Common.{arith, ◌≡◌, ◌+◌, ◌∙◌, ◌++◌, ℕ, List, length, sym, subst, length-append}
-use Rattle.std.specs.List.Sorted.{IsNonDecreasing}
-use Rattle.geolint_report.specs.Internal.SecondReading.{Seeks}
+use Rattle.geolint_report.proofs.Common.{arith, ◌≡◌, ◌+◌, ◌∙◌, ◌++◌, ℕ, List, length, sym, subst, length-append, IsNonDecreasing, Seeks}
 use Rattle.geolint_report.proofs.FollowedPaths.{Follows-piece}
 use Rattle.geolint_report.proofs.ToldPaths.{Tells-piece}
 use Rattle.geolint_report.proofs.KeptExcerpts.{Shows-piece}

@@ -1,8 +1,4 @@
-use Rattle.std.proofs.Common.{◌≡◌, ◌+◌, ◌-◌, ℕ, List, length, Option}
-use Rattle.std.specs.List.Sorted.{IsNonDecreasing}
-use Rattle.gj_json.specs.Limits.{Allowed}
-use Rattle.gj_rules.specs.declared.records.framing.Framing.{Framing}
-use Rattle.geolint_report.specs.Sites.{sought}
+use Rattle.geolint_report.proofs.Common.{◌≡◌, ◌+◌, ◌-◌, ℕ, List, length, Option, IsNonDecreasing, Allowed, Framing, sought}
 use Rattle.geolint_report.specs.Internal.SecondReading.{Reaches, Follows, Tells, Shows, Seeks}
 use Rattle.geolint_report.proofs.sites.Sites.take.Given as goal
 

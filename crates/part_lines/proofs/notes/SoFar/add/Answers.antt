@@ -1,5 +1,4 @@
-use Rattle.std.proofs.Common.{arith, ◌+◌, ◌∙◌, ◌++◌, List, refl, ap, map, take}
-use Rattle.geolint_report.specs.declared.every.listing.Note.{Note}
+use Rattle.part_lines.proofs.Common.{arith, ◌+◌, ◌∙◌, ◌++◌, List, refl, ap, map, take, Note}
 use Rattle.sequence_parts.specs.JoinedNotes.{moved_note}
 use Rattle.part_lines.specs.Internal.NotesSoFar.{records_noted}
 use Rattle.part_lines.proofs.JoinedNotes.{next-notes}

@@ -1,5 +1,4 @@
-use Rattle.std.proofs.Common.{arith, ◌≡◌, ◌+◌, ◌≤◌, ◌∙◌, ℕ, List, Option, length, take, subst}
-use Rattle.std.proofs.lemmas.List.{length-take-le}
+use Rattle.geolint_report.proofs.Common.{arith, ◌≡◌, ◌+◌, ◌≤◌, ◌∙◌, ℕ, List, Option, length, take, subst, length-take-le}
 use Rattle.geolint_report.specs.Every.{GaveBy}
 use Rattle.geolint_report.proofs.CursorPlaces.{StandsBy-more}
 use Rattle.geolint_report.proofs.every.cursor.Cursor.pass_to.Goals as goal

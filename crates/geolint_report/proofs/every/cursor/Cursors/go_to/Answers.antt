@@ -1,6 +1,5 @@
-use Rattle.std.proofs.Common.{subst, ◌∙◌}
-use Rattle.std.specs.Prelude.{Option, IfOk, IfSome}
-use Rattle.gj_rules.specs.declared.records.framing.Framing.{Framing}
+use Rattle.geolint_report.proofs.Common.{subst, ◌∙◌, Option, Framing}
+use Rattle.std.specs.Prelude.{IfOk, IfSome}
 use Rattle.geolint_report.specs.Marks.{IsMarkBy}
 use Rattle.geolint_report.proofs.every.cursor.Cursors.go_to.Goals as goal
 

@@ -1,6 +1,4 @@
-use Rattle.std.proofs.Common.{arith, ◌≡◌, ◌++◌, ◌∷◌, [], List, length-append, take, drop, sym, subst}
-use Rattle.geolint_report.specs.declared.every.listing.Asked.{Asked}
-use Rattle.geolint_report.specs.declared.every.listing.Note.{Note}
+use Rattle.geolint_report.proofs.Common.{arith, ◌≡◌, ◌++◌, ◌∷◌, [], List, length-append, take, drop, sym, subst, Asked, Note}
 use Rattle.geolint_report.specs.declared.every.tally.Tally.{Tally}
 use Rattle.geolint_report.specs.Tallies.{Tallies}
 use Rattle.geolint_report.proofs.every.listing.Listing.add.Goals as goal

@@ -1,8 +1,6 @@
-use Rattle.std.proofs.Common.{arith, refl, ◌≡◌, ◌+◌, ◌∙◌, ◌++◌, List, ℕ, length, take, get_or, ap, sym, subst, append_assoc, append-nil}
-use Rattle.std.specs.List.{flat_map}
+use Rattle.geolint_report.proofs.Common.{arith, refl, ◌≡◌, ◌+◌, ◌∙◌, ◌++◌, List, ℕ, length, take, get_or, ap, sym, subst, append_assoc, append-nil}
+use Rattle.geolint_report.proofs.Common.{flat_map, kinds, Note}
 use Rattle.gj_coords.specs.declared.kind.Kind.TheVariants.{W1}
-use Rattle.gj_coords.specs.Warnings.{kinds}
-use Rattle.geolint_report.specs.declared.every.listing.Note.{Note}
 use Rattle.geolint_report.specs.Every.{Keeps, kind_notes}
 use Rattle.geolint_report.proofs.every.listing.Listing.add_kinds.Goals as goal
 use Rattle.geolint_report.proofs.ElementsInTurn.{parts-more}

@@ -1,7 +1,4 @@
-use Rattle.std.proofs.Common.{◌≡◌, ◌++◌, List, take}
-use Rattle.std.specs.List.{flat_map}
-use Rattle.gj_coords.specs.Warnings.{kinds}
-use Rattle.geolint_report.specs.declared.every.listing.Note.{Note}
+use Rattle.geolint_report.proofs.Common.{◌≡◌, ◌++◌, List, take, flat_map, kinds, Note}
 use Rattle.geolint_report.specs.Every.{Keeps, kind_notes}
 use Rattle.geolint_report.proofs.every.listing.Listing.add_kinds.Given as goal
 

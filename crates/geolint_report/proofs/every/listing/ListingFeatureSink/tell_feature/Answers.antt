@@ -1,7 +1,5 @@
-use Rattle.std.proofs.Common.{◌++◌, ◌∷◌, [], ◌∙◌, subst, sym}
-use Rattle.std.specs.Prelude.{Option}
+use Rattle.geolint_report.proofs.Common.{◌++◌, ◌∷◌, [], ◌∙◌, subst, sym, Option, Asked}
 use Rattle.gj_coords.specs.declared.fault.Fault.{Fault}
-use Rattle.geolint_report.specs.declared.every.listing.Asked.{Asked}
 use Rattle.geolint_report.specs.declared.every.listing.Item.{Item}
 use Rattle.geolint_report.specs.Every.{Keeps, notes_by, fault_note, warning_notes}
 use Rattle.geolint_report.proofs.KeptNotes.{KeepsNotes-more}

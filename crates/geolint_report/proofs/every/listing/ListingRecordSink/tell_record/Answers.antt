@@ -1,5 +1,4 @@
-use Rattle.std.proofs.Common.{◌++◌, ◌∙◌, subst}
-use Rattle.geolint_report.specs.declared.every.listing.Asked.{Asked}
+use Rattle.geolint_report.proofs.Common.{◌++◌, ◌∙◌, subst, Asked}
 use Rattle.geolint_report.specs.Every.{Keeps, record_notes}
 use Rattle.geolint_report.proofs.KeptRecords.{KeepsRecords-more}
 use Rattle.geolint_report.proofs.every.listing.ListingRecordSink.tell_record.Goals as goal

@@ -1,7 +1,4 @@
-use Rattle.std.proofs.Common.{◌++◌, ap, sym, subst, ◌∙◌}
-use Rattle.std.specs.Prelude.{Option}
-use Rattle.gj_rules.specs.declared.records.framing.Framing.{Framing}
-use Rattle.geolint_report.specs.Sites.{text_of}
+use Rattle.geolint_report.proofs.Common.{◌++◌, ap, sym, subst, ◌∙◌, Option, Framing, text_of}
 use Rattle.geolint_report.specs.Internal.TextPaths.{Follows}
 use Rattle.geolint_report.proofs.every.text_path.TextPath.feed.Goals as goal
 use Rattle.geolint_report.proofs.FollowedPaths.{text_of-more}
