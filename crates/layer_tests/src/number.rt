@@ -1,4 +1,5 @@
 //! Numbers.
+mod cuts;
 mod literal;
 mod pair;
 mod prefix;

@@ -2,7 +2,7 @@
 
 use gj_coords::{Fault, Kind, Rule, Warnings};
 use gj_json::{Cause, JsonFault};
-use gj_rules::Verdict;
+use gj_rules::{SeqVerdict, Verdict};
 
 /// Kinds of warnings, each with its place.
 pub type Found = &'static [(Kind, u64)];
@@ -30,6 +30,17 @@ impl Wanted {
             Wanted::Valid(found) => Verdict::Valid(warnings_at(found)),
             Wanted::Broken(rule, place) => Verdict::Broken(Fault { place, rule }),
             Wanted::NotJson(cause, place) => Verdict::NotJson(JsonFault { place, cause }),
+        }
+    }
+
+    /// The verdict of so many records, or that of the record of this number.
+    pub fn sequence_verdict(self, number: u64) -> SeqVerdict {
+        match self.verdict() {
+            Verdict::Valid(warnings) => SeqVerdict::Valid {
+                records: number,
+                warnings,
+            },
+            verdict => SeqVerdict::Record { number, verdict },
         }
     }
 }

@@ -2,6 +2,8 @@
 
 ghost use Rattle.std.specs.Prelude.{◌≤◌, None, length};
 
+use crate::checks::{equal, holds, holds_at};
+use crate::rows::Wanted;
 use geolint_report::every::listing::{Asked, Item, Note, Notes, notes_for};
 use geolint_report::every::reading::judge_every;
 use geolint_report::every::tally::Tally;
@@ -10,14 +12,15 @@ use geolint_report::progress::Meter;
 use geolint_report::report::Told;
 use geolint_report::source::{Rewind, Source};
 use geolint_report::texts::Code;
-use gj_coords::{Fault, Kind, Rule, Warnings};
+use gj_coords::{Kind, Rule};
 use gj_json::{Limits, MOST_LEVELS};
-use gj_rules::{Framing, Record, RecordSink, Records, SeqVerdict, Sequence, Verdict};
+use gj_rules::{Framing, Record, RecordSink, Records, SeqVerdict, Sequence};
 use part_lines::{
     FileState, Listed, PartLine, Refusal, Settings, join_lines, join_notes, put_line, read_line,
 };
 use report_forms::options::Kinds;
 use sequence_parts::{CheckedPart, ListedPart, Misfit, Share, check_part, join_parts};
+use std::alloc::Global;
 use std::io;
 use std::process::Abort;
 
@@ -170,209 +173,217 @@ fn joined(
 const POINTS: &[u8] =
     b"\x1E{\"type\":\"Point\",\"coordinates\":[1,2]}\n\x1E{\"type\":\"Point\",\"coordinates\":[181,2]}\n\x1E{\"type\":\"Point\",\"coordinates\":[1,2]}\n";
 
+/// Some bytes, the number of a part and how many there are, where it begins and ends, and what it is.
+type Cut = (&'static [u8], u64, u64, (u64, u64), &'static str);
+
 /// Where the parts of a sequence begin and end, found by hand.
-#[test]
-fn parts_begin_and_end_there(rt: HostRuntime) -> io::Result<()> {
-    let rows: [(&[u8], u64, u64, (u64, u64), &str); 14] = [
-        (b"", 1, 1, (0, 0), "no byte"),
-        (b"", 2, 3, (0, 0), "a part of no byte"),
-        (POINTS, 1, 1, (0, 116), "one part"),
-        (POINTS, 1, 2, (0, 78), "two parts, the first"),
-        (POINTS, 2, 2, (78, 116), "two parts, the second"),
-        (
-            b"\x1E1\n\x1E\x1E\x1E2\n",
-            1,
-            2,
-            (0, 8),
-            "no cut within a run of separators, the first",
-        ),
-        (
-            b"\x1E1\n\x1E\x1E\x1E2\n",
-            2,
-            2,
-            (8, 8),
-            "no cut within a run of separators, the second: no byte",
-        ),
-        (
-            b"\x1E1\n\x1E\x1E\x1E2\n",
-            3,
-            4,
-            (6, 6),
-            "a range in which no record begins",
-        ),
-        (
-            b"\x1E1\n\x1E\x1E\x1E2\n",
-            2,
-            4,
-            (3, 8),
-            "a range that begins with a run",
-        ),
-        (
-            b"\x1E12345678\n\x1E2\n",
-            1,
-            4,
-            (0, 10),
-            "a record longer than its range",
-        ),
-        (
-            b"\x1E12345678\n\x1E2\n",
-            2,
-            4,
-            (7, 7),
-            "and a range within it",
-        ),
-        (
-            b"\x1E1\n\x1E2\n",
-            5,
-            9,
-            (5, 5),
-            "more parts than bytes, a range without a separator",
-        ),
-        (
-            b"x\x1E1\n\x1E2\n",
-            1,
-            3,
-            (0, 4),
-            "a byte before the first separator",
-        ),
-        (
-            b"x\x1E1\n\x1E2\n",
-            3,
-            3,
-            (7, 7),
-            "no record begins in the last range",
-        ),
-    ];
-    for (bytes, number, parts, wanted, case) in rows {
-        let part = part_of(&rt, bytes, number, parts, Framing::Sequence, 1 << 20)?;
-        assert_eq!(rt; (part.begin, part.end), wanted, "{}", case);
-    }
-    Ok(())
-}
+static CUTS: [Cut; 14] = [
+    (b"", 1, 1, (0, 0), "no byte"),
+    (b"", 2, 3, (0, 0), "a part of no byte"),
+    (POINTS, 1, 1, (0, 116), "one part"),
+    (POINTS, 1, 2, (0, 78), "two parts, the first"),
+    (POINTS, 2, 2, (78, 116), "two parts, the second"),
+    (
+        b"\x1E1\n\x1E\x1E\x1E2\n",
+        1,
+        2,
+        (0, 8),
+        "no cut within a run of separators, the first",
+    ),
+    (
+        b"\x1E1\n\x1E\x1E\x1E2\n",
+        2,
+        2,
+        (8, 8),
+        "no cut within a run of separators, the second: no byte",
+    ),
+    (
+        b"\x1E1\n\x1E\x1E\x1E2\n",
+        3,
+        4,
+        (6, 6),
+        "a range in which no record begins",
+    ),
+    (
+        b"\x1E1\n\x1E\x1E\x1E2\n",
+        2,
+        4,
+        (3, 8),
+        "a range that begins with a run",
+    ),
+    (
+        b"\x1E12345678\n\x1E2\n",
+        1,
+        4,
+        (0, 10),
+        "a record longer than its range",
+    ),
+    (
+        b"\x1E12345678\n\x1E2\n",
+        2,
+        4,
+        (7, 7),
+        "and a range within it",
+    ),
+    (
+        b"\x1E1\n\x1E2\n",
+        5,
+        9,
+        (5, 5),
+        "more parts than bytes, a range without a separator",
+    ),
+    (
+        b"x\x1E1\n\x1E2\n",
+        1,
+        3,
+        (0, 4),
+        "a byte before the first separator",
+    ),
+    (
+        b"x\x1E1\n\x1E2\n",
+        3,
+        3,
+        (7, 7),
+        "no record begins in the last range",
+    ),
+];
 
 /// Where the parts of lines begin and end, found by hand: each of them has the lines whose first bytes are in its range.
-#[test]
-fn parts_of_lines_begin_and_end_there(rt: HostRuntime) -> io::Result<()> {
-    let rows: [(&[u8], u64, u64, (u64, u64), &str); 10] = [
-        (b"", 2, 3, (0, 0), "a part of no byte"),
-        (b"1\n2\n3\n", 1, 1, (0, 6), "one part"),
-        (
-            b"1\n2\n3\n",
-            1,
-            2,
-            (0, 4),
-            "a range that ends within a line",
-        ),
-        (
-            b"1\n2\n3\n",
-            2,
-            2,
-            (4, 6),
-            "a range that begins within a line",
-        ),
-        (b"1\n2\n3\n", 1, 3, (0, 2), "a range that ends with a line"),
-        (
-            b"1\n2\n3\n",
-            2,
-            3,
-            (2, 4),
-            "a range that begins with a line",
-        ),
-        (b"12345678\n2\n", 2, 4, (6, 6), "a range within a line"),
-        (
-            b"12345678\n2\n",
-            4,
-            4,
-            (9, 11),
-            "a range in which a line begins",
-        ),
-        (
-            b"1\n\n\n\n2\n",
-            2,
-            4,
-            (2, 4),
-            "blank lines, which are lines",
-        ),
-        (b"1\n2", 4, 4, (3, 3), "no cut within a line without LF"),
-    ];
-    for (bytes, number, parts, wanted, case) in rows {
-        let part = part_of(&rt, bytes, number, parts, Framing::Lines, 1 << 20)?;
-        assert_eq!(rt; (part.begin, part.end), wanted, "{}", case);
+static LINE_CUTS: [Cut; 10] = [
+    (b"", 2, 3, (0, 0), "a part of no byte"),
+    (b"1\n2\n3\n", 1, 1, (0, 6), "one part"),
+    (
+        b"1\n2\n3\n",
+        1,
+        2,
+        (0, 4),
+        "a range that ends within a line",
+    ),
+    (
+        b"1\n2\n3\n",
+        2,
+        2,
+        (4, 6),
+        "a range that begins within a line",
+    ),
+    (b"1\n2\n3\n", 1, 3, (0, 2), "a range that ends with a line"),
+    (
+        b"1\n2\n3\n",
+        2,
+        3,
+        (2, 4),
+        "a range that begins with a line",
+    ),
+    (b"12345678\n2\n", 2, 4, (6, 6), "a range within a line"),
+    (
+        b"12345678\n2\n",
+        4,
+        4,
+        (9, 11),
+        "a range in which a line begins",
+    ),
+    (
+        b"1\n\n\n\n2\n",
+        2,
+        4,
+        (2, 4),
+        "blank lines, which are lines",
+    ),
+    (b"1\n2", 4, 4, (3, 3), "no cut within a line without LF"),
+];
+
+fn are_cut_there(
+    abort: &impl Abort,
+    rt: &HostRuntime,
+    cuts: &'static [Cut],
+    framing: Framing,
+) -> io::Result<()> {
+    for (bytes, number, parts, wanted, case) in cuts.iter() {
+        let part = part_of(rt, bytes, *number, *parts, framing, 1 << 20)?;
+        equal(abort, (part.begin, part.end), *wanted, case);
     }
     Ok(())
 }
 
-/// The verdict of up to nine parts is that of one reading.
 #[test]
-fn parts_are_one_reading(rt: HostRuntime) -> io::Result<()> {
-    let rows: [(&[u8], u64, &str); 9] = [
-        (b"", 1 << 20, "no byte"),
-        (b"\x1E\x1E\x1E", 1 << 20, "separators alone"),
-        (POINTS, 1 << 20, "three records, and a warning"),
-        (POINTS, 100, "a limit within the third record"),
-        (POINTS, 78, "a limit where a record begins"),
-        (
-            b"\x1E\x1E{\"type\":\"Point\",\"coordinates\":[1,2]}\n\x1E\x1E\x1E\x1E\x1E\x1E\x1E\x1E\x1E\x1E\x1E{\"type\":\"Point\",\"coordinates\":[181,2]}\n",
-            1 << 20,
-            "runs of separators",
-        ),
-        (
-            b"\x1E{\"type\":\"Point\"}\n\x1E{\"type\":\"Point\",\"coordinates\":[181,2]}\n\x1E{\"type\":\"Point\"}\n",
-            1 << 20,
-            "a fault in the first record and in the last",
-        ),
-        (
-            b"x\x1E{}\n\x1E{}\n",
-            1 << 20,
-            "a byte before the first separator",
-        ),
-        (b"{}\n{}\n{}\n", 1 << 20, "no separator"),
-    ];
-    for (bytes, most, case) in rows {
-        for parts in 1..10 {
-            assert_eq!(rt;
-                joined(&rt, bytes, parts, Framing::Sequence, most)?,
-                verdict_of(bytes, Framing::Sequence, most),
-                "{} in {} parts",
-                case,
-                parts
-            );
-        }
-    }
-    Ok(())
+fn parts_begin_and_end_there(rt: HostRuntime) -> io::Result<()> {
+    are_cut_there(&rt, &rt, &CUTS, Framing::Sequence)
+}
+
+#[test]
+fn parts_of_lines_begin_and_end_there(rt: HostRuntime) -> io::Result<()> {
+    are_cut_there(&rt, &rt, &LINE_CUTS, Framing::Lines)
 }
 
 const LINES: &[u8] =
     b"{\"type\":\"Point\",\"coordinates\":[1,2]}\n\n \t\r\n{\"type\":\"Point\",\"coordinates\":[181,2]}\r\n{\"type\":\"Point\",\"coordinates\":[1,2]}";
 
-/// The verdict of up to nine parts of lines is that of one reading.
-#[test]
-fn parts_of_lines_are_one_reading(rt: HostRuntime) -> io::Result<()> {
-    let rows: [(&[u8], u64, &str); 7] = [
-        (b"", 1 << 20, "no byte"),
-        (b"\n\r\n \n\n", 1 << 20, "blank lines alone"),
-        (LINES, 1 << 20, "three lines, and a warning"),
-        (LINES, 100, "a limit within the third line"),
-        (LINES, 42, "a limit where a line begins"),
-        (
-            b"{\"type\":\"Point\"}\n{\"type\":\"Point\",\"coordinates\":[181,2]}\n{\"type\":\"Point\"}\n",
-            1 << 20,
-            "a fault in the first line and in the last",
-        ),
-        (b"{}\n\n{}\n[", 1 << 20, "half a line at the end"),
-    ];
-    for (bytes, most, case) in rows {
+/// Some bytes, a limit on them, and what they are.
+type Input = (&'static [u8], u64, &'static str);
+
+static SEQUENCES: [Input; 9] = [
+    (b"", 1 << 20, "no byte"),
+    (b"\x1E\x1E\x1E", 1 << 20, "separators alone"),
+    (POINTS, 1 << 20, "three records, and a warning"),
+    (POINTS, 100, "a limit within the third record"),
+    (POINTS, 78, "a limit where a record begins"),
+    (
+        b"\x1E\x1E{\"type\":\"Point\",\"coordinates\":[1,2]}\n\x1E\x1E\x1E\x1E\x1E\x1E\x1E\x1E\x1E\x1E\x1E{\"type\":\"Point\",\"coordinates\":[181,2]}\n",
+        1 << 20,
+        "runs of separators",
+    ),
+    (
+        b"\x1E{\"type\":\"Point\"}\n\x1E{\"type\":\"Point\",\"coordinates\":[181,2]}\n\x1E{\"type\":\"Point\"}\n",
+        1 << 20,
+        "a fault in the first record and in the last",
+    ),
+    (
+        b"x\x1E{}\n\x1E{}\n",
+        1 << 20,
+        "a byte before the first separator",
+    ),
+    (b"{}\n{}\n{}\n", 1 << 20, "no separator"),
+];
+
+static LINE_INPUTS: [Input; 7] = [
+    (b"", 1 << 20, "no byte"),
+    (b"\n\r\n \n\n", 1 << 20, "blank lines alone"),
+    (LINES, 1 << 20, "three lines, and a warning"),
+    (LINES, 100, "a limit within the third line"),
+    (LINES, 42, "a limit where a line begins"),
+    (
+        b"{\"type\":\"Point\"}\n{\"type\":\"Point\",\"coordinates\":[181,2]}\n{\"type\":\"Point\"}\n",
+        1 << 20,
+        "a fault in the first line and in the last",
+    ),
+    (b"{}\n\n{}\n[", 1 << 20, "half a line at the end"),
+];
+
+/// The verdict of up to nine parts is that of one reading.
+fn are_one_reading(
+    abort: &impl Abort,
+    rt: &HostRuntime,
+    inputs: &'static [Input],
+    framing: Framing,
+) -> io::Result<()> {
+    for (bytes, most, case) in inputs.iter() {
+        let whole = verdict_of(bytes, framing, *most);
         for parts in 1..10 {
-            assert_eq!(rt;
-                joined(&rt, bytes, parts, Framing::Lines, most)?,
-                verdict_of(bytes, Framing::Lines, most),
-                "{} in {} parts",
-                case,
-                parts
-            );
+            let all = joined(rt, bytes, parts as u64, framing, *most)?;
+            holds_at(abort, all == whole, case, parts);
         }
     }
     Ok(())
+}
+
+#[test]
+fn parts_are_one_reading(rt: HostRuntime) -> io::Result<()> {
+    are_one_reading(&rt, &rt, &SEQUENCES, Framing::Sequence)
+}
+
+#[test]
+fn parts_of_lines_are_one_reading(rt: HostRuntime) -> io::Result<()> {
+    are_one_reading(&rt, &rt, &LINE_INPUTS, Framing::Lines)
 }
 
 /// Parts that are not those of a text, one after the other, are refused.
@@ -380,26 +391,38 @@ fn parts_of_lines_are_one_reading(rt: HostRuntime) -> io::Result<()> {
 fn parts_out_of_order_are_refused(rt: HostRuntime) -> io::Result<()> {
     let first = part_of(&rt, POINTS, 1, 2, Framing::Sequence, 1 << 20)?;
     let second = part_of(&rt, POINTS, 2, 2, Framing::Sequence, 1 << 20)?;
-    assert!(rt; join_parts(&[first, second], 116).is_ok());
-    for (parts, case) in [
-        ([second, first], "in another order"),
-        ([first, first], "one of them twice"),
-    ] {
-        assert!(rt;
-            join_parts(&parts, 116) == Err(Misfit::NotInOrder),
-            "{}",
-            case
-        );
-    }
-    assert!(rt;
-        join_parts(&[first], 116) == Err(Misfit::NotInOrder),
-        "the last one missing"
+    let refused = Err(Misfit::NotInOrder);
+    holds(&rt, join_parts(&[first, second], 116).is_ok(), "in order");
+    holds(
+        &rt,
+        join_parts(&[second, first], 116) == refused,
+        "in another order",
     );
-    assert!(rt;
-        join_parts(&[second], 116) == Err(Misfit::NotInOrder),
-        "the first one missing"
+    holds(
+        &rt,
+        join_parts(&[first, first], 116) == refused,
+        "one of them twice",
+    );
+    holds(
+        &rt,
+        join_parts(&[first], 116) == refused,
+        "the last one missing",
+    );
+    holds(
+        &rt,
+        join_parts(&[second], 116) == refused,
+        "the first one missing",
     );
     Ok(())
+}
+
+/// A part within a file of 116 bytes.
+fn part_with(verdict: SeqVerdict) -> CheckedPart {
+    CheckedPart {
+        begin: 40,
+        end: 99,
+        verdict,
+    }
 }
 
 /// The line of a part of a file of 116 bytes.
@@ -428,59 +451,51 @@ fn line_of(rt: &HostRuntime, number: u64, checked: CheckedPart) -> io::Result<Pa
     })
 }
 
-/// A line as it is written, and as it is written once more after it was read.
+/// Tests a line as it is written, and as it is written once more after it was read.
+fn is_written_so(rt: &impl Abort, alloc: Global, line: &PartLine, wanted: &str) -> io::Result<()> {
+    let mut written = Vec::new(alloc);
+    put_line(alloc, line, &mut written)?;
+    holds(rt, written.as_slice() == wanted.as_bytes(), wanted);
+    match read_line(alloc, wanted) {
+        Ok(read) => {
+            let mut again = Vec::new(alloc);
+            put_line(alloc, &read, &mut again)?;
+            holds(rt, again.as_slice() == wanted.as_bytes(), wanted);
+            holds(rt, read.checked.verdict == line.checked.verdict, wanted);
+        }
+        Err(_) => holds(rt, false, wanted),
+    }
+    Ok(())
+}
+
+/// The framing of a part, how many records it has or which decides, with its verdict, and its line.
+static WRITTEN: [(Framing, u64, Wanted, &str); 2] = [
+    (
+        Framing::Sequence,
+        12,
+        Wanted::Valid(&[
+            (Kind::W5, 30),
+            (Kind::W5, 20),
+            (Kind::W1, 7),
+            (Kind::W5, 25),
+        ]),
+        "{\"geolint_part\":1,\"part\":2,\"parts\":2,\"path\":\"a \\\"b\\\".geojsons\",\"size\":116,\"modified\":\"17.000000005\",\"framing\":\"seq\",\"max_bytes\":1000,\"strict\":true,\"allow\":[\"W4\",\"W9\"],\"begin\":40,\"end\":99,\"records\":12,\"warnings\":[{\"kind\":\"W1\",\"count\":1,\"at\":47},{\"kind\":\"W5\",\"count\":3,\"at\":60}]}\n",
+    ),
+    (
+        Framing::Lines,
+        3,
+        Wanted::Broken(Rule::G15, 5),
+        "{\"geolint_part\":1,\"part\":2,\"parts\":2,\"path\":\"a \\\"b\\\".geojsons\",\"size\":116,\"modified\":\"17.000000005\",\"framing\":\"ndjson\",\"max_bytes\":1000,\"strict\":true,\"allow\":[\"W4\",\"W9\"],\"begin\":40,\"end\":99,\"record\":3,\"fault\":\"G15\",\"at\":45}\n",
+    ),
+];
+
 #[test]
 fn lines_are_read_as_they_are_written(rt: HostRuntime) -> io::Result<()> {
-    let warnings = Warnings::none()
-        .add(Kind::W5, 30)
-        .add(Kind::W5, 20)
-        .add(Kind::W1, 7)
-        .add(Kind::W5, 25);
-    let broken = Verdict::Broken(Fault {
-        place: 5,
-        rule: Rule::G15,
-    });
-    let rows = [
-        (
-            Framing::Sequence,
-            SeqVerdict::Valid {
-                records: 12,
-                warnings,
-            },
-            "{\"geolint_part\":1,\"part\":2,\"parts\":2,\"path\":\"a \\\"b\\\".geojsons\",\"size\":116,\"modified\":\"17.000000005\",\"framing\":\"seq\",\"max_bytes\":1000,\"strict\":true,\"allow\":[\"W4\",\"W9\"],\"begin\":40,\"end\":99,\"records\":12,\"warnings\":[{\"kind\":\"W1\",\"count\":1,\"at\":47},{\"kind\":\"W5\",\"count\":3,\"at\":60}]}\n",
-        ),
-        (
-            Framing::Lines,
-            SeqVerdict::Record {
-                number: 3,
-                verdict: broken,
-            },
-            "{\"geolint_part\":1,\"part\":2,\"parts\":2,\"path\":\"a \\\"b\\\".geojsons\",\"size\":116,\"modified\":\"17.000000005\",\"framing\":\"ndjson\",\"max_bytes\":1000,\"strict\":true,\"allow\":[\"W4\",\"W9\"],\"begin\":40,\"end\":99,\"record\":3,\"fault\":\"G15\",\"at\":45}\n",
-        ),
-    ];
-    for (framing, verdict, wanted) in rows {
-        let mut line = line_of(
-            &rt,
-            2,
-            CheckedPart {
-                begin: 40,
-                end: 99,
-                verdict,
-            },
-        )?;
-        line.settings.framing = framing;
-        let mut written = Vec::new(rt.alloc());
-        put_line(rt.alloc(), &line, &mut written)?;
-        assert_eq!(rt; written.as_slice(), wanted.as_bytes());
-        match read_line(rt.alloc(), wanted) {
-            Ok(read) => {
-                let mut again = Vec::new(rt.alloc());
-                put_line(rt.alloc(), &read, &mut again)?;
-                assert_eq!(rt; again.as_slice(), wanted.as_bytes());
-                assert!(rt; read.checked.verdict == verdict, "{}", wanted);
-            }
-            Err(_) => assert!(rt; false, "{}", wanted),
-        }
+    for (framing, number, found, wanted) in WRITTEN.iter() {
+        let verdict = found.sequence_verdict(*number);
+        let mut line = line_of(&rt, 2, part_with(verdict))?;
+        line.settings.framing = *framing;
+        is_written_so(&rt, rt.alloc(), &line, wanted)?;
     }
     Ok(())
 }
@@ -492,26 +507,46 @@ fn lines_are_joined_or_refused(rt: HostRuntime) -> io::Result<()> {
     let second = part_of(&rt, POINTS, 2, 2, Framing::Sequence, 1000)?;
     let whole = Ok(verdict_of(POINTS, Framing::Sequence, 1000));
     let alloc = rt.alloc();
-    assert!(rt; join_lines(alloc, &[line_of(&rt, 1, first)?, line_of(&rt, 2, second)?]) == whole);
-    assert!(rt; join_lines(alloc, &[line_of(&rt, 2, second)?, line_of(&rt, 1, first)?]) == whole);
-    assert!(rt; join_lines(alloc, &[]) == Err(Refusal::None));
-    assert!(rt; join_lines(alloc, &[line_of(&rt, 2, second)?]) == Err(Refusal::Missing(1)));
-    assert!(rt;
-        join_lines(alloc, &[line_of(&rt, 1, first)?, line_of(&rt, 1, first)?])
-            == Err(Refusal::Twice(1))
+    let all = [line_of(&rt, 1, first)?, line_of(&rt, 2, second)?];
+    holds(&rt, join_lines(alloc, &all) == whole, "in order");
+    let all = [line_of(&rt, 2, second)?, line_of(&rt, 1, first)?];
+    holds(&rt, join_lines(alloc, &all) == whole, "in another order");
+    holds(&rt, join_lines(alloc, &[]) == Err(Refusal::None), "no line");
+    let all = [line_of(&rt, 2, second)?];
+    holds(
+        &rt,
+        join_lines(alloc, &all) == Err(Refusal::Missing(1)),
+        "one alone",
+    );
+    let all = [line_of(&rt, 1, first)?, line_of(&rt, 1, first)?];
+    holds(
+        &rt,
+        join_lines(alloc, &all) == Err(Refusal::Twice(1)),
+        "one twice",
     );
     let mut other = line_of(&rt, 2, second)?;
     other.file.size = 117;
-    assert!(rt; join_lines(alloc, &[line_of(&rt, 1, first)?, other]) == Err(Refusal::Changed(1)));
+    let all = [line_of(&rt, 1, first)?, other];
+    holds(
+        &rt,
+        join_lines(alloc, &all) == Err(Refusal::Changed(1)),
+        "another size",
+    );
     let mut other = line_of(&rt, 2, second)?;
     other.settings.strict = false;
-    assert!(rt;
-        join_lines(alloc, &[line_of(&rt, 1, first)?, other]) == Err(Refusal::OtherOptions(1))
+    let all = [line_of(&rt, 1, first)?, other];
+    holds(
+        &rt,
+        join_lines(alloc, &all) == Err(Refusal::OtherOptions(1)),
+        "not strict",
     );
     let mut other = line_of(&rt, 2, second)?;
     other.settings.framing = Framing::Lines;
-    assert!(rt;
-        join_lines(alloc, &[line_of(&rt, 1, first)?, other]) == Err(Refusal::OtherOptions(1))
+    let all = [line_of(&rt, 1, first)?, other];
+    holds(
+        &rt,
+        join_lines(alloc, &all) == Err(Refusal::OtherOptions(1)),
+        "another framing",
     );
     Ok(())
 }
@@ -522,58 +557,39 @@ const ASKED: Asked = Asked {
     room: 5,
 };
 
-/// A part that lists what is found in its records, as it is written, and as it is written once more after it was read.
+/// The number of a record, and what is found of it where.
+static NOTED: [(u64, Code, u64); 2] = [
+    (2, Code::Rule(Rule::G15), 5),
+    (9, Code::Kind(Kind::W3), 59),
+];
+
+const LISTED: &str =
+    "{\"geolint_part\":1,\"part\":2,\"parts\":2,\"path\":\"a \\\"b\\\".geojsons\",\"size\":116,\"modified\":\"17.000000005\",\"framing\":\"seq\",\"max_bytes\":1000,\"strict\":true,\"allow\":[\"W4\",\"W9\"],\"begin\":40,\"end\":99,\"records\":1,\"warnings\":[],\"every\":\"warnings\",\"most\":5,\"items\":1,\"items_broken\":1,\"counts\":[{\"code\":\"G15\",\"count\":1},{\"code\":\"W3\",\"count\":1}],\"findings\":7,\"listed\":[{\"record\":2,\"code\":\"G15\",\"at\":45},{\"record\":9,\"code\":\"W3\",\"at\":99}]}\n";
+
+/// A part that lists what is found in its records.
 #[test]
 fn listed_findings_are_read_as_they_are_written(rt: HostRuntime) -> io::Result<()> {
-    let alloc = rt.alloc();
     let mut notes = Notes {
-        notes: Vec::new(alloc),
+        notes: Vec::new(rt.alloc()),
         count: 7,
         tally: Tally::none(),
     };
     notes.tally.add_item();
-    for (number, code, place) in [(2, Code::Rule(Rule::G15), 5), (9, Code::Kind(Kind::W3), 59)] {
-        let note = Note {
-            item: Item::Record(number),
-            told: Told { code, place },
+    for (number, code, place) in NOTED.iter() {
+        let told = Told {
+            code: *code,
+            place: *place,
         };
-        notes.tally.add_note(note);
-        match notes.notes.push(note) {
-            Ok(()) => {}
-            Err(_) => return Err(io::Error::from(io::ErrorKind::OutOfMemory)),
-        }
+        let item = Item::Record(*number);
+        notes.tally.add_note(Note { item, told });
+        notes.notes.push(Note { item, told })?;
     }
-    let verdict = SeqVerdict::Valid {
-        records: 1,
-        warnings: Warnings::none(),
-    };
-    let mut line = line_of(
-        &rt,
-        2,
-        CheckedPart {
-            begin: 40,
-            end: 99,
-            verdict,
-        },
-    )?;
+    let mut line = line_of(&rt, 2, part_with(Wanted::Valid(&[]).sequence_verdict(1)))?;
     line.listed = Some(Listed {
         asked: ASKED,
         notes,
     });
-    let mut written = Vec::new(alloc);
-    put_line(alloc, &line, &mut written)?;
-    let wanted =
-        "{\"geolint_part\":1,\"part\":2,\"parts\":2,\"path\":\"a \\\"b\\\".geojsons\",\"size\":116,\"modified\":\"17.000000005\",\"framing\":\"seq\",\"max_bytes\":1000,\"strict\":true,\"allow\":[\"W4\",\"W9\"],\"begin\":40,\"end\":99,\"records\":1,\"warnings\":[],\"every\":\"warnings\",\"most\":5,\"items\":1,\"items_broken\":1,\"counts\":[{\"code\":\"G15\",\"count\":1},{\"code\":\"W3\",\"count\":1}],\"findings\":7,\"listed\":[{\"record\":2,\"code\":\"G15\",\"at\":45},{\"record\":9,\"code\":\"W3\",\"at\":99}]}\n";
-    assert_eq!(rt; written.as_slice(), wanted.as_bytes());
-    match read_line(alloc, wanted) {
-        Ok(read) => {
-            let mut again = Vec::new(alloc);
-            put_line(alloc, &read, &mut again)?;
-            assert_eq!(rt; again.as_slice(), wanted.as_bytes());
-        }
-        Err(_) => assert!(rt; false, "{}", wanted),
-    }
-    Ok(())
+    is_written_so(&rt, rt.alloc(), &line, LISTED)
 }
 
 /// The notes of one reading.
@@ -598,62 +614,60 @@ fn notes_of(rt: &HostRuntime, bytes: &'static [u8], framing: Framing) -> io::Res
     }
 }
 
+/// The lines of all parts, with what is found in them.
+fn lines_of(
+    rt: &HostRuntime,
+    bytes: &'static [u8],
+    parts: u64,
+    framing: Framing,
+) -> io::Result<Vec<PartLine>> {
+    let mut lines = Vec::new(rt.alloc());
+    for before in 0..parts {
+        let found = listed_part_of(rt, bytes, before + 1, parts, framing, 1 << 20, Some(ASKED))?;
+        let Some(share) = Share::new(before + 1, parts) else {
+            return Err(io::Error::from(io::ErrorKind::InvalidInput));
+        };
+        let mut line = line_of(rt, 1, found.part)?;
+        line.file.size = bytes.len() as u64;
+        line.share = share;
+        line.listed = match found.notes {
+            Some(notes) => Some(Listed {
+                asked: ASKED,
+                notes,
+            }),
+            None => None,
+        };
+        lines.push(line)?;
+    }
+    Ok(lines)
+}
+
+static LISTED_INPUTS: [(&[u8], Framing, &str); 5] = [
+    (POINTS, Framing::Sequence, "a warning"),
+    (LINES, Framing::Lines, "lines with a warning"),
+    (
+        b"x\x1E{\"type\":\"Point\"}\n\x1E{\"type\":\"Point\",\"coordinates\":[181,2]}\n\x1E[\n",
+        Framing::Sequence,
+        "a byte before the first separator",
+    ),
+    (
+        b"{}\n\n{}\n[\n{\"type\":\"Point\",\"coordinates\":[181,2]}\n{}\n{}\n{}",
+        Framing::Lines,
+        "more findings than are asked for",
+    ),
+    (b"", Framing::Lines, "no byte"),
+];
+
 /// The findings of up to nine parts are those of one reading.
 #[test]
 fn findings_of_parts_are_those_of_one_reading(rt: HostRuntime) -> io::Result<()> {
-    let rows: [(&[u8], Framing, &str); 5] = [
-        (POINTS, Framing::Sequence, "a warning"),
-        (LINES, Framing::Lines, "lines with a warning"),
-        (
-            b"x\x1E{\"type\":\"Point\"}\n\x1E{\"type\":\"Point\",\"coordinates\":[181,2]}\n\x1E[\n",
-            Framing::Sequence,
-            "a byte before the first separator",
-        ),
-        (
-            b"{}\n\n{}\n[\n{\"type\":\"Point\",\"coordinates\":[181,2]}\n{}\n{}\n{}",
-            Framing::Lines,
-            "more findings than are asked for",
-        ),
-        (b"", Framing::Lines, "no byte"),
-    ];
-    let alloc = rt.alloc();
-    for (bytes, framing, case) in rows {
-        let whole = notes_of(&rt, bytes, framing)?;
+    for (bytes, framing, case) in LISTED_INPUTS.iter() {
+        let whole = notes_of(&rt, bytes, *framing)?;
         for parts in 1..10 {
-            let mut lines = Vec::new(alloc);
-            for before in 0..parts {
-                let found = listed_part_of(
-                    &rt,
-                    bytes,
-                    before + 1,
-                    parts,
-                    framing,
-                    1 << 20,
-                    Some(ASKED),
-                )?;
-                let Some(share) = Share::new(before + 1, parts) else {
-                    return Err(io::Error::from(io::ErrorKind::InvalidInput));
-                };
-                let mut line = line_of(&rt, 1, found.part)?;
-                line.file.size = bytes.len() as u64;
-                line.share = share;
-                line.listed = match found.notes {
-                    Some(notes) => Some(Listed {
-                        asked: ASKED,
-                        notes,
-                    }),
-                    None => None,
-                };
-                match lines.push(line) {
-                    Ok(()) => {}
-                    Err(_) => return Err(io::Error::from(io::ErrorKind::OutOfMemory)),
-                }
-            }
-            match join_notes(alloc, lines.as_slice(), ASKED) {
-                Ok(joined) => {
-                    assert!(rt; are_alike(&joined, &whole), "{} in {} parts", case, parts);
-                }
-                Err(_) => assert!(rt; false, "{} in {} parts", case, parts),
+            let lines = lines_of(&rt, bytes, parts as u64, *framing)?;
+            match join_notes(rt.alloc(), lines.as_slice(), ASKED) {
+                Ok(joined) => holds_at(&rt, are_alike(&joined, &whole), case, parts),
+                Err(_) => holds_at(&rt, false, case, parts),
             }
         }
     }

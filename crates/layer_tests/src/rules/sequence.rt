@@ -5,7 +5,7 @@ use crate::rows::Wanted;
 use crate::rows::Wanted::{Broken, NotJson, Valid};
 use gj_coords::{Kind, Rule};
 use gj_json::{Cause, Limits, MOST_LEVELS};
-use gj_rules::{SeqProgress, SeqVerdict, Sequence, Verdict};
+use gj_rules::{SeqProgress, SeqVerdict, Sequence};
 use std::process::Abort;
 
 const MOST: u64 = 1 << 60;
@@ -22,17 +22,6 @@ const MARKED: &[u8] =
 
 fn start(depth: u16, bytes: u64) -> Sequence {
     Sequence::new(Limits::new(depth, bytes).unwrap_or(Limits::usual()))
-}
-
-/// The verdict of so many records, or that of the record of this number.
-fn verdict_of(number: u64, wanted: Wanted) -> SeqVerdict {
-    match wanted.verdict() {
-        Verdict::Valid(warnings) => SeqVerdict::Valid {
-            records: number,
-            warnings,
-        },
-        verdict => SeqVerdict::Record { number, verdict },
-    }
 }
 
 /// The verdict of an input in two pieces.
@@ -123,7 +112,7 @@ static ROWS: [(&[u8], u64, Wanted); 22] = [
 #[test]
 fn rows(rt: HostRuntime) {
     for (input, number, wanted) in ROWS.iter() {
-        let verdict = verdict_of(*number, *wanted);
+        let verdict = wanted.sequence_verdict(*number);
         in_any_cutting(&rt, MOST_LEVELS, MOST, input, verdict);
     }
 }
@@ -175,7 +164,7 @@ static LIMITED: [(u16, u64, &[u8], u64, Wanted); 13] = [
 #[test]
 fn limits(rt: HostRuntime) {
     for (depth, bytes, input, number, wanted) in LIMITED.iter() {
-        let verdict = verdict_of(*number, *wanted);
+        let verdict = wanted.sequence_verdict(*number);
         in_any_cutting(&rt, *depth, *bytes, input, verdict);
     }
 }
@@ -207,7 +196,7 @@ fn progress(rt: HostRuntime) {
             equal(&rt, open, (2, 0), row);
         }
     }
-    let verdict = verdict_of(2, Broken(Rule::G1, 39));
+    let verdict = Broken(Rule::G1, 39).sequence_verdict(2);
     holds(&rt, sequence.finish() == verdict, "the verdict");
 }
 
@@ -240,6 +229,6 @@ fn a_record_of_ten_million_bytes(rt: HostRuntime) {
     equal(&rt, sequence.levels(), 1, "its array is open");
     let decided = sequence.feed(b"]\n\x1E") == SeqProgress::Decided;
     holds(&rt, decided, "it breaks a rule");
-    let verdict = verdict_of(3, Broken(Rule::G1, 10_000_086));
+    let verdict = Broken(Rule::G1, 10_000_086).sequence_verdict(3);
     holds(&rt, sequence.finish() == verdict, "the verdict");
 }

@@ -1,16 +1,17 @@
-//! Positions given as one `Flat`, beside the same given event by event.
+//! Positions given as one `Flat`, or many at a time by their cut values, beside the same given event by event.
 use super::both::{Both, Row, WarnedRow, faults_of, warnings_of};
 use crate::checks::{equal, holds};
 use crate::coords::sample::tell;
 use gj_coords::{Coordinates, SimpleFaults, Warnings};
-use gj_json::{Event, EventSink, Flat};
+use gj_json::{CutPosition, Event, EventSink, Flat};
 use std::process::Abort;
 
-/// Takes each `Flat` of the reader as one, and counts it.
+/// Takes each `Flat` of the reader as one, and positions by their cut values, and counts both.
 #[derive(Drop)]
 pub struct Grouped {
     walk: Coordinates,
     flats: u64,
+    cuts: usize,
 }
 
 impl Grouped {
@@ -18,6 +19,7 @@ impl Grouped {
         Grouped {
             walk: Coordinates::new(),
             flats: 0,
+            cuts: 0,
         }
     }
 
@@ -66,6 +68,12 @@ impl EventSink for Grouped {
         self.flats = self.flats.saturating_add(1);
     }
 
+    fn tell_positions(&mut self, positions: &[CutPosition]) -> usize {
+        let taken = self.walk.take_cuts(positions);
+        self.cuts = self.cuts.saturating_add(taken);
+        taken
+    }
+
     fn ignored(&self) -> u16 {
         0
     }
@@ -82,7 +90,7 @@ fn read(text: &str, grouped: &mut Grouped) {
     tell(&piece, grouped);
 }
 
-fn expect_same(rt: &impl Abort, text: &str, flats: u64) {
+fn expect_same(rt: &impl Abort, text: &str, flats: u64, cuts: usize) {
     let both = Both::of_text(text);
     let mut grouped = Grouped::new();
     read("[[[1,2],[3,4],[5,6],[7,8],[9,10]", &mut grouped);
@@ -90,6 +98,7 @@ fn expect_same(rt: &impl Abort, text: &str, flats: u64) {
     grouped.flats = 0;
     read(text, &mut grouped);
     equal(rt, grouped.flats, flats, text);
+    holds(rt, grouped.cuts == cuts, text);
     grouped.expect_as(rt, &both, text);
     grouped.expect_at_once(rt, text);
 }
@@ -195,6 +204,68 @@ static TOLD: [(&str, u64); 15] = [
 #[test]
 fn told_as_one_or_by_events(rt: HostRuntime) {
     for (text, flats) in TOLD.iter() {
-        expect_same(&rt, text, *flats);
+        expect_same(&rt, text, *flats, 0);
+    }
+}
+
+/// A value, how many arrays in it are told as one, and how many as their cut values: those from the tenth on before the
+/// first that needs more than its cut values.
+static MANY: [(&str, u64, usize); 10] = [
+    (
+        "[[0.5,0.5],[1.5,0.5],[2.5,0.5],[3.5,0.5],[4.5,0.5],[5.5,0.5],[6.5,0.5],[7.5,0.5],[8.5,0.5],[9.5,0.5],[-9.5,0.25],[9.5,-1.5],[0.5,0.5]]",
+        10,
+        3,
+    ),
+    (
+        "[[[0.5,0.5],[1.5,0.5],[2.5,0.5],[3.5,0.5],[4.5,0.5],[5.5,0.5],[6.5,0.5],[7.5,0.5],[8.5,0.5],[9.5,0.5],[9.5,9.25],[-9.5,9.5],[0.5,0.5]]]",
+        10,
+        3,
+    ),
+    (
+        "[[[0.5,0.5],[1.5,0.5],[2.5,0.5],[3.5,0.5],[4.5,0.5],[5.5,0.5],[6.5,0.5],[7.5,0.5],[8.5,0.5],[9.5,0.5],[9.5,-9.25],[-9.5,-9.5],[0.5,0.5]]]",
+        10,
+        3,
+    ),
+    (
+        "[[[0.5,0.5],[1.5,0.5],[2.5,0.5],[3.5,0.5],[4.5,0.5],[5.5,0.5],[6.5,0.5],[7.5,0.5],[8.5,0.5],[9.5,0.5],[9.5,9.25],[-9.5,9.5],[0.5,0.75]]]",
+        10,
+        3,
+    ),
+    (
+        "[[[0.5,0.5],[1.5,0.5],[2.5,0.5],[3.5,0.5],[4.5,0.5],[5.5,0.5],[6.5,0.5],[7.5,0.5],[8.5,0.5],[9.5,0.5],[0.5,0.5],[-9.5,9.5],[0.5,0.5]]]",
+        12,
+        1,
+    ),
+    (
+        "[[[0.5,0.5],[1.5,0.5],[2.5,0.5],[3.5,0.5],[4.5,0.5],[5.5,0.5],[6.5,0.5],[7.5,0.5],[8.5,0.5],[9.5,0.5],[180.5,0.5],[-9.5,9.5],[0.5,0.5]]]",
+        12,
+        1,
+    ),
+    (
+        "[[[0.5,0.5],[1.5,0.5],[2.5,0.5],[3.5,0.5],[4.5,0.5],[5.5,0.5],[6.5,0.5],[7.5,0.5],[8.5,0.5],[9.5,0.5],[9.5,90.5],[-9.5,9.5],[0.5,0.5]]]",
+        12,
+        1,
+    ),
+    (
+        "[[[0.5,0.5],[1.5,0.5],[2.5,0.5],[3.5,0.5],[4.5,0.5],[5.5,0.5],[6.5,0.5],[7.5,0.5],[8.5,0.5],[9.12345678,0.5],[9.5,9.12345678],[-9.123456789,9.1234567890001],[0.5,0.5]]]",
+        10,
+        3,
+    ),
+    (
+        "[[[[0.5,0.5],[1.5,0.5],[2.5,0.5],[3.5,0.5],[4.5,0.5],[5.5,0.5],[6.5,0.5],[7.5,0.5],[8.5,0.5],[9.5,0.5],[9.5,9.25],[-9.5,9.5],[0.5,0.5]]],[]]",
+        10,
+        3,
+    ),
+    (
+        "[[[0.5,0.5],[1.5,0.5],[2.5,0.5],[3.5,0.5],[4.5,0.5],[5.5,0.5],[6.5,0.5],[7.5,0.5],[8.5,0.5],[9.5,0.5],[9,9.25],[-9.5,9.5],[0.5,0.5]]]",
+        12,
+        1,
+    ),
+];
+
+#[test]
+fn told_by_cut_values_or_by_events(rt: HostRuntime) {
+    for (text, flats, cuts) in MANY.iter() {
+        expect_same(&rt, text, *flats, *cuts);
     }
 }
