@@ -325,9 +325,9 @@ geolint_lines geolint_lines_feed(geolint_lines lines, const void *bytes, size_t 
  * They are those that the functions return, on systems with 64-bit addresses. */
 
 #define GEOLINT_ALIGNMENT 16
-#define GEOLINT_SIZE 206896
-#define GEOLINT_FEATURES_SIZE 254064
-#define GEOLINT_RECORDS_SIZE 207328
+#define GEOLINT_SIZE 198352
+#define GEOLINT_FEATURES_SIZE 245520
+#define GEOLINT_RECORDS_SIZE 198784
 #define GEOLINT_LOCATOR_SIZE 4272
 
 /* ---- texts */
