@@ -24,6 +24,8 @@ passed = failed = 0
 EXAMPLES = [str(it) for folder in ("examples", "examples/faulty") for it in sorted(ROOT.glob(f"{folder}/*.geojson"))]
 DONE = "document.querySelectorAll('.card').length === {} && document.getElementById('run').hidden"
 READY = "document.body && !document.getElementById('choose').disabled"
+# The reading of a file has begun, which waits for a new worker after Stop.
+BEGUN = "!document.getElementById('run').hidden && document.getElementById('bar').value > 0.02"
 SENTENCE = "document.querySelector('.card:last-child .verdict').textContent"
 
 # The least contrast of a text with what is behind it, and where.
@@ -174,7 +176,7 @@ def stopped(browser):
     """Progress and Stop on a large file, and that the page goes on after it."""
     opened(browser)
     browser.choose("#files", [str(room / "large.geojson"), f"{ROOT}/examples/cafes.geojson"])
-    browser.wait("document.getElementById('bar').value > 0.02 && document.getElementById('run-note').textContent.includes('left')", 60)
+    browser.wait(BEGUN + " && document.getElementById('run-note').textContent.includes('left')", 60)
     note = browser.value("document.getElementById('run-note').textContent")
     wants("how far the reading is", re.fullmatch(r"[\d.]+ .?B of [\d.,]+ .?B · [\d.]+ .?B per second · [\dmin s]+ left · 1 more file is waiting", note), note)
     browser.shot(shots / f"{name}-progress.png")
@@ -192,6 +194,13 @@ def stopped(browser):
     told = browser.value("document.querySelector('.card:last-child').textContent")
     wants("the large file to its end", "Valid GeoJSON" in told and "have a warning and no fault." in told, told[:300])
     print(f"{name}: the large file: {told[:80]}")
+    # Each stop ends both workers, and the next large file gets new ones.
+    for _ in range(10):
+        browser.choose("#files", [str(room / "large.geojson")])
+        browser.wait(BEGUN, 60)
+        browser.value("document.getElementById('stop').click()")
+        browser.wait("document.getElementById('run').hidden")
+    wants("ten times Stop, one after another", browser.value("document.querySelectorAll('.card').length") == 13, browser.value("document.querySelectorAll('.card').length"))
 
 
 def known_early(browser):
@@ -210,7 +219,7 @@ def known_early(browser):
     for path, is_known in (("early-feature.geojson", True), ("early-name.geojson", True), ("early-text.ndjson", True), ("large.geojson", False)):
         browser.value("window.aloud = []; window.seen ??= new MutationObserver(() => aloud.push(document.getElementById('status').textContent)).observe(document.getElementById('status'), { childList: true }) ?? true")
         browser.choose("#files", [str(room / path)])
-        browser.wait("document.getElementById('bar').value > 0.02", 60)
+        browser.wait(BEGUN, 60)
         known, bar = browser.value("[document.getElementById('run-known').textContent, document.getElementById('bar').value]")
         wants(f"what is known of {path} at {bar:.2f}", bar < 1 and known == ("Not valid. Reading on, to list all that is found." if is_known else ""), known)
         if path == "early-feature.geojson":

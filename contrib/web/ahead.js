@@ -7,11 +7,17 @@ import { piecesOfBlob, roomsFor } from "./source.js";
 /** The number of buffers: one is checked, the one before it may be read again, and the others are filled ahead. */
 const ROOMS = 5;
 
-/** In the worker that reads. A reading has a number, and ends where the next begins. */
+/** In the worker that reads, for the one at the other end of a port. A reading has a number, and ends where the next begins. */
 export class Reader {
+  #port;
   #turn = 0;
   #rooms = [];
   #wake = () => {};
+
+  constructor(port) {
+    this.#port = port;
+    port.onmessage = ({ data }) => this[data.kind](data);
+  }
 
   /** A buffer has come back. */
   room({ turn, buffer }) {
@@ -24,10 +30,10 @@ export class Reader {
     this.#rooms = rooms;
     this.#wake();
     try {
-      for await (const bytes of piecesOfBlob(file, this.#roomsOf(turn))) postMessage({ turn, bytes }, [bytes.buffer]);
-      postMessage({ turn });
+      for await (const bytes of piecesOfBlob(file, this.#roomsOf(turn))) this.#port.postMessage({ turn, bytes }, [bytes.buffer]);
+      this.#port.postMessage({ turn });
     } catch (error) {
-      postMessage({ turn, reason: String(error?.message ?? error) });
+      this.#port.postMessage({ turn, reason: String(error?.message ?? error) });
     }
   }
 
@@ -41,43 +47,43 @@ export class Reader {
   }
 }
 
-/** In the worker that checks: files as inputs that a further worker of the same script reads. */
+/** In the worker that checks: files as inputs that another worker of the same script reads. The page makes both workers: Firefox may hang
+ *  where a worker makes a worker. */
 export class ReadAhead {
-  #worker = null;
+  #port = null;
   #turn = 0;
 
-  /** A short file is read by itself, and so is each where no further worker can be made. */
+  /** The worker that reads is at the other end of this port. */
+  through(port) {
+    this.#port = port;
+  }
+
+  /** A short file is read by the worker that checks, and so is each file where there is no other worker. */
   of(file) {
-    if (file.size <= STRIDE) return file;
-    try {
-      this.#worker ??= new Worker(location.href);
-    } catch {
-      return file;
-    }
+    if (file.size <= STRIDE || !this.#port) return file;
     const read = async (from, to) => new Uint8Array(await file.slice(from, to).arrayBuffer());
     return { size: file.size, read, pieces: () => this.#pieces(file) };
   }
 
   async *#pieces(file) {
     const turn = ++this.#turn;
-    const worker = this.#worker;
+    const port = this.#port;
     const come = [];
     let wake = () => {};
-    worker.onmessage = ({ data }) => {
+    port.onmessage = ({ data }) => {
       if (data.turn !== turn) return;
       come.push(data);
       wake();
     };
-    worker.onerror = ({ message }) => worker.onmessage({ data: { turn, reason: message } });
     const rooms = roomsFor(file.size, ROOMS);
-    worker.postMessage({ kind: "read", turn, file, rooms }, rooms);
+    port.postMessage({ kind: "read", turn, file, rooms }, rooms);
     for (let last = null; ; ) {
       while (!come.length) await new Promise((done) => (wake = done));
       const { bytes, reason } = come.shift();
       if (reason !== undefined) throw new Error(reason);
       if (!bytes) return;
       yield bytes;
-      if (last) worker.postMessage({ kind: "room", turn, buffer: last.buffer }, [last.buffer]);
+      if (last) port.postMessage({ kind: "room", turn, buffer: last.buffer }, [last.buffer]);
       last = bytes;
     }
   }

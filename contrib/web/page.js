@@ -3,6 +3,7 @@
 
 import { say, speak, preferred, languages, size, time } from "./language.js";
 import { droppedFiles, chosenFiles, framingOf, ENDINGS } from "./files.js";
+import { STRIDE } from "./lines.js";
 import { Packed } from "./packed.js";
 import { make } from "./dom.js";
 import { cardOf, groupOf, sentenceOf, STEP } from "./view.js";
@@ -15,6 +16,8 @@ const $ = (id) => document.getElementById(id);
  *  found in its features, as `Packed`, and `counts` how many there are. */
 const entries = [];
 let worker = null;
+/** The worker that reads large files for `worker`. */
+let reading = null;
 let isReady = false;
 let current = null;
 let about = null;
@@ -27,13 +30,19 @@ let shown = STEP;
 
 /** The module: as the page has it packed, and once a worker has unpacked it, its bytes. */
 let module = null;
+/** The script of both workers. */
+let script = null;
+
+function madeWorker() {
+  script ??= URL.createObjectURL(new Blob([$("worker").textContent], { type: "text/javascript" }));
+  return new Worker(script);
+}
+
 function start() {
   if (typeof WebAssembly === "undefined") return warn(() => say("noWasm"));
   const { textContent, dataset } = $("module");
   module ??= { packed: textContent.trim(), size: Number(dataset.size), sum: Number(dataset.sum) };
-  const source = new Blob([$("worker").textContent], { type: "text/javascript" });
-  const url = URL.createObjectURL(source);
-  const it = new Worker(url);
+  const it = madeWorker();
   worker = it;
   // What one that was stopped had still to report counts no more.
   worker.onmessage = ({ data }) => it === worker && heard[data.kind](data);
@@ -147,8 +156,21 @@ function saveReport(button, save) {
 /** Items in the parts that are asked for at once. */
 const partsOf = (items) => Array.from({ length: Math.ceil(items.length / BATCH) }, (_, i) => items.slice(i * BATCH, (i + 1) * BATCH));
 
+/** The port to the worker that reads, for the first large file. */
+function portFor(file) {
+  if (reading || file.size <= STRIDE) return [];
+  const { port1, port2 } = new MessageChannel();
+  const it = madeWorker();
+  reading = it;
+  it.onerror = (event) => it === reading && heard.failed({ step: "check", reason: event.message });
+  it.postMessage({ kind: "serve", port: port1 }, [port1]);
+  return [port2];
+}
+
 function restart() {
   worker?.terminate();
+  reading?.terminate();
+  reading = null;
   isReady = false;
   start();
 }
@@ -193,7 +215,8 @@ function askToCheck() {
   const framing = framingOf(current.name);
   Object.assign(current, { items: new Packed(about.texts, !framing), counts: null, isDoomed: false });
   showProgress({ read: 0 });
-  worker.postMessage({ kind: "check", file: current.file, framing });
+  const ports = portFor(current.file);
+  worker.postMessage({ kind: "check", file: current.file, framing, port: ports[0] }, ports);
 }
 
 function showProgress({ read, isDoomed = false, faults = 0, milliseconds = 0 }) {

@@ -13,7 +13,6 @@ const MOST = 65_536;
 
 let geolint;
 const files = new ReadAhead();
-const reader = new Reader();
 
 /** Reports how far a reading is, with what else is known of it. */
 function meter(kind, more = {}) {
@@ -48,9 +47,10 @@ const answers = {
     return { kind: "ready", bytes, version: await geolint.version(), texts: await geolint.texts() };
   },
 
-  /** A file is read once, for its verdict and for all that is listed. */
-  async check({ file, framing }) {
+  /** A file is read once, for its verdict and for all that is listed. With the first large one comes the port to the worker that reads. */
+  async check({ file, framing, port }) {
     const begun = performance.now();
+    if (port) files.through(port);
     const options = { framing, most: MOST, isBrief: true, onProgress: meter("progress") };
     const input = files.of(file);
     const { verdict, counts } = await list(framing ? geolint.records(input, options) : geolint.features(input, options));
@@ -72,8 +72,8 @@ const answers = {
 };
 
 onmessage = async ({ data }) => {
-  // What the worker is asked for that reads for another one.
-  if (data.kind === "read" || data.kind === "room") return reader[data.kind](data);
+  // This worker reads for another one.
+  if (data.kind === "serve") return void new Reader(data.port);
   try {
     postMessage(await answers[data.kind](data));
   } catch (error) {
