@@ -1,6 +1,7 @@
 //! The tests of the layers, through what each makes public.
 //!
-//! They stand in a crate of their own because a crate with tests is proved twice, with them and without.
+//! They are in a crate of their own because a crate with tests is proved twice, with them and without. `parts_tests` has those
+//! of the crates that are among the last to be proved.
 #![tactic(auto)]
 
 #[cfg(test)]
@@ -21,7 +22,5 @@ mod places;
 mod rows;
 #[cfg(test)]
 mod rules;
-#[cfg(test)]
-mod sequences;
 #[cfg(test)]
 mod split;

@@ -2,8 +2,6 @@
 
 ghost use Rattle.std.specs.Prelude.{◌≤◌, None, length};
 
-use crate::checks::{equal, holds, holds_at};
-use crate::rows::Wanted;
 use geolint_report::every::listing::{Asked, Item, Note, Notes, notes_for};
 use geolint_report::every::reading::judge_every;
 use geolint_report::every::tally::Tally;
@@ -12,9 +10,9 @@ use geolint_report::progress::Meter;
 use geolint_report::report::Told;
 use geolint_report::source::{Rewind, Source};
 use geolint_report::texts::Code;
-use gj_coords::{Kind, Rule};
+use gj_coords::{Fault, Kind, Rule, Warnings};
 use gj_json::{Limits, MOST_LEVELS};
-use gj_rules::{Framing, Record, RecordSink, Records, SeqVerdict, Sequence};
+use gj_rules::{Framing, Record, RecordSink, Records, SeqVerdict, Sequence, Verdict};
 use part_lines::{
     FileState, Listed, PartLine, Refusal, Settings, join_lines, join_notes, put_line, read_line,
 };
@@ -23,6 +21,16 @@ use sequence_parts::{CheckedPart, ListedPart, Misfit, Share, check_part, join_pa
 use std::alloc::Global;
 use std::io;
 use std::process::Abort;
+
+/// Tests what must be so of a case.
+fn holds(rt: &impl Abort, is_so: bool, case: &str) {
+    assert!(rt; is_so, "{case}");
+}
+
+/// Tests what must be so of a case in so many parts.
+fn holds_in(rt: &impl Abort, is_so: bool, case: &str, parts: usize) {
+    assert!(rt; is_so, "{case}, in {parts} parts");
+}
 
 /// A source in memory.
 #[derive(Drop)]
@@ -300,7 +308,7 @@ fn are_cut_there(
 ) -> io::Result<()> {
     for (bytes, number, parts, wanted, case) in cuts.iter() {
         let part = part_of(rt, bytes, *number, *parts, framing, 1 << 20)?;
-        equal(abort, (part.begin, part.end), *wanted, case);
+        holds(abort, (part.begin, part.end) == *wanted, case);
     }
     Ok(())
 }
@@ -370,7 +378,7 @@ fn are_one_reading(
         let whole = verdict_of(bytes, framing, *most);
         for parts in 1..10 {
             let all = joined(rt, bytes, parts as u64, framing, *most)?;
-            holds_at(abort, all == whole, case, parts);
+            holds_in(abort, all == whole, case, parts);
         }
     }
     Ok(())
@@ -414,6 +422,24 @@ fn parts_out_of_order_are_refused(rt: HostRuntime) -> io::Result<()> {
         "the first one missing",
     );
     Ok(())
+}
+
+/// The verdict of so many records with these warnings, or that of the record of this number, which breaks a rule.
+fn verdict_with(number: u64, fault: Option<(Rule, u64)>, found: &[(Kind, u64)]) -> SeqVerdict {
+    if let Some((rule, place)) = fault {
+        return SeqVerdict::Record {
+            number,
+            verdict: Verdict::Broken(Fault { place, rule }),
+        };
+    }
+    let mut warnings = Warnings::none();
+    for (kind, place) in found {
+        warnings = warnings.add(*kind, *place);
+    }
+    SeqVerdict::Valid {
+        records: number,
+        warnings,
+    }
 }
 
 /// A part within a file of 116 bytes.
@@ -468,31 +494,42 @@ fn is_written_so(rt: &impl Abort, alloc: Global, line: &PartLine, wanted: &str) 
     Ok(())
 }
 
-/// The framing of a part, how many records it has or which decides, with its verdict, and its line.
-static WRITTEN: [(Framing, u64, Wanted, &str); 2] = [
+/// A part as a row has it: its framing, how many records it has or which decides, the rule that this one breaks and where, the
+/// warnings, and its line.
+type Written = (
+    Framing,
+    u64,
+    Option<(Rule, u64)>,
+    &'static [(Kind, u64)],
+    &'static str,
+);
+
+static WRITTEN: [Written; 2] = [
     (
         Framing::Sequence,
         12,
-        Wanted::Valid(&[
+        None,
+        &[
             (Kind::W5, 30),
             (Kind::W5, 20),
             (Kind::W1, 7),
             (Kind::W5, 25),
-        ]),
+        ],
         "{\"geolint_part\":1,\"part\":2,\"parts\":2,\"path\":\"a \\\"b\\\".geojsons\",\"size\":116,\"modified\":\"17.000000005\",\"framing\":\"seq\",\"max_bytes\":1000,\"strict\":true,\"allow\":[\"W4\",\"W9\"],\"begin\":40,\"end\":99,\"records\":12,\"warnings\":[{\"kind\":\"W1\",\"count\":1,\"at\":47},{\"kind\":\"W5\",\"count\":3,\"at\":60}]}\n",
     ),
     (
         Framing::Lines,
         3,
-        Wanted::Broken(Rule::G15, 5),
+        Some((Rule::G15, 5)),
+        &[],
         "{\"geolint_part\":1,\"part\":2,\"parts\":2,\"path\":\"a \\\"b\\\".geojsons\",\"size\":116,\"modified\":\"17.000000005\",\"framing\":\"ndjson\",\"max_bytes\":1000,\"strict\":true,\"allow\":[\"W4\",\"W9\"],\"begin\":40,\"end\":99,\"record\":3,\"fault\":\"G15\",\"at\":45}\n",
     ),
 ];
 
 #[test]
 fn lines_are_read_as_they_are_written(rt: HostRuntime) -> io::Result<()> {
-    for (framing, number, found, wanted) in WRITTEN.iter() {
-        let verdict = found.sequence_verdict(*number);
+    for (framing, number, fault, found, wanted) in WRITTEN.iter() {
+        let verdict = verdict_with(*number, *fault, found);
         let mut line = line_of(&rt, 2, part_with(verdict))?;
         line.settings.framing = *framing;
         is_written_so(&rt, rt.alloc(), &line, wanted)?;
@@ -584,7 +621,7 @@ fn listed_findings_are_read_as_they_are_written(rt: HostRuntime) -> io::Result<(
         notes.tally.add_note(Note { item, told });
         notes.notes.push(Note { item, told })?;
     }
-    let mut line = line_of(&rt, 2, part_with(Wanted::Valid(&[]).sequence_verdict(1)))?;
+    let mut line = line_of(&rt, 2, part_with(verdict_with(1, None, &[])))?;
     line.listed = Some(Listed {
         asked: ASKED,
         notes,
@@ -666,8 +703,8 @@ fn findings_of_parts_are_those_of_one_reading(rt: HostRuntime) -> io::Result<()>
         for parts in 1..10 {
             let lines = lines_of(&rt, bytes, parts as u64, *framing)?;
             match join_notes(rt.alloc(), lines.as_slice(), ASKED) {
-                Ok(joined) => holds_at(&rt, are_alike(&joined, &whole), case, parts),
-                Err(_) => holds_at(&rt, false, case, parts),
+                Ok(joined) => holds_in(&rt, are_alike(&joined, &whole), case, parts),
+                Err(_) => holds_in(&rt, false, case, parts),
             }
         }
     }
