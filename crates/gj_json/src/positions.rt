@@ -1,12 +1,11 @@
 //! Reads positions as their cut values.
 
-ghost use Rattle.std.specs.Prelude.{◌≡◌, ◌+◌, ◌^◌, ◌<◌, ◌≤◌, [], length, get_or, IfSome};
+ghost use Rattle.std.specs.Prelude.{◌≡◌, ◌+◌, ◌^◌, ◌<◌, ◌≤◌, length, take, get_or, IfSome};
 ghost use Rattle.gj_json.specs.Bytes.{open_bracket};
 ghost use Rattle.gj_json.specs.Internal.SpelledPositions.{SpellsPosition, SpellsPositions};
 
 use crate::cut_position::CutPosition;
-use arrayvec::ArrayVec;
-use gj_number::read_cut_pair;
+use gj_number::read_inner_cut_pair;
 
 /// How many positions are read at once, at the most.
 pub const MOST_POSITIONS: usize = 24;
@@ -24,13 +23,9 @@ fn read_position(piece: &[u8], start: u64) -> Option<CutPosition>
     if piece.len() < ROOM {
         return None;
     }
-    let Some(pair) = read_cut_pair(&piece[1..]) else {
+    let Some(pair) = read_inner_cut_pair(&piece[1..]) else {
         return None;
     };
-    let next = pair.end + 2;
-    if next + 1 >= piece.len() || piece[next] != b',' || piece[next + 1] != b'[' {
-        return None;
-    }
     Some(CutPosition {
         first: pair.first,
         second: pair.second,
@@ -41,27 +36,31 @@ fn read_position(piece: &[u8], start: u64) -> Option<CutPosition>
     })
 }
 
-/// Reads, in place of others, the positions that the piece starts with, each with a comma and another array after it, as far as there is room.
+/// Reads, in place of others, the positions that the piece starts with, each with a comma and another array after it, as far
+/// as there is room: how many.
 #[inline(never)]
 pub fn read_positions(
     piece: &[u8],
     start: u64,
-    positions: &mut ArrayVec<CutPosition, MOST_POSITIONS>,
-)
+    positions: &mut [CutPosition; MOST_POSITIONS],
+) -> usize
     requires bracket { get_or piece.now 0 0 ≡ open_bracket }
     requires small { start + length piece.now ≤ 2 ^ 60 }
-    ensures { SpellsPositions positions.new.items start piece.now }
+    ensures few { result ≤ 24 }
+    ensures spelled { SpellsPositions (take result positions.new) start piece.now }
 {
-    positions.clear();
+    let mut count = 0;
     let mut rest = piece;
     let mut place = start;
-    while !positions.is_full() {
+    while count < MOST_POSITIONS {
         let Some(position) = read_position(rest, place) else {
-            return;
+            return count;
         };
         let next = position.close + 2;
         rest = &rest[(next - place) as usize..];
         place = next;
-        positions.push(position);
+        positions[count] = position;
+        count += 1;
     }
+    count
 }

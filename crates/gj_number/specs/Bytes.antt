@@ -37,6 +37,10 @@ comma = 44
 abbrev pub space : ℕ
 space = 32
 
+-- `[`
+abbrev pub open_bracket : ℕ
+open_bracket = 91
+
 -- `]`
 abbrev pub close_bracket : ℕ
 close_bracket = 93

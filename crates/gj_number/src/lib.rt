@@ -7,8 +7,8 @@
 //!
 //! A [`Short`] is an ordinary number, of at most eighteen digits and no exponent, which [`read_short`] reads whole from
 //! the start of a piece. What its methods say of it, they say of its decimal. [`read_decimal`] reads longer numbers too,
-//! and gives their decimal. [`read_pair`] reads two ordinary numbers at once, and [`read_cut_pair`] two of which no more
-//! is needed than their cut values.
+//! and gives their decimal. [`read_pair`] reads two ordinary numbers at once, and [`read_inner_cut_pair`] two of
+//! which no more is needed than their cut values.
 #![tactic(auto)]
 
 mod decimal;
@@ -28,6 +28,6 @@ pub use decimal::Decimal;
 pub use literal::{Literal, Step};
 pub use prefix::read_decimal;
 pub use short::Short;
-pub use short::cuts::{Cut, CutPair, read_cut_pair};
+pub use short::cuts::{Cut, CutPair, read_inner_cut_pair};
 pub use short::pair::{Pair, read_last_pair, read_pair};
 pub use short::prefix::read_short;

@@ -6,10 +6,10 @@ ghost use Rattle.gj_json.specs.Internal.OpenLevels.{levels_in, inner_of};
 ghost use Rattle.gj_json.specs.declared.levels.Level.TheVariants.{Array};
 
 use super::Reader;
+use crate::cut_position::CutPosition;
 use crate::mode::Mode;
 use crate::positions::{MOST_POSITIONS, read_positions};
 use crate::sink::EventSink;
-use arrayvec::ArrayVec;
 
 /// After so many arrays, one after another, positions are sought.
 pub(super) const FEW: u8 = 8;
@@ -35,12 +35,12 @@ impl Reader {
         ensures levels { self.new.levels ≡ self.old.levels }
         ensures feeds { FeedsAll (S.heard sink.old) (S.heard sink.new) self.old self.new (take result piece.now) }
     {
-        let mut positions = ArrayVec::new();
+        let mut positions = [CutPosition::default(); MOST_POSITIONS];
         let mut rest = piece;
         let mut taken = MOST_POSITIONS;
         while taken == MOST_POSITIONS {
-            read_positions(rest, self.offset, &mut positions);
-            taken = sink.tell_positions(&positions);
+            let found = read_positions(rest, self.offset, &mut positions);
+            taken = sink.tell_positions(&positions[..found]);
             if taken == 0 {
                 return piece.len() - rest.len();
             }

@@ -93,7 +93,7 @@ module _ (marks second third fourth : ℕ) (small : marks < 2 ^ 64) (small_secon
         point_is = lowest_at marks a (mask_l twos) small one;
         comma_is = lowest_at second (a + 1 + b) (mask_l threes) small_second two;
         other_point_is = lowest_at third (a + 1 + b + 1 + c) (mask_l fours) small_third three;
-        end_is = lowest_at fourth (a + 1 + b + 1 + c + 1 + d) (mask_l m.0) small_fourth four;
+        next_is = lowest_at fourth (a + 1 + b + 1 + c + 1 + d) (mask_l m.0) small_fourth four;
       }
 
 -- ---- sixteen bytes after sixteen
@@ -154,7 +154,7 @@ parts_fit piece n long e =
 -- ---- the bit of a byte
 
 abbrev marked : ℕ → Bool
-marked x = top 7 (bit_or (cond (eqb (bit_and x 253) 44) 255 0) (cond (eqb x 93) 255 0))
+marked x = top 7 (cond (eqb (bit_and x 253) 44) 255 0)
 
 -- a test of each number below n
 abbrev holds_below : (ℕ → Bool) → ℕ → Bool
@@ -173,8 +173,7 @@ marked_is : (x : ℕ) → x < 256 → marked x ≡ is_mark x
 marked_is x h = (beq_decides (marked x) (is_mark x)).0 (holds_at (λ b. beq (marked b) (is_mark b)) 256 x refl h)
 
 pub marks_are : (xs : List ℕ) (n : ℕ) → length xs ≡ n → Each1 (Fits w8) xs
-    → map (top 7) (zip2 (λ a b. bit_or a b) (zip2 (λ a b. cond (eqb a b) 255 0) (zip2 (λ a b. bit_and a b) xs (replicate n 253)) (replicate n 44))
-    (zip2 (λ a b. cond (eqb a b) 255 0) xs (replicate n 93))) ≡ map is_mark xs
+    → map (top 7) (zip2 (λ a b. cond (eqb a b) 255 0) (zip2 (λ a b. bit_and a b) xs (replicate n 253)) (replicate n 44)) ≡ map is_mark xs
 marks_are [] n len fits = refl
 marks_are (x ∷ xs) (suc n) len fits = (λ i. marked_is x fits.0.fits i ∷ marks_are xs n (omega arith) fits.1 i)
 marks_are (x ∷ xs) zero len fits = absurd (omega arith)

@@ -1,6 +1,6 @@
 -- Where two usual numbers have their marks, and that they are found.
-use Rattle.std.proofs.Common.{zero, suc, ◌≡◌, ℕ, ◌+◌, ◌-◌, ◌<◌, ◌≤◌, ◌==◌, ◌++◌, Bool, true, false, List, [], ◌∷◌, length, map, take, drop, get_or, All, Fits}
-use Rattle.std.proofs.Common.{replicate, refl, inl, inr, sym, ◌∙◌, ap, subst, arith, append_assoc, length-drop, w8}
+use Rattle.std.proofs.Common.{zero, suc, ◌≡◌, ℕ, ◌+◌, ◌-◌, ◌%◌, ◌<◌, ◌≤◌, ◌==◌, ◌++◌, Bool, true, false, List, [], ◌∷◌, length, map, take, drop, get_or, All, Fits}
+use Rattle.std.proofs.Common.{replicate, refl, inl, inr, sym, ◌∙◌, ap, subst, arith, append_assoc, length-drop, length-append, w8}
 use mir.Val.{bool_byte}
 use lib.Lanes.{Each1}
 use Rattle.std.specs.List.{AllByRecursion}
@@ -10,6 +10,7 @@ use Rattle.std.proofs.lemmas.List.{drop-drop, get_or-drop, map-append, replicate
 use Rattle.gj_number.specs.Bytes.{comma, minus_sign, decimal_point, close_bracket, IsDigit}
 use Rattle.gj_number.specs.Denotation.{SpellsSign}
 use Rattle.gj_number.specs.Short.{StartsUsual, StartsUsualPair}
+use Rattle.gj_number.specs.Cuts.{BeginsNext}
 use Rattle.gj_number.specs.Internal.CutLanes.{is_mark, before_point, after_point, in_lanes, AreMarks, HasMarks, IsMarkedSpan, IsSpan}
 use Rattle.gj_number.specs.Internal.DigitLanes.{lane_of}
 use Rattle.gj_number.specs.Internal.DigitRuns.{IsPointed}
@@ -33,13 +34,13 @@ sign_unmarked false sign s = rw s refl
 sign_unmarked true sign s = rw s refl
 
 number_marks : (sign natural fraction more : List ℕ) (b : ℕ) → map is_mark sign ≡ replicate (length sign) false → AllByRecursion IsDigit natural
-    → AllByRecursion IsDigit fraction → is_mark b ≡ true
+    → map is_mark fraction ≡ replicate (length fraction) false → is_mark b ≡ true
     → map is_mark (sign ++ (natural ++ ((decimal_point ∷ fraction) ++ (b ∷ more))))
     ≡ replicate (length sign + length natural) false ++ true ∷ (replicate (length fraction) false ++ true ∷ map is_mark more)
 number_marks sign natural fraction more b s n f e =
     let rest : List ℕ = (decimal_point ∷ fraction) ++ (b ∷ more) in
     let tail : map is_mark (fraction ++ (b ∷ more)) ≡ replicate (length fraction) false ++ true ∷ map is_mark more =
-    map-append is_mark fraction (b ∷ more) ∙ (λ i. digits_unmarked fraction f i ++ e i ∷ map is_mark more) in
+    map-append is_mark fraction (b ∷ more) ∙ (λ i. f i ++ e i ∷ map is_mark more) in
     let back : map is_mark rest ≡ true ∷ (replicate (length fraction) false ++ true ∷ map is_mark more) = ap (λ ms. true ∷ ms) tail in
     map-append is_mark sign (natural ++ rest) ∙ (λ i. s i ++ map-append is_mark natural rest i)
     ∙ (λ i. replicate (length sign) false ++ (digits_unmarked natural n i ++ back i))
@@ -88,8 +89,43 @@ module _ (xs : List ℕ) (n behind : ℕ) (u : StartsUsual xs n behind) where
             let size = sign_size negative x.negative x.sign rest x.spells_sign e (first_digit x.natural _ x.spells_natural) in
             ap (map is_mark) all
             ∙ number_marks x.sign x.natural x.fraction more b (sign_unmarked x.negative x.sign x.spells_sign) (natural_digits x.natural x.spells_natural)
-            (all_digits x.fraction h.1) (ap is_mark u.ends ∙ marked)
+            (digits_unmarked x.fraction (all_digits x.fraction h.1)) (ap is_mark u.ends ∙ marked)
             ∙ ap (λ k. replicate (k + before) false ++ true ∷ (replicate after false ++ true ∷ map is_mark more)) size
+      ]
+
+  -- the byte after it is no mark, and the next is one
+  pub marks_past : is_mark behind ≡ false → (c : ℕ) → get_or xs (n + 1) 0 ≡ c → is_mark c ≡ true → n + 1 < length xs
+      → map is_mark xs ≡ replicate (bool_byte negative + before) false
+      ++ true ∷ (replicate (after + 1) false ++ true ∷ map is_mark (drop (suc (suc n)) xs))
+  marks_past unmarked c there marked within =
+      let x = u.number.ordinary in
+      let more = drop (suc (suc n)) xs in
+      let b = get_or xs n 0 in
+      let d = get_or xs (suc n) 0 in
+      let at : get_or xs (suc n) 0 ≡ c = ap (λ k. get_or xs k 0) {x = suc n} {y = n + 1} (omega arith) ∙ there in
+      let two : drop n xs ≡ b ∷ (d ∷ more) = drop-cons xs n 0 u.number.within ∙ ap (λ ys. b ∷ ys) (drop-cons xs (suc n) 0 (omega arith)) in
+      let whole : xs ≡ x.sign ++ (x.natural ++ (x.after_natural ++ (b ∷ (d ∷ more)))) =
+      sym (take-append-drop n xs) ∙ (λ i. x.joined i ++ two i) ∙ simp append_assoc in
+      elim x.spells_fraction [
+        | inl h ↦ absurd (let some = u.some_after in omega (arith, ap length h.1))
+        | inr h ↦
+            let tail : List ℕ = x.fraction ++ (b ∷ []) in
+            let rest : List ℕ = x.natural ++ ((decimal_point ∷ tail) ++ (d ∷ more)) in
+            let all : xs ≡ x.sign ++ rest =
+            whole ∙ ap (λ ys. x.sign ++ (x.natural ++ (ys ++ (b ∷ (d ∷ more))))) h.0
+            ∙ ap (λ ys. x.sign ++ (x.natural ++ (decimal_point ∷ ys))) (sym (append_assoc x.fraction (b ∷ []) (d ∷ more))) in
+            let e : (get_or (x.sign ++ rest) 0 0 == minus_sign) ≡ negative = ap (λ ys. get_or ys 0 0 == minus_sign) (sym all) in
+            let size = sign_size negative x.negative x.sign rest x.spells_sign e (first_digit x.natural _ x.spells_natural) in
+            let long : length tail ≡ after + 1 = length-append x.fraction (b ∷ []) in
+            let none : map is_mark (b ∷ []) ≡ replicate 1 false = ap (λ m. m ∷ []) (ap is_mark u.ends ∙ unmarked) in
+            let off : map is_mark tail ≡ replicate (length tail) false =
+            map-append is_mark x.fraction (b ∷ []) ∙ (λ i. digits_unmarked x.fraction (all_digits x.fraction h.1) i ++ none i)
+            ∙ replicate-append-replicate (length x.fraction) 1 false ∙ ap (λ k. replicate k false) (sym long) in
+            ap (map is_mark) all
+            ∙ number_marks x.sign x.natural tail more d (sign_unmarked x.negative x.sign x.spells_sign) (natural_digits x.natural x.spells_natural)
+            off (ap is_mark at ∙ marked)
+            ∙ ap (λ k. replicate (k + before) false ++ true ∷ (replicate (length tail) false ++ true ∷ map is_mark more)) size
+            ∙ ap (λ k. replicate (bool_byte negative + before) false ++ true ∷ (replicate k false ++ true ∷ map is_mark more)) long
       ]
 
 -- where it stands in a piece
@@ -174,7 +210,16 @@ module _ (piece : List ℕ) (at point end n behind : ℕ) (u : StartsUsual (drop
 
 -- ---- both
 
-module _ (piece : List ℕ) (u : StartsUsualPair piece) (tight : u.second_at ≡ u.comma_at + 1) where
+module _ (piece : List ℕ) (u : StartsUsualPair piece) (tight : u.second_at ≡ u.comma_at + 1)
+    (follows : BeginsNext piece (u.second_at + u.length_other)) where
+  second_small : u.second_at ≤ 18
+  second_small =
+      let s = sign_length (negative piece u.comma_at comma u.one) in
+      let l = length_is piece u.comma_at comma u.one in
+      let few = u.one.few in
+      let few_after = u.one.few_after in
+      omega arith
+
   abbrev pub point_at : ℕ
   point_at = bool_byte (negative piece u.comma_at comma u.one) + before piece u.comma_at comma u.one
 
@@ -188,17 +233,28 @@ module _ (piece : List ℕ) (u : StartsUsualPair piece) (tight : u.second_at ≡
   abbrev pub other_places : ℕ
   other_places = after (drop u.second_at piece) u.length_other close_bracket u.other
 
-  pub pair_marks : AreMarks (map is_mark (take 48 piece)) point_at places other_point_at other_places
-  pair_marks =
-      let end : List Bool = map is_mark (drop (suc u.length_other) (drop u.second_at piece)) in
-      let fours : List Bool = replicate other_places false ++ true ∷ end in
+  comma_follows : get_or (drop u.second_at piece) (u.length_other + 1) 0 ≡ comma
+  comma_follows =
+      get_or-drop u.second_at piece (u.length_other + 1) 0
+      ∙ ap (λ k. get_or piece k 0) {x = u.second_at + (u.length_other + 1)} {y = u.second_at + u.length_other + 1} (omega arith) ∙ follows.comma
+
+  pub pair_marks : 48 ≤ length piece → AreMarks (map is_mark (take 48 piece)) point_at places other_point_at (other_places + 1)
+  pair_marks long =
+      let end : List Bool = map is_mark (drop (suc (suc u.length_other)) (drop u.second_at piece)) in
+      let fours : List Bool = replicate (other_places + 1) false ++ true ∷ end in
       let threes : List Bool = replicate other_point_at false ++ true ∷ fours in
       let twos : List Bool = replicate places false ++ true ∷ threes in
+      let room = second_small in
+      let size = length_is (drop u.second_at piece) u.length_other close_bracket u.other in
+      let sign = sign_length (negative (drop u.second_at piece) u.length_other close_bracket u.other) in
+      let before_few = u.other.few in
+      let after_few = u.other.few_after in
+      let more_left : u.length_other + 1 < length (drop u.second_at piece) = omega (arith, length-drop u.second_at piece) in
       let whole : map is_mark piece ≡ replicate point_at false ++ true ∷ twos =
       marks_are piece u.comma_at comma u.one refl
       ∙ ap (λ ms. replicate point_at false ++ true ∷ (replicate places false ++ true ∷ ms))
       (ap (λ i. map is_mark (drop i piece)) {x = suc u.comma_at} {y = u.second_at} (omega arith)
-      ∙ marks_are (drop u.second_at piece) u.length_other close_bracket u.other refl) in
+      ∙ marks_past (drop u.second_at piece) u.length_other close_bracket u.other refl comma comma_follows refl more_left) in
       let a = u.one.few in
       let b = u.one.few_after in
       let c = u.other.few in
@@ -208,14 +264,15 @@ module _ (piece : List ℕ) (u : StartsUsualPair piece) (tight : u.second_at ≡
       let k : ℕ = 48 - (point_at + 1) in
       let l : ℕ = k - (places + 1) in
       let m : ℕ = l - (other_point_at + 1) in (
-        take (m - (other_places + 1)) end,
+        take (m - (other_places + 1 + 1)) end,
         sym (take-map is_mark 48 piece) ∙ ap (take 48) whole ∙ take_past 48 point_at twos (omega arith)
             ∙ ap (λ ms. replicate point_at false ++ true ∷ ms) (take_past k places threes (omega arith)
             ∙ ap (λ ms. replicate places false ++ true ∷ ms) (take_past l other_point_at fours (omega arith)
-            ∙ ap (λ ms. replicate other_point_at false ++ true ∷ ms) (take_past m other_places end (omega arith)))),
+            ∙ ap (λ ms. replicate other_point_at false ++ true ∷ ms) (take_past m (other_places + 1) end (omega arith)))),
       )
 
-  module _ (point comma_is other_point end_is : ℕ) (h : HasMarks point comma_is other_point end_is point_at places other_point_at other_places) where
+  module _ (point comma_is other_point next end_is : ℕ) (h : HasMarks point comma_is other_point next point_at places other_point_at (other_places + 1))
+      (before_next : next ≤ 64 → end_is ≡ (next + 18446744073709551615) % 18446744073709551616) (few_next : next ≤ 64) where
     second_there : u.second_at ≡ comma_is + 1
     second_there = let a = h.comma_is in let l = length_is piece u.comma_at comma u.one in omega arith
 
@@ -230,7 +287,7 @@ module _ (piece : List ℕ) (u : StartsUsualPair piece) (tight : u.second_at ≡
     other_from = let a = second_there in let b = h.comma_is in let d = h.other_point_is in omega arith
 
     other_end : end_is ≡ other_point + 1 + other_places
-    other_end = let a = h.other_point_is in let b = h.end_is in omega arith
+    other_end = let a = h.other_point_is in let b = h.next_is in let e = before_next few_next in omega arith
 
     pub one_span : IsMarkedSpan piece 0 point comma_is comma
     one_span = span_at piece 0 point comma_is u.comma_at comma u.one one_point one_end
@@ -261,10 +318,12 @@ module _ (piece : List ℕ) (u : StartsUsualPair piece) (tight : u.second_at ≡
           )
 
     pub second_few : u.second_at ≤ 32
-    second_few =
-        let a = second_there in
-        let b = h.comma_is in
-        let s = sign_length (negative piece u.comma_at comma u.one) in
-        let few = u.one.few in
-        let few_after = u.one.few_after in
+    second_few = omega (arith, second_small)
+
+    -- the end is where the comma and the bracket follow
+    pub end_there : end_is ≡ u.second_at + u.length_other
+    end_there =
+        let a = other_end in
+        let b = other_from in
+        let l = length_is (drop u.second_at piece) u.length_other close_bracket u.other in
         omega arith

@@ -3,7 +3,7 @@ use Rattle.std.specs.Prelude.{◌≡◌, ℕ, ◌+◌, ◌-◌, ◌*◌, ◌<◌
 use Rattle.std.specs.List.{fold}
 use Rattle.std.specs.Simd.Lanes.{pick_l}
 use mir.Val.{bool_byte}
-use Rattle.gj_number.specs.Bytes.{comma, minus_sign, decimal_point, close_bracket, zero_digit, IsDigit}
+use Rattle.gj_number.specs.Bytes.{comma, minus_sign, decimal_point, zero_digit, IsDigit}
 use Rattle.gj_number.specs.Internal.DigitLanes.{with_value}
 use Rattle.gj_number.specs.Internal.DigitRuns.{StartsSigned}
 
@@ -59,7 +59,7 @@ pub record IsWhole (piece : List ℕ) (fraction end : ℕ) (precise : Bool) : Ty
 
 -- a byte that ends a part of a number in a list of them
 abbrev pub is_mark : ℕ → Bool
-is_mark b = b == comma || b == decimal_point || b == close_bracket
+is_mark b = b == comma || b == decimal_point
 
 -- after so many bytes a mark, after so many more another, and so on, to four of them
 abbrev pub AreMarks : List Bool → ℕ → ℕ → ℕ → ℕ → Type 0
@@ -67,11 +67,11 @@ AreMarks marks a b c d = (rest : List Bool)
     × (marks ≡ replicate a false ++ true ∷ (replicate b false ++ true ∷ (replicate c false ++ true ∷ (replicate d false ++ true ∷ rest))))
 
 -- the indices of the first four marks
-pub record HasMarks (point comma other_point end a b c d : ℕ) : Type 0 where
+pub record HasMarks (point comma other_point next a b c d : ℕ) : Type 0 where
   pub point_is : point ≡ a
   pub comma_is : comma ≡ a + 1 + b
   pub other_point_is : other_point ≡ a + 1 + b + 1 + c
-  pub end_is : end ≡ a + 1 + b + 1 + c + 1 + d
+  pub next_is : next ≡ a + 1 + b + 1 + c + 1 + d
 
 -- A number stands in a piece from an index on, with its point and the byte after it at these indices.
 pub record IsMarkedSpan (piece : List ℕ) (at point end behind : ℕ) : Type 0 where

@@ -1,12 +1,12 @@
-//! Two numbers with a comma between them, read as their cut values alone.
+//! Two numbers with a comma between them, read as their cut values alone, where another array follows.
 //!
-//! A bit for each byte that is a comma, a point or a closing bracket says where the parts of two numbers end, if two
-//! numbers stand there. What does stand there is checked after that.
+//! A bit for each byte that is a comma or a point says where the parts of two numbers end, if two numbers stand there.
+//! What does stand there is checked after that.
 ghost use mir.Val.{bool_byte};
 ghost use Rattle.std.specs.Prelude.{◌≡◌, ◌==◌, ℕ, ◌+◌, ◌*◌, ◌^◌, ◌<◌, ◌≤◌, length, map, take, drop, IsTrue, IfSome};
 ghost use Rattle.std.specs.Simd.Lanes.{mask_l};
 ghost use Rattle.std.specs.Option.{IsSome};
-ghost use Rattle.gj_number.specs.Cuts.{StartsWithCutPair};
+ghost use Rattle.gj_number.specs.Cuts.{StartsWithCutPair, BeginsNext};
 ghost use Rattle.gj_number.specs.Short.{StartsUsualPair};
 ghost use Rattle.gj_number.specs.Internal.CutLanes.{is_mark, AreMarks, HasMarks, IsMarkedSpan, IsSpan, IsWhole};
 
@@ -39,24 +39,26 @@ struct Span {
     fraction: usize,
 }
 
-/// The indices of the first four marks in a piece, 64 for one that is not there.
+/// The indices of the first four marks in a piece, 64 for one that is not there. `next` is that of the comma after the
+/// array.
 #[derive(Clone, Copy)]
 struct Marks {
     point: usize,
     comma: usize,
     other_point: usize,
-    end: usize,
+    next: usize,
 }
 
-/// A bit for each of sixteen bytes that is a comma, a point or a closing bracket.
+/// A bit for each of sixteen bytes that is a comma or a point.
 #[inline(always)]
 fn marks_at(piece: &[u8], at: usize) -> u64
     requires { at + 16 ≤ length piece.now }
     ensures { result ≡ mask_l (map is_mark (take 16 (drop at piece.now))) }
 {
     let bytes = u8x16::from_slice(&piece[at..]);
-    let separators = (bytes & u8x16::splat(0xfd)).simd_eq(u8x16::splat(b','));
-    (separators | bytes.simd_eq(u8x16::splat(b']'))).to_bitmask()
+    (bytes & u8x16::splat(0xfd))
+        .simd_eq(u8x16::splat(b','))
+        .to_bitmask()
 }
 
 /// A number without its lowest bit.
@@ -74,8 +76,8 @@ fn first_marks(piece: &[u8]) -> Marks
     ensures point { result.point ≤ 64 }
     ensures comma { result.comma ≤ 64 }
     ensures other_point { result.other_point ≤ 64 }
-    ensures end { result.end ≤ 64 }
-    ensures first { (a b c d : ℕ) → AreMarks (map is_mark (take 48 piece.now)) a b c d → HasMarks result.point result.comma result.other_point result.end a b c d }
+    ensures next { result.next ≤ 64 }
+    ensures first { (a b c d : ℕ) → AreMarks (map is_mark (take 48 piece.now)) a b c d → HasMarks result.point result.comma result.other_point result.next a b c d }
 {
     let marks = marks_at(piece, 0) | (marks_at(piece, 16) << 16) | (marks_at(piece, 32) << 32);
     let from_comma = without_lowest(marks);
@@ -84,7 +86,7 @@ fn first_marks(piece: &[u8]) -> Marks
         point: marks.trailing_zeros() as usize,
         comma: from_comma.trailing_zeros() as usize,
         other_point: from_point.trailing_zeros() as usize,
-        end: without_lowest(from_point).trailing_zeros() as usize,
+        next: without_lowest(from_point).trailing_zeros() as usize,
     }
 }
 
@@ -94,7 +96,6 @@ fn span_between(piece: &[u8], at: usize, point: usize, end: usize, behind: u8) -
     requires room { 64 ≤ length piece.now }
     requires at { at ≤ 32 }
     requires point { point ≤ 64 }
-    requires end { end ≤ 64 }
     ensures point { IfSome result (λ span. point ≡ span.first + span.natural) }
     ensures span { IfSome result (λ span. IsSpan piece.now at span.negative span.first span.natural span.fraction end behind) }
     ensures taken { IsMarkedSpan piece.now at point end behind → IsSome result }
@@ -135,23 +136,30 @@ fn is_whole(piece: &[u8], end: usize, fraction: usize, precise: bool) -> bool
             && piece[end - 3].is_ascii_digit())
 }
 
-/// Reads two numbers from the start of a piece as their cut values, with a comma between them and no space, and a
-/// closing bracket after the second, where one to three digits stand before the point of each and eleven at most after
-/// it. Of others, `None` says that another reader is to read them.
+/// Reads two numbers from the start of a piece as their cut values, with a comma between them and no space, a closing
+/// bracket after the second, and then a comma and another array, where one to three digits stand before the point of each
+/// and eleven at most after it. Of others, `None` says that another reader is to read them.
 #[inline(always)]
-pub fn read_cut_pair(piece: &[u8]) -> Option<CutPair>
+pub fn read_inner_cut_pair(piece: &[u8]) -> Option<CutPair>
     requires { 64 ≤ length piece.now }
     ensures numbers { IfSome result (λ pair. StartsWithCutPair piece.now pair) }
-    ensures taken { (usual : StartsUsualPair piece.now) → usual.second_at ≡ usual.comma_at + 1 → IsSome result }
+    ensures within { IfSome result (λ pair. pair.end + 3 ≤ length piece.now) }
+    ensures next { IfSome result (λ pair. BeginsNext piece.now pair.end) }
+    ensures taken { (usual : StartsUsualPair piece.now) → usual.second_at ≡ usual.comma_at + 1
+        → BeginsNext piece.now (usual.second_at + usual.length_other) → IsSome result }
 {
     let marks = first_marks(piece);
     let Some(one) = span_between(piece, 0, marks.point, marks.comma, b',') else {
         return None;
     };
     let at = marks.comma + 1;
-    let Some(other) = span_between(piece, at, marks.other_point, marks.end, b']') else {
+    let end = marks.next.wrapping_sub(1);
+    let Some(other) = span_between(piece, at, marks.other_point, end, b']') else {
         return None;
     };
+    if piece[end + 1] != b',' || piece[end + 2] != b'[' {
+        return None;
+    }
     let first = placed_digits(&piece[one.first..], one.natural, one.fraction);
     let second = placed_digits(&piece[other.first..], other.natural, other.fraction);
     if !are_digits(first, second) {
@@ -160,7 +168,7 @@ pub fn read_cut_pair(piece: &[u8]) -> Option<CutPair>
     let (value, other_value) = cuts_of(first, second);
     let (precise, other_precise) = rests_of(first, second);
     if !is_whole(piece, marks.comma, one.fraction, precise)
-        || !is_whole(piece, marks.end, other.fraction, other_precise)
+        || !is_whole(piece, end, other.fraction, other_precise)
     {
         return None;
     }
@@ -174,6 +182,6 @@ pub fn read_cut_pair(piece: &[u8]) -> Option<CutPair>
             precise: other_precise,
         },
         comma: marks.comma,
-        end: marks.end,
+        end,
     })
 }

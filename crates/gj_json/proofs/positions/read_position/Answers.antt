@@ -1,5 +1,6 @@
-use Rattle.std.proofs.Common.{◌+◌, List, ℕ, drop, None, refl, subst, arith}
-use Rattle.gj_number.specs.Cuts.{StartsWithCutPair}
+use Rattle.std.proofs.Common.{◌≡◌, ◌∙◌, ◌+◌, List, ℕ, get_or, length, drop, length-drop, None, refl, sym, ap, subst, arith}
+use Rattle.std.proofs.lemmas.List.{get_or-drop}
+use Rattle.gj_number.specs.Cuts.{StartsWithCutPair, BeginsNext}
 use Rattle.gj_json.specs.declared.flat.Flat.{Flat}
 use Rattle.gj_json.specs.declared.flat.Numbered.{Numbered}
 use Rattle.gj_json.proofs.Grammar.SpelledPairs.{pair_spelled}
@@ -13,6 +14,10 @@ returns c =
     let pair = c.in-Some.pair in
     let P : List ℕ → Type 0 = λ xs. StartsWithCutPair xs pair in
     let found : P (drop 1 piece) = subst P (rest_of piece 1) c.in-Some.ensures.numbers in
+    let Q : List ℕ → Type 0 = λ xs. BeginsNext xs pair.end in
+    let next : Q (drop 1 piece) = subst Q (rest_of piece 1) c.in-Some.ensures.next in
+    let after : pair.end + 2 ≡ 1 + (pair.end + 1) = omega arith in
+    let second_after : pair.end + 2 + 1 ≡ 1 + (pair.end + 2) = omega arith in
     let first : Numbered = record { value = found.one; place = start + 1 } in
     let second : Numbered = record { value = found.other; place = start + 1 + (pair.comma + 1) } in
     let flat : Flat = record {
@@ -40,7 +45,7 @@ returns c =
       at = refl;
       spelled = pair_spelled piece start first second pair.comma (pair.comma + 1) pair.end c.requires.bracket refl refl found.starts;
       close = omega arith;
-      within = omega (arith, c.if-next-piece.false);
-      comma = c.if-piece-next-ne44.false;
-      bracket = c.if-piece-next-ne91.false;
+      within = (let w = c.in-Some.ensures.within in omega (arith, ap length (rest_of piece 1), length-drop 1 piece));
+      comma = ap (λ k. get_or piece k 0) after ∙ sym (get_or-drop 1 piece (pair.end + 1) 0) ∙ next.comma;
+      bracket = ap (λ k. get_or piece k 0) second_after ∙ sym (get_or-drop 1 piece (pair.end + 2) 0) ∙ next.bracket;
     }

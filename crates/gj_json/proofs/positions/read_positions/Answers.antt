@@ -1,18 +1,19 @@
 -- One position more.
-use Rattle.std.proofs.Common.{◌≡◌, ◌∙◌, ◌+◌, ◌-◌, List, ℕ, get_or, length, take, drop, length-drop, sym, ap, subst, arith}
+use Rattle.std.proofs.Common.{◌≡◌, ◌∙◌, ◌+◌, ◌-◌, List, ℕ, get_or, length, take, drop, length-drop, sym, ap, subst, arith, rules}
+use Rattle.std.proofs.lemmas.List.{take_more_set}
 use Rattle.gj_json.specs.declared.cut_position.CutPosition.{CutPosition}
 use Rattle.gj_json.specs.Internal.SpelledPositions.{place_after_all, SpellsPosition, SpellsPositions}
 use Rattle.gj_json.proofs.Pieces.PieceRests.{rest_of}
 use Rattle.gj_json.proofs.Pieces.ReadPositions.{one_on, one_more, after_more, in_two, left_begins}
 use Rattle.gj_json.proofs.positions.read_positions.Goals as goal
 
-pub loop-rest-preserved : goal.loop-rest-preserved
-loop-rest-preserved c =
-    let i = c.loop-rest.invariant in
+pub loop-count-preserved : goal.loop-count-preserved
+loop-count-preserved c =
+    let i = c.loop-count.invariant in
     let piece = c.args.piece.now in
     let start = c.args.start in
-    let rest = c.loop-rest.rest.now in
-    let place = c.loop-rest.place in
+    let rest = c.loop-count.rest.now in
+    let place = c.loop-count.place in
     let p = c.in-Some.position in
     let s = c.in-Some.ensures in
     let n = p.close + 2 - place in
@@ -21,13 +22,18 @@ loop-rest-preserved c =
     let same : take (length rest - n) (drop n rest) ≡ drop n rest = rest_of rest n in
     let P : List CutPosition → Type 0 = λ ps. SpellsPositions ps start piece in
     let Q : ℕ → List ℕ → Type 0 = λ m xs. SpellsPosition p m xs in
-    let there : SpellsPosition p (place_after_all c.loop-rest.positions.items start) (drop (place_after_all c.loop-rest.positions.items start - start) piece) =
+    let all = c.loop-count.positions in
+    let before = take c.loop-count.count all in
+    let more = take_more_set all c.loop-count.count p (let less = c.loop-count-test.true in let z = i.size in omega arith) in
+    let there : SpellsPosition p (place_after_all before start) (drop (place_after_all before start - start) piece) =
     subst (λ (m : ℕ). Q m (drop (m - start) piece)) i.place_is (subst (λ (xs : List ℕ). Q place xs) i.rest_is s) in
     record {
       on = (let o = i.on in omega arith);
-      place_is = sym (after_more c.loop-rest.positions.items p start) ∙ ap (λ ps. place_after_all ps start) (sym c.push.ensures.items);
+      few = (let f = c.loop-count-test.true in omega arith);
+      size = search rules;
+      place_is = sym (after_more before p start) ∙ ap (λ ps. place_after_all ps start) (sym more);
       rest_is = same ∙ ap (drop n) i.rest_is ∙ in_two piece start place (p.close + 2) i.on (omega arith);
       left = (let l = i.left in let k = b.0 in omega (arith, ap length same, length-drop n rest));
       bracket = ap (λ xs. get_or xs 0 0) same ∙ b.1;
-      spelled = subst P (sym c.push.ensures.items) (one_more c.loop-rest.positions.items p start piece i.spelled there);
+      spelled = subst P (sym more) (one_more before p start piece i.spelled there);
     }

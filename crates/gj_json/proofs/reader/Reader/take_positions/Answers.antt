@@ -1,9 +1,9 @@
 -- The positions that the sink takes, as their arrays in turn.
 use Rattle.std.proofs.Common.{◌≡◌, ◌∙◌, [], ◌-◌, ◌<◌, ◌≤◌, List, ℕ, append-nil, get_or, length, take, length-drop, pos, false, sym, ap, subst, arith}
-use Rattle.std.proofs.lemmas.List.{get_or-drop}
+use Rattle.std.proofs.lemmas.List.{get_or-drop, get_or-take, length-take}
 use Rattle.gj_json.specs.Bytes.{open_bracket}
 use Rattle.gj_json.specs.declared.cut_position.CutPosition.{CutPosition}
-use Rattle.gj_json.specs.CutPosition.{AreCutPositions, Rise}
+use Rattle.gj_json.specs.CutPosition.{AreCutPositions}
 use Rattle.gj_json.specs.declared.mode.Mode.TheVariants.{ValueDue}
 use Rattle.gj_json.specs.Internal.FedReader.{FeedsAll, Passed}
 use Rattle.gj_json.specs.Internal.FlatParts.{awaits}
@@ -34,18 +34,17 @@ record Ends (told : List CutPosition) (k offset : ℕ) (rest : List ℕ) (last :
   within : last - offset < length rest
   bracket : get_or rest (last - offset) 0 ≡ open_bracket
 
-ends : (items told now : List CutPosition) (k offset : ℕ) (rest : List ℕ) → told ≡ items → now ≡ items → (k ≡ 0 → ⊥) → k ≤ length told
-    → SpellsPositions items offset rest → Ends told k offset rest (place_after (get_or now (k - 1) blank))
-ends items told now k offset rest one other some few s =
-    let P : List CutPosition → Type 0 = λ ps. SpellsPositions ps offset rest in
-    let t : P told = subst P (sym one) s in
+ends : (all : List CutPosition) (found k offset : ℕ) (rest : List ℕ) → (k ≡ 0 → ⊥) → k ≤ length (take found all)
+    → SpellsPositions (take found all) offset rest → Ends (take found all) k offset rest (place_after (get_or all (k - 1) blank))
+ends all found k offset rest some few s =
+    let told = take found all in
     let positive : 0 < k = omega (arith, some) in
-    let b = end_begins told blank k offset rest positive few t in
-    let Q : List CutPosition → Type 0 = λ ps. Ends told k offset rest (place_after (get_or ps (k - 1) blank)) in
-    subst Q (one ∙ sym other) (record {
-      spelled = t;
+    let b = end_begins told blank k offset rest positive few s in
+    let P : CutPosition → Type 0 = λ p. Ends told k offset rest (place_after p) in
+    subst P (get_or-take found all (k - 1) blank (omega (arith, length-take found all, positive))) (record {
+      spelled = s;
       some = positive;
-      end = end_is told blank k offset rest positive few t;
+      end = end_is told blank k offset rest positive few s;
       on = b.0;
       within = b.1;
       bracket = b.2;
@@ -53,16 +52,16 @@ ends items told now k offset rest one other some few s =
 
 pub tell_positions-taken-requires : goal.tell_positions-taken-requires
 tell_positions-taken-requires g c =
-    let P : List CutPosition → Type 0 = λ ps. Rise ps in
     record {
-      rising = subst P (sym c.deref.ensures.0)
-          (rising c.read_positions.new.positions.items c.loop-taken.self.offset c.loop-taken.rest.now c.read_positions.ensures);
+      rising =
+          rising (take c.read_positions-found.result c.read_positions-found.new.positions) c.loop-taken.self.offset c.loop-taken.rest.now
+          c.read_positions-found.ensures.spelled;
     }
 
 pub returns-then-taken-eq0-clause-feeds : goal.returns-then-taken-eq0-clause-feeds
 returns-then-taken-eq0-clause-feeds g c =
     let i = c.loop-taken.invariant in
-    let told = c.deref.result.now in
+    let told = take c.read_positions-found.result c.read_positions-found.new.positions in
     let piece = c.args.piece.now in
     let P : ℕ → Type 0 = λ n. AreCutPositions (take n told) [] in
     let none : P c.tell_positions-taken.result = subst P (sym c.if-taken-eq0.true) tt in
@@ -72,8 +71,8 @@ returns-then-taken-eq0-clause-feeds g c =
 pub overflow_add-count : goal.overflow_add-count
 overflow_add-count g c =
     let i = c.loop-taken.invariant in
-    let e = ends _ _ c.deref-in-loop-taken.result.now _ c.loop-taken.self.offset c.loop-taken.rest.now c.deref.ensures.0 c.deref-in-loop-taken.ensures.0
-    c.if-taken-eq0.false c.tell_positions-taken.ensures.few c.read_positions.ensures in
+    let e = ends c.read_positions-found.new.positions c.read_positions-found.result _ c.loop-taken.self.offset c.loop-taken.rest.now c.if-taken-eq0.false
+    c.tell_positions-taken.ensures.few c.read_positions-found.ensures.spelled in
     let less = e.within in
     let limits = ap (λ l. l.bytes) i.fed.feeds.limits in
     let room = room_left c.args.self.now c.loop-taken.self c.args.piece.now c.loop-taken.rest.now i.within i.fed c.requires.room in
@@ -81,40 +80,40 @@ overflow_add-count g c =
 
 pub overflow_sub-count-in-loop-taken : goal.overflow_sub-count-in-loop-taken
 overflow_sub-count-in-loop-taken g c =
-    let e = ends _ _ c.deref-in-loop-taken.result.now _ c.loop-taken.self.offset c.loop-taken.rest.now c.deref.ensures.0 c.deref-in-loop-taken.ensures.0
-    c.if-taken-eq0.false c.tell_positions-taken.ensures.few c.read_positions.ensures in
+    let e = ends c.read_positions-found.new.positions c.read_positions-found.result _ c.loop-taken.self.offset c.loop-taken.rest.now c.if-taken-eq0.false
+    c.tell_positions-taken.ensures.few c.read_positions-found.ensures.spelled in
     let on = e.on in
     omega arith
 
 pub skip-requires-clause-room : goal.skip-requires-clause-room
 skip-requires-clause-room g c =
     let i = c.loop-taken.invariant in
-    let e = ends _ _ c.deref-in-loop-taken.result.now _ c.loop-taken.self.offset c.loop-taken.rest.now c.deref.ensures.0 c.deref-in-loop-taken.ensures.0
-    c.if-taken-eq0.false c.tell_positions-taken.ensures.few c.read_positions.ensures in
+    let e = ends c.read_positions-found.new.positions c.read_positions-found.result _ c.loop-taken.self.offset c.loop-taken.rest.now c.if-taken-eq0.false
+    c.tell_positions-taken.ensures.few c.read_positions-found.ensures.spelled in
     let less = e.within in
     let room = room_left c.args.self.now c.loop-taken.self c.args.piece.now c.loop-taken.rest.now i.within i.fed c.requires.room in
     omega arith
 
 pub slice_bounds-rest-count : goal.slice_bounds-rest-count
 slice_bounds-rest-count g c =
-    let e = ends _ _ c.deref-in-loop-taken.result.now _ c.loop-taken.self.offset c.loop-taken.rest.now c.deref.ensures.0 c.deref-in-loop-taken.ensures.0
-    c.if-taken-eq0.false c.tell_positions-taken.ensures.few c.read_positions.ensures in
+    let e = ends c.read_positions-found.new.positions c.read_positions-found.result _ c.loop-taken.self.offset c.loop-taken.rest.now c.if-taken-eq0.false
+    c.tell_positions-taken.ensures.few c.read_positions-found.ensures.spelled in
     let less = e.within in
     omega arith
 
 pub slice_bounds-rest-start : goal.slice_bounds-rest-start
 slice_bounds-rest-start g c =
-    let e = ends _ _ c.deref-in-loop-taken.result.now _ c.loop-taken.self.offset c.loop-taken.rest.now c.deref.ensures.0 c.deref-in-loop-taken.ensures.0
-    c.if-taken-eq0.false c.tell_positions-taken.ensures.few c.read_positions.ensures in
+    let e = ends c.read_positions-found.new.positions c.read_positions-found.result _ c.loop-taken.self.offset c.loop-taken.rest.now c.if-taken-eq0.false
+    c.tell_positions-taken.ensures.few c.read_positions-found.ensures.spelled in
     let less = e.within in
     omega arith
 
 pub loop-taken-smaller : goal.loop-taken-smaller
 loop-taken-smaller g c =
     let rest = c.loop-taken.rest.now in
-    let e = ends _ _ c.deref-in-loop-taken.result.now _ c.loop-taken.self.offset rest c.deref.ensures.0 c.deref-in-loop-taken.ensures.0
-    c.if-taken-eq0.false c.tell_positions-taken.ensures.few c.read_positions.ensures in
-    let n = place_after (get_or c.deref-in-loop-taken.result.now (c.tell_positions-taken.result - 1) blank) - c.loop-taken.self.offset in
+    let e = ends c.read_positions-found.new.positions c.read_positions-found.result _ c.loop-taken.self.offset rest c.if-taken-eq0.false
+    c.tell_positions-taken.ensures.few c.read_positions-found.ensures.spelled in
+    let n = place_after (get_or c.read_positions-found.new.positions (c.tell_positions-taken.result - 1) blank) - c.loop-taken.self.offset in
     let on = e.on in
     let less = e.within in
     omega (arith, ap length (rest_of rest n), length-drop n rest)
@@ -125,12 +124,12 @@ loop-taken-preserved g c =
     let old = c.loop-taken.self in
     let piece = c.args.piece.now in
     let rest = c.loop-taken.rest.now in
-    let told = c.deref.result.now in
+    let told = take c.read_positions-found.result c.read_positions-found.new.positions in
     let k = c.tell_positions-taken.result in
-    let last = place_after (get_or c.deref-in-loop-taken.result.now (k - 1) blank) in
+    let last = place_after (get_or c.read_positions-found.new.positions (k - 1) blank) in
     let n = last - old.offset in
-    let e = ends _ told c.deref-in-loop-taken.result.now k old.offset rest c.deref.ensures.0 c.deref-in-loop-taken.ensures.0 c.if-taken-eq0.false
-    c.tell_positions-taken.ensures.few c.read_positions.ensures in
+    let e = ends c.read_positions-found.new.positions c.read_positions-found.result _ old.offset rest c.if-taken-eq0.false
+    c.tell_positions-taken.ensures.few c.read_positions-found.ensures.spelled in
     let on = e.on in
     let less = e.within in
     let few : n ≤ length rest = omega arith in

@@ -1,0 +1,110 @@
+use Rattle.std.proofs.Common.{◌+◌, ◌%◌, ◌∙◌, ◌≤◌, ℕ, get_or, refl, sym, ap, rules, w64, arith}
+use mir.Val.{SFits}
+use Rattle.std.proofs.lemmas.Int.{to_z-of_z}
+use Rattle.gj_number.specs.Exact.{signed}
+use Rattle.gj_number.proofs.Shorts.CutPairs.{number_is, pair_is}
+use Rattle.gj_number.proofs.Shorts.NumberPairs.{comma_other, bracket_other}
+use Rattle.gj_number.proofs.Shorts.NumberPrefixes.{sign_length}
+use Rattle.gj_number.proofs.Shorts.UsualMarks.{pair_marks, one_span, other_span, one_small, other_small, second_few, end_there}
+use Rattle.gj_number.proofs.short.cuts.read_inner_cut_pair.Goals as goal
+use Rattle.gj_number.proofs.short.cuts.read_inner_cut_pair.Goals.{then-piece-end-ne44-via-then-piece-end-ne44}
+use Rattle.gj_number.proofs.short.cuts.read_inner_cut_pair.Goals.{then-piece-end-ne44-via-else-piece-end-ne44+then-piece-end-ne91}
+use Rattle.gj_number.proofs.short.cuts.read_inner_cut_pair.Goals.{then-not-is_whole-via-then-not-is_whole}
+use Rattle.gj_number.proofs.short.cuts.read_inner_cut_pair.Goals.{then-not-is_whole-via-else-not-is_whole+then-not-is_whole-2}
+
+abbrev end_before : ℕ → ℕ
+end_before next = (next + 18446744073709551615) % 18446744073709551616
+
+pub returns-clause-numbers : goal.returns-clause-numbers
+returns-clause-numbers c =
+    let piece = c.args.piece.now in
+    let fits = c.type_inv.piece in
+    let marks = c.first_marks-marks.result in
+    let one = c.in-Some.one in
+    let other = c.in-Some-span_between.other in
+    let s = c.in-Some.ensures.span in
+    let t = c.in-Some-span_between.ensures.span in
+    let rests = c.rests_of-precise.result in
+    let told = c.rests_of-precise.ensures in
+    let comma_few : marks.comma ≤ 31 =
+    (let a = s.end_is in let b = s.first_is in let d = s.few in let e = s.few_after in omega (arith, sign_length one.negative)) in
+    let end = end_before marks.next in
+    let ordered : marks.comma + 1 ≤ end = (let a = t.end_is in let b = t.first_is in omega arith) in
+    let first = number_is piece fits 0 one.negative one.first one.natural one.fraction marks.comma 44 s (omega arith) c.requires comma_other
+    c.placed_digits-first.result c.placed_digits-first.ensures (c.are_digits.ensures.first c.if-not-are_digits.false) rests.0
+    (c.is_whole.ensures.whole c.if-not-is_whole.false) told.first_some told.first_none in
+    let second = number_is piece fits (marks.comma + 1) other.negative other.first other.natural other.fraction end 93 t (omega arith) c.requires
+    bracket_other c.placed_digits-second.result c.placed_digits-second.ensures (c.are_digits.ensures.second c.if-not-are_digits.false) rests.1
+    (c.is_whole-else-not-is_whole.ensures.whole c.if-not-is_whole-2.false) told.second_some told.second_none in
+    let fits_one : SFits w64 c.with_sign.result = search rules in
+    let fits_other : SFits w64 c.with_sign-2.result = search rules in
+    let value = ap (signed one.negative) (sym c.cuts_of-value.ensures.first) ∙ sym c.with_sign.ensures ∙ sym (to_z-of_z w64 c.with_sign.result fits_one) in
+    let more = ap (signed other.negative) (sym c.cuts_of-value.ensures.second) ∙ sym c.with_sign-2.ensures
+    ∙ sym (to_z-of_z w64 c.with_sign-2.result fits_other) in
+    pair_is piece marks.comma end one.negative other.negative _ _ rests.0 rests.1 first second _ _ value more s.ends t.ends ordered
+
+pub returns-in_default-clause-taken : goal.returns-in_default-clause-taken
+returns-in_default-clause-taken c = λ u tight follows.
+    let piece = c.args.piece.now in
+    let marks = c.first_marks-marks.result in
+    let h = c.first_marks-marks.ensures.first _ _ _ _ (pair_marks piece u tight follows (omega (arith, c.requires))) in
+    let few = c.first_marks-marks.ensures.next in
+    c.in_default.ensures.taken (one_span piece u tight follows _ _ _ _ (end_before marks.next) h (λ _. refl) few)
+
+pub returns-in_default-span_between-clause-taken : goal.returns-in_default-span_between-clause-taken
+returns-in_default-span_between-clause-taken c = λ u tight follows.
+    let piece = c.args.piece.now in
+    let marks = c.first_marks-marks.result in
+    let h = c.first_marks-marks.ensures.first _ _ _ _ (pair_marks piece u tight follows (omega (arith, c.requires))) in
+    let few = c.first_marks-marks.ensures.next in
+    c.in_default-span_between.ensures.taken (other_span piece u tight follows _ _ _ _ _ h (λ _. refl) few)
+
+pub returns-then-piece-end-ne44-clause-taken : goal.returns-then-piece-end-ne44-clause-taken
+returns-then-piece-end-ne44-clause-taken c = λ u tight follows.
+    let piece = c.args.piece.now in
+    let marks = c.first_marks-marks.result in
+    let h = c.first_marks-marks.ensures.first _ _ _ _ (pair_marks piece u tight follows (omega (arith, c.requires))) in
+    let few = c.first_marks-marks.ensures.next in
+    let e = end_there piece u tight follows _ _ _ _ (end_before marks.next) h (λ _. refl) few in
+    elim c.then-piece-end-ne44.branch [
+      | then-piece-end-ne44-via-then-piece-end-ne44 w ↦
+          (let no = w.if-piece-end-ne44.true in let yes = ap (λ k. get_or piece (k + 1) 0) e ∙ follows.comma in absurd (no yes))
+      | then-piece-end-ne44-via-else-piece-end-ne44+then-piece-end-ne91 w ↦
+          (let no = w.if-piece-end-ne91.true in let yes = ap (λ k. get_or piece (k + 2) 0) e ∙ follows.bracket in absurd (no yes))
+    ]
+
+pub returns-then-not-are_digits-clause-taken : goal.returns-then-not-are_digits-clause-taken
+returns-then-not-are_digits-clause-taken c = λ u tight follows.
+    let piece = c.args.piece.now in
+    let one = c.in-Some.one in
+    let other = c.in-Some-span_between.other in
+    let marks = c.first_marks-marks.result in
+    let h = c.first_marks-marks.ensures.first _ _ _ _ (pair_marks piece u tight follows (omega (arith, c.requires))) in
+    let few = c.first_marks-marks.ensures.next in
+    let first = one_small piece u tight follows _ _ _ _ (end_before marks.next) h (λ _. refl) few c.type_inv.piece one.negative one.first one.natural one.fraction c.requires c.placed_digits-first.result
+    c.placed_digits-first.ensures c.in-Some.ensures.span c.in-Some.ensures.point in
+    let second = other_small piece u tight follows _ _ _ _ _ h (λ _. refl) few c.type_inv.piece other.negative other.first other.natural other.fraction c.requires
+    c.placed_digits-second.result c.placed_digits-second.ensures c.in-Some-span_between.ensures.span c.in-Some-span_between.ensures.point
+    (second_few piece u tight follows _ _ _ _ (end_before marks.next) h (λ _. refl) few) in
+    let yes = c.are_digits.ensures.taken first.0 second.0 in
+    let no = c.if-not-are_digits.true in
+    cc
+
+pub returns-then-not-is_whole-clause-taken : goal.returns-then-not-is_whole-clause-taken
+returns-then-not-is_whole-clause-taken c = λ u tight follows.
+    let piece = c.args.piece.now in
+    let one = c.in-Some.one in
+    let other = c.in-Some-span_between.other in
+    let marks = c.first_marks-marks.result in
+    let h = c.first_marks-marks.ensures.first _ _ _ _ (pair_marks piece u tight follows (omega (arith, c.requires))) in
+    let few = c.first_marks-marks.ensures.next in
+    let first = one_small piece u tight follows _ _ _ _ (end_before marks.next) h (λ _. refl) few c.type_inv.piece one.negative one.first one.natural one.fraction c.requires c.placed_digits-first.result
+    c.placed_digits-first.ensures c.in-Some.ensures.span c.in-Some.ensures.point in
+    let second = other_small piece u tight follows _ _ _ _ _ h (λ _. refl) few c.type_inv.piece other.negative other.first other.natural other.fraction c.requires
+    c.placed_digits-second.result c.placed_digits-second.ensures c.in-Some-span_between.ensures.span c.in-Some-span_between.ensures.point
+    (second_few piece u tight follows _ _ _ _ (end_before marks.next) h (λ _. refl) few) in
+    elim c.then-not-is_whole.branch [
+      | then-not-is_whole-via-then-not-is_whole w ↦ (let yes = c.is_whole.ensures.taken first.1 in let no = w.if-not-is_whole.true in cc)
+      | then-not-is_whole-via-else-not-is_whole+then-not-is_whole-2 w ↦
+          (let yes = w.is_whole-else-not-is_whole.ensures.taken second.1 in let no = w.if-not-is_whole-2.true in cc)
+    ]
