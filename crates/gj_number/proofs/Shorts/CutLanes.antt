@@ -1,12 +1,12 @@
 -- The lanes from which a cut value is read.
 use Rattle.std.proofs.Common.{zero, suc, ◌≡◌, ℕ, ◌+◌, ◌-◌, ◌*◌, ◌%◌, ◌^◌, ◌<◌, ◌≤◌, ◌||◌, ◌++◌, ◌⊎◌, true, false, List, [], ◌∷◌, length, map}
-use Rattle.std.proofs.Common.{get_or, leb, ltb, cond, T, inl, inr}
+use Rattle.std.proofs.Common.{get_or, ltb, cond, replicate, Fits, T, inl, inr}
 use Rattle.std.proofs.Common.{append-nil, refl, sym, ◌∙◌, ap, subst, arith, w8}
 use mir.Val.{zeroes}
-use lib.Lanes.{zip2, sel_l, mask_l, top, Each1, chunk, products, pair_sums, dots, all_below}
-use lib.Bits.{bit_and}
-use Rattle.std.proofs.lemmas.Nat.{and_mask}
-use Rattle.std.proofs.lemmas.Bool.Decides.{nat_tests, leb_tells}
+use lib.Lanes.{zip2, sel_l, fold_l, top, Each1, chunk, products, pair_sums, dots, all_below}
+use lib.Bits.{bit_and, bit_or}
+use Rattle.std.proofs.lemmas.Nat.{and_mask, le_or_l, le_or_r}
+use Rattle.std.proofs.lemmas.Bool.Decides.{nat_tests}
 use Rattle.std.proofs.lemmas.Bool.{cases_lt}
 use Rattle.std.proofs.lemmas.Simd.{swz_l, SwzOk, SwzOk-from_Each1, Each1-chunk, length-chunk, tops_compared}
 use Rattle.gj_number.specs.declared.short.cut_lanes.TheConstants.{PLACED}
@@ -185,13 +185,6 @@ less_tells x y = elim (cases_lt x y) [
   | inr l ↦ (let e : ltb x y ≡ false = grind (arith, nat_tests) in inr (e, l))
 ]
 
-none_from_ten : (xs : List ℕ) → mask_l (map (leb 10) xs) ≡ 0 → Each1 (λ x. x < 10) xs
-none_from_ten [] e = tt
-none_from_ten (x ∷ xs) e = elim (leb_tells 10 x) [
-  | inl t ↦ absurd (let f = rw (t.0) at e in omega arith)
-  | inr t ↦ (t.1, none_from_ten xs (let f = rw (t.0) at e in omega arith))
-]
-
 both_small : (xs ys : List ℕ) → length xs ≡ length ys → Each1 (λ x. x < 10) (greater xs ys) → Each1 (λ x. x < 10) xs × Each1 (λ x. x < 10) ys
 both_small [] [] len h = (tt, tt)
 both_small (x ∷ xs) (y ∷ ys) len h =
@@ -204,9 +197,9 @@ both_small (x ∷ xs) (y ∷ ys) len h =
 both_small [] (_ ∷ _) len h = absurd (omega arith)
 both_small (_ ∷ _) [] len h = absurd (omega arith)
 
-pub digits_in_both : (xs ys : List ℕ) (mask : ℕ) → length xs ≡ 16 → length ys ≡ 16 → mask ≡ mask_l (map (leb 10) (greater xs ys)) → mask ≡ 0
+pub digits_in_both : (xs ys : List ℕ) → length xs ≡ 16 → length ys ≡ 16 → Each1 (λ x. x < 10) (greater xs ys)
     → Each1 (λ x. x < 10) xs × Each1 (λ x. x < 10) ys
-digits_in_both xs ys mask len more e none = both_small xs ys (len ∙ sym more) (none_from_ten (greater xs ys) (sym e ∙ none))
+digits_in_both xs ys len more h = both_small xs ys (len ∙ sym more) h
 
 both_zero : (xs ys : List ℕ) (k : ℕ) → length xs ≡ length ys → get_or (greater xs ys) k 0 ≡ 0 → (get_or xs k 0 ≡ 0) × (get_or ys k 0 ≡ 0)
 both_zero [] [] k len e = (e, e)
@@ -230,19 +223,86 @@ rests_in_both xs ys len more h =
     let f = both_zero xs ys 15 same h.1.1.1.1.1.0 in
     ((a.0, (b.0, (c.0, (d.0, (e.0, (f.0, tt)))))), (a.1, (b.1, (c.1, (d.1, (e.1, (f.1, tt)))))))
 
-all_below_ten : (xs ys : List ℕ) → length xs ≡ length ys → Each1 (λ x. x < 10) xs → Each1 (λ x. x < 10) ys → mask_l (map (leb 10) (greater xs ys)) ≡ 0
-all_below_ten [] [] len h k = refl
+pub all_below_ten : (xs ys : List ℕ) → length xs ≡ length ys → Each1 (λ x. x < 10) xs → Each1 (λ x. x < 10) ys → Each1 (λ x. x < 10) (greater xs ys)
+all_below_ten [] [] len h k = tt
 all_below_ten (x ∷ xs) (y ∷ ys) len h k =
     let rest = all_below_ten xs ys (omega arith) h.1 k.1 in
     let a = h.0 in
     let b = k.0 in
     elim (less_tells x y) [
-      | inl t ↦ rw (t.0) (let e : leb 10 y ≡ false = grind (arith, nat_tests) in rw e (omega arith))
-      | inr t ↦ rw (t.0) (let e : leb 10 x ≡ false = grind (arith, nat_tests) in rw e (omega arith))
+      | inl t ↦ rw (t.0) (b, rest)
+      | inr t ↦ rw (t.0) (a, rest)
     ]
 all_below_ten [] (_ ∷ _) len h k = absurd (omega arith)
 all_below_ten (_ ∷ _) [] len h k = absurd (omega arith)
 
-pub none_in_both : (xs ys : List ℕ) (mask : ℕ) → length xs ≡ 16 → length ys ≡ 16 → mask ≡ mask_l (map (leb 10) (greater xs ys)) → Each1 (λ x. x < 10) xs
-    → Each1 (λ x. x < 10) ys → mask ≡ 0
-none_in_both xs ys mask len more e h k = e ∙ all_below_ten xs ys (len ∙ sym more) h k
+-- ---- lanes above nine
+
+abbrev pub less_nine : ℕ → ℕ → ℕ
+less_nine a b = (a + (256 - b)) % 256
+
+pub nine_only : (xs : List ℕ) (n : ℕ) → length xs ≡ n → Each1 (Fits w8) xs
+    → Each1 (λ x. x ≡ 0) (zip2 less_nine xs (sel_l (zip2 ltb xs (replicate n 9)) xs (replicate n 9))) → Each1 (λ x. x < 10) xs
+nine_only [] n len fits z = tt
+nine_only (x ∷ xs) zero len fits z = absurd (omega arith)
+nine_only (x ∷ xs) (suc n) len fits z =
+    let small = fits.0.fits in
+    let rest = nine_only xs n (omega arith) fits.1 z.1 in
+    elim (less_tells x 9) [
+      | inl t ↦ (let l = t.1 in omega arith, rest)
+      | inr t ↦ (let e = rw (t.0) at z.0 in let m = t.1 in omega arith, rest)
+    ]
+
+pub nine_off : (xs : List ℕ) (n : ℕ) → length xs ≡ n → Each1 (λ x. x < 10) xs
+    → Each1 (λ x. x ≡ 0) (zip2 less_nine xs (sel_l (zip2 ltb xs (replicate n 9)) xs (replicate n 9)))
+nine_off [] n len h = tt
+nine_off (x ∷ xs) zero len h = absurd (omega arith)
+nine_off (x ∷ xs) (suc n) len h =
+    let rest = nine_off xs n (omega arith) h.1 in
+    let l = h.0 in
+    elim (less_tells x 9) [
+      | inl t ↦ (rw (t.0) (omega arith), rest)
+      | inr t ↦ (let m = t.1 in rw (t.0) (omega arith), rest)
+    ]
+
+-- ---- lanes that are all zero
+
+pub all_zero : (a : ℕ) (xs : List ℕ) → fold_l (λ b x. bit_or b x) a xs ≡ 0 → (a ≡ 0) × Each1 (λ x. x ≡ 0) xs
+all_zero a [] e = (e, tt)
+all_zero a (x ∷ xs) e =
+    let t = all_zero (bit_or a x) xs e in
+    let none = t.0 in
+    let one : a ≡ 0 = omega (arith, le_or_l a x) in
+    let other : x ≡ 0 = omega (arith, le_or_r a x) in
+    (one, (other, t.1))
+
+pub zero_of_all : (xs : List ℕ) → Each1 (λ x. x ≡ 0) xs → fold_l (λ b x. bit_or b x) 0 xs ≡ 0
+zero_of_all [] h = refl
+zero_of_all (x ∷ xs) h = ap (λ y. fold_l (λ b x. bit_or b x) (bit_or 0 y) xs) h.0 ∙ zero_of_all xs h.1
+
+-- the lanes that a digit after the seventh has
+abbrev rest_lanes : List ℕ
+rest_lanes = 0 ∷ 0 ∷ 0 ∷ 255 ∷ 0 ∷ 0 ∷ 0 ∷ 255 ∷ 0 ∷ 0 ∷ 0 ∷ 255 ∷ 0 ∷ 255 ∷ 255 ∷ 255 ∷ []
+
+kept_zero : (x : ℕ) → x < 256 → bit_and x 255 ≡ 0 → x ≡ 0
+kept_zero x h e = omega (arith, and_mask x 8)
+
+pub rests_off : (xs : List ℕ) → length xs ≡ 16 → Each1 (Fits w8) xs → Each1 (λ x. x ≡ 0) (zip2 (λ a b. bit_and a b) xs rest_lanes)
+    → Each1 (λ x. x ≡ 0) (rests_in xs)
+rests_off (a ∷ b ∷ c ∷ d ∷ e ∷ f ∷ g ∷ h ∷ p ∷ q ∷ r ∷ s ∷ t ∷ u ∷ v ∷ w ∷ []) len fits z = (
+  kept_zero d fits.1.1.1.0.fits z.1.1.1.0,
+  (
+    kept_zero h fits.1.1.1.1.1.1.1.0.fits z.1.1.1.1.1.1.1.0,
+    (
+      kept_zero s fits.1.1.1.1.1.1.1.1.1.1.1.0.fits z.1.1.1.1.1.1.1.1.1.1.1.0,
+      (
+        kept_zero u fits.1.1.1.1.1.1.1.1.1.1.1.1.1.0.fits z.1.1.1.1.1.1.1.1.1.1.1.1.1.0,
+        (
+          kept_zero v fits.1.1.1.1.1.1.1.1.1.1.1.1.1.1.0.fits z.1.1.1.1.1.1.1.1.1.1.1.1.1.1.0,
+          (kept_zero w fits.1.1.1.1.1.1.1.1.1.1.1.1.1.1.1.0.fits z.1.1.1.1.1.1.1.1.1.1.1.1.1.1.1.0, tt),
+        ),
+      ),
+    ),
+  ),
+)
+rests_off _ len fits z = absurd (omega arith)

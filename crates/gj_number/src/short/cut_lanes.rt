@@ -1,10 +1,10 @@
 //! The digits of a number in an order of lanes from which its cut value is read.
-ghost use Rattle.std.specs.Prelude.{◌≡◌, ◌≤◌, ◌<◌, ◌^◌, length, map, take, true, false, IsTrue};
+ghost use Rattle.std.specs.Prelude.{◌≡◌, ◌≤◌, ◌<◌, ◌^◌, length, map, take, ◌↔◌, true, false, IsTrue};
 ghost use Rattle.std.specs.Simd.Lanes.{Each1};
 ghost use Rattle.gj_number.specs.Internal.DigitLanes.{lane_of};
 ghost use Rattle.gj_number.specs.Internal.CutLanes.{after_point, before_point, by_parts, by_sevens, cut_in, in_lanes, rests_in};
 
-use crate::lanes::{from_ten, lanes_of};
+use crate::lanes::lanes_of;
 use std::simd::prelude::*;
 
 /// Rows of sixteen places, from one to three digits before a point and up to fifteen after it: row `16 * (natural - 1)
@@ -59,6 +59,22 @@ pub(crate) fn placed_digits(piece: &[u8], natural: usize, fraction: usize) -> u8
     lanes_of(piece).swizzle_dyn(u8x16::from_slice(&PLACED[256 * (natural - 1) + 16 * fraction..]))
 }
 
+/// Whether all lanes are 0.
+#[inline(always)]
+fn are_zero(lanes: u8x16) -> bool
+    ensures { IsTrue result ↔ Each1 (λ lane. lane ≡ 0) lanes }
+{
+    lanes.reduce_or() == 0
+}
+
+/// By how much each lane is greater than 9.
+#[inline(always)]
+fn above_nine(lanes: u8x16) -> u8x16
+    ensures { Each1 (λ lane. lane ≡ 0) result ↔ Each1 (λ lane. lane < 10) lanes }
+{
+    lanes - lanes.simd_min(u8x16::splat(9))
+}
+
 /// Whether all lanes of two numbers are digits.
 #[inline(always)]
 pub(crate) fn are_digits(first: u8x16, second: u8x16) -> bool
@@ -66,7 +82,7 @@ pub(crate) fn are_digits(first: u8x16, second: u8x16) -> bool
     ensures second { IsTrue result → Each1 (λ digit. digit < 10) second }
     ensures taken { Each1 (λ digit. digit < 10) first → Each1 (λ digit. digit < 10) second → IsTrue result }
 {
-    from_ten(first.simd_max(second)) == 0
+    are_zero(above_nine(first.simd_max(second)))
 }
 
 /// The digits before the point as one number, the first three after it, the next three, and the seventh.
@@ -118,6 +134,16 @@ fn has_rest(digits: u8x16) -> bool
     digits.simd_gt(most).to_bitmask() != 0
 }
 
+/// Whether no such digit is in these lanes, by one comparison.
+#[inline(always)]
+fn has_no_rest(digits: u8x16) -> bool
+    ensures { IsTrue result → Each1 (λ digit. digit ≡ 0) (rests_in digits) }
+{
+    are_zero(
+        digits & u8x16::from_array([0, 0, 0, 255, 0, 0, 0, 255, 0, 0, 0, 255, 0, 255, 255, 255]),
+    )
+}
+
 /// Whether each of two numbers has such a digit. Mostly none has, which one look at the greater of each two lanes says.
 #[inline(always)]
 pub(crate) fn rests_of(first: u8x16, second: u8x16) -> (bool, bool)
@@ -126,9 +152,9 @@ pub(crate) fn rests_of(first: u8x16, second: u8x16) -> (bool, bool)
     ensures second_some { result.1 ≡ true → Each1 (λ digit. digit ≡ 0) (rests_in second) → ⊥ }
     ensures second_none { result.1 ≡ false → Each1 (λ digit. digit ≡ 0) (rests_in second) }
 {
-    if has_rest(first.simd_max(second)) {
-        (has_rest(first), has_rest(second))
-    } else {
+    if has_no_rest(first.simd_max(second)) {
         (false, false)
+    } else {
+        (has_rest(first), has_rest(second))
     }
 }
