@@ -15,49 +15,90 @@ use Rattle.gj_number.proofs.Shorts.SixteenLanes.{Below, below_at, every_each}
 
 -- ---- where the digits are placed
 
-pub placed_ok : (at : ℕ) → at ≤ 752 → SwzOk w8 16 16 0 (chunk 0 16 (chunk at (768 - at) PLACED))
+pub placed_ok : (at : ℕ) → at ≤ 1008 → SwzOk w8 16 16 0 (chunk 0 16 (chunk at (1024 - at) PLACED))
 placed_ok at h =
     let P : ℕ → Type 0 = λ j. T (zeroes 16 w8 j || ltb j 16) in
     let all : Each1 P PLACED = every_each (λ j. zeroes 16 w8 j || ltb j 16) PLACED tt in
-    let rest = Each1-chunk P at (768 - at) PLACED all in
-    let long : length (chunk 0 16 (chunk at (768 - at) PLACED)) ≡ 16 = length-chunk 0 16 _ (omega (arith, length-chunk at (768 - at) PLACED (omega arith))) in
+    let rest = Each1-chunk P at (1024 - at) PLACED all in
+    let long : length (chunk 0 16 (chunk at (1024 - at) PLACED)) ≡ 16 = length-chunk 0 16 _ (omega (arith, length-chunk at (1024 - at) PLACED (omega arith))) in
     SwzOk-from_Each1 w8 16 1 16 0 _ refl (omega arith) (Each1-chunk P 0 16 _ rest)
 
 -- what a row of the table makes of the lanes
+abbrev pub placed : List ℕ → ℕ → ℕ → List ℕ
+placed xs n f = swz_l w8 16 xs 0 (chunk 0 16 (chunk (256 * n + 16 * f) (1024 - (256 * n + 16 * f)) PLACED))
+
 abbrev pub IsPlaced : List ℕ → ℕ → ℕ → Type 0
-IsPlaced xs n f =
-    swz_l w8 16 xs 0 (chunk 0 16 (chunk (256 * (n - 1) + 16 * f) (768 - (256 * (n - 1) + 16 * f)) PLACED)) ≡ in_lanes (before_point n xs) (after_point n f xs)
+IsPlaced xs n f = placed xs n f ≡ in_lanes (before_point n xs) (after_point n f xs)
 
-placed_one : (xs : List ℕ) → length xs ≡ 16 → (f : ℕ) → f < 16 → IsPlaced xs 1 f
-placed_one (a ∷ b ∷ c ∷ d ∷ e ∷ f ∷ g ∷ h ∷ p ∷ q ∷ r ∷ s ∷ t ∷ u ∷ v ∷ w ∷ []) len f' few =
+placed_one : (xs : List ℕ) → length xs ≡ 16 → (f : ℕ) → 0 < f → f < 16 → IsPlaced xs 1 f
+placed_one (a ∷ b ∷ c ∷ d ∷ e ∷ f ∷ g ∷ h ∷ p ∷ q ∷ r ∷ s ∷ t ∷ u ∷ v ∷ w ∷ []) len f' some few =
     let xs : List ℕ = a ∷ b ∷ c ∷ d ∷ e ∷ f ∷ g ∷ h ∷ p ∷ q ∷ r ∷ s ∷ t ∷ u ∷ v ∷ w ∷ [] in
-    let all : Below (IsPlaced xs 1) 16 =
-    ((((((((((((((((tt, refl), refl), refl), refl), refl), refl), refl), refl), refl), refl), refl), refl), refl), refl), refl), refl) in
-    below_at (IsPlaced xs 1) 16 f' all few
-placed_one _ len f' few = absurd (omega arith)
+    let all : Below (λ g. 0 < g → IsPlaced xs 1 g) 16 =
+    ((((((((((((((((tt, λ z. absurd (omega arith)), λ _. refl), λ _. refl), λ _. refl), λ _. refl), λ _. refl), λ _. refl), λ _. refl), λ _. refl), λ _. refl), λ _. refl), λ _. refl), λ _. refl), λ _. refl), λ _. refl), λ _. refl) in
+    below_at (λ g. 0 < g → IsPlaced xs 1 g) 16 f' all few some
+placed_one _ len f' some few = absurd (omega arith)
 
-placed_two : (xs : List ℕ) → length xs ≡ 16 → (f : ℕ) → f < 16 → IsPlaced xs 2 f
-placed_two (a ∷ b ∷ c ∷ d ∷ e ∷ f ∷ g ∷ h ∷ p ∷ q ∷ r ∷ s ∷ t ∷ u ∷ v ∷ w ∷ []) len f' few =
+placed_two : (xs : List ℕ) → length xs ≡ 16 → (f : ℕ) → 0 < f → f < 16 → IsPlaced xs 2 f
+placed_two (a ∷ b ∷ c ∷ d ∷ e ∷ f ∷ g ∷ h ∷ p ∷ q ∷ r ∷ s ∷ t ∷ u ∷ v ∷ w ∷ []) len f' some few =
     let xs : List ℕ = a ∷ b ∷ c ∷ d ∷ e ∷ f ∷ g ∷ h ∷ p ∷ q ∷ r ∷ s ∷ t ∷ u ∷ v ∷ w ∷ [] in
-    let all : Below (IsPlaced xs 2) 16 =
-    ((((((((((((((((tt, refl), refl), refl), refl), refl), refl), refl), refl), refl), refl), refl), refl), refl), refl), refl), refl) in
-    below_at (IsPlaced xs 2) 16 f' all few
-placed_two _ len f' few = absurd (omega arith)
+    let all : Below (λ g. 0 < g → IsPlaced xs 2 g) 16 =
+    ((((((((((((((((tt, λ z. absurd (omega arith)), λ _. refl), λ _. refl), λ _. refl), λ _. refl), λ _. refl), λ _. refl), λ _. refl), λ _. refl), λ _. refl), λ _. refl), λ _. refl), λ _. refl), λ _. refl), λ _. refl), λ _. refl) in
+    below_at (λ g. 0 < g → IsPlaced xs 2 g) 16 f' all few some
+placed_two _ len f' some few = absurd (omega arith)
 
-placed_three : (xs : List ℕ) → length xs ≡ 16 → (f : ℕ) → f < 16 → IsPlaced xs 3 f
-placed_three (a ∷ b ∷ c ∷ d ∷ e ∷ f ∷ g ∷ h ∷ p ∷ q ∷ r ∷ s ∷ t ∷ u ∷ v ∷ w ∷ []) len f' few =
+placed_three : (xs : List ℕ) → length xs ≡ 16 → (f : ℕ) → 0 < f → f < 16 → IsPlaced xs 3 f
+placed_three (a ∷ b ∷ c ∷ d ∷ e ∷ f ∷ g ∷ h ∷ p ∷ q ∷ r ∷ s ∷ t ∷ u ∷ v ∷ w ∷ []) len f' some few =
     let xs : List ℕ = a ∷ b ∷ c ∷ d ∷ e ∷ f ∷ g ∷ h ∷ p ∷ q ∷ r ∷ s ∷ t ∷ u ∷ v ∷ w ∷ [] in
-    let all : Below (IsPlaced xs 3) 16 =
-    ((((((((((((((((tt, refl), refl), refl), refl), refl), refl), refl), refl), refl), refl), refl), refl), refl), refl), refl), refl) in
-    below_at (IsPlaced xs 3) 16 f' all few
-placed_three _ len f' few = absurd (omega arith)
+    let all : Below (λ g. 0 < g → IsPlaced xs 3 g) 16 =
+    ((((((((((((((((tt, λ z. absurd (omega arith)), λ _. refl), λ _. refl), λ _. refl), λ _. refl), λ _. refl), λ _. refl), λ _. refl), λ _. refl), λ _. refl), λ _. refl), λ _. refl), λ _. refl), λ _. refl), λ _. refl), λ _. refl) in
+    below_at (λ g. 0 < g → IsPlaced xs 3 g) 16 f' all few some
+placed_three _ len f' some few = absurd (omega arith)
 
-pub placed_is : (xs : List ℕ) → length xs ≡ 16 → (n f : ℕ) → 0 < n → n ≤ 3 → f ≤ 15 → IsPlaced xs n f
-placed_is xs len zero f some few within = absurd (omega arith)
-placed_is xs len (suc zero) f some few within = placed_one xs len f (omega arith)
-placed_is xs len (suc (suc zero)) f some few within = placed_two xs len f (omega arith)
-placed_is xs len (suc (suc (suc zero))) f some few within = placed_three xs len f (omega arith)
-placed_is xs len (suc (suc (suc (suc n)))) f some few within = absurd (omega arith)
+pub placed_is : (xs : List ℕ) → length xs ≡ 16 → (n f : ℕ) → 0 < n → n ≤ 3 → 0 < f → f ≤ 15 → IsPlaced xs n f
+placed_is xs len zero f some few more within = absurd (omega arith)
+placed_is xs len (suc zero) f some few more within = placed_one xs len f more (omega arith)
+placed_is xs len (suc (suc zero)) f some few more within = placed_two xs len f more (omega arith)
+placed_is xs len (suc (suc (suc zero))) f some few more within = placed_three xs len f more (omega arith)
+placed_is xs len (suc (suc (suc (suc n)))) f some few more within = absurd (omega arith)
+
+-- the row of no digits has the point
+abbrev HasPoint : List ℕ → ℕ → ℕ → Type 0
+HasPoint xs n f = get_or (placed xs n f) 4 0 ≡ get_or xs n 0
+
+no_digit_before : (xs : List ℕ) → length xs ≡ 16 → (f : ℕ) → f < 16 → HasPoint xs 0 f
+no_digit_before (a ∷ b ∷ c ∷ d ∷ e ∷ f ∷ g ∷ h ∷ p ∷ q ∷ r ∷ s ∷ t ∷ u ∷ v ∷ w ∷ []) len f' few =
+    let xs : List ℕ = a ∷ b ∷ c ∷ d ∷ e ∷ f ∷ g ∷ h ∷ p ∷ q ∷ r ∷ s ∷ t ∷ u ∷ v ∷ w ∷ [] in
+    let all : Below (HasPoint xs 0) 16 =
+    ((((((((((((((((tt, refl), refl), refl), refl), refl), refl), refl), refl), refl), refl), refl), refl), refl), refl), refl), refl) in
+    below_at (HasPoint xs 0) 16 f' all few
+no_digit_before _ len f' few = absurd (omega arith)
+
+no_digit_after : (xs : List ℕ) → length xs ≡ 16 → (n : ℕ) → n < 4 → HasPoint xs n 0
+no_digit_after (a ∷ b ∷ c ∷ d ∷ e ∷ f ∷ g ∷ h ∷ p ∷ q ∷ r ∷ s ∷ t ∷ u ∷ v ∷ w ∷ []) len n few =
+    let xs : List ℕ = a ∷ b ∷ c ∷ d ∷ e ∷ f ∷ g ∷ h ∷ p ∷ q ∷ r ∷ s ∷ t ∷ u ∷ v ∷ w ∷ [] in
+    let all : Below (λ m. HasPoint xs m 0) 4 = ((((tt, refl), refl), refl), refl) in
+    below_at (λ m. HasPoint xs m 0) 4 n all few
+no_digit_after _ len n few = absurd (omega arith)
+
+fifth_small : (xs : List ℕ) → Each1 (λ x. x < 10) xs → get_or xs 4 0 < 10
+fifth_small [] h = omega arith
+fifth_small (_ ∷ []) h = omega arith
+fifth_small (_ ∷ _ ∷ []) h = omega arith
+fifth_small (_ ∷ _ ∷ _ ∷ []) h = omega arith
+fifth_small (_ ∷ _ ∷ _ ∷ _ ∷ []) h = omega arith
+fifth_small (_ ∷ _ ∷ _ ∷ _ ∷ x ∷ xs) h = h.1.1.1.1.0
+
+-- where the byte at the point is no digit, there are digits before it and after it
+pub digits_there : (xs : List ℕ) → length xs ≡ 16 → (n f : ℕ) → n ≤ 3 → f ≤ 15 → 10 ≤ get_or xs n 0 → Each1 (λ x. x < 10) (placed xs n f) → (0 < n) × (0 < f)
+digits_there xs len zero f few within point h =
+    let e = no_digit_before xs len f (omega arith) in
+    let l = fifth_small (placed xs 0 f) h in
+    absurd (omega arith)
+digits_there xs len (suc n) zero few within point h =
+    let e = no_digit_after xs len (suc n) (omega arith) in
+    let l = fifth_small (placed xs (suc n) 0) h in
+    absurd (omega arith)
+digits_there xs len (suc n) (suc f) few within point h = (omega arith, omega arith)
 
 -- ---- their numbers by three and three
 

@@ -33,8 +33,12 @@ pub record IsCutNumber (piece : List ℕ) (at : ℕ) (negative : Bool) (end valu
   pub cut : limited_cut (cut_magnitude (short_value negative digits places)) ≡ Some value
   pub rest : IsTrue precise ↔ (7 < places_of (short_value negative digits places))
 
+pub point_of : (piece : List ℕ) (at : ℕ) (negative : Bool) (first n f end behind : ℕ) → IsSpan piece at negative first n f end behind
+    → get_or (take (length piece - first) (drop first piece)) n 0 ≡ decimal_point
+point_of piece at negative first n f end behind s = ap (λ xs. get_or xs n 0) (take_rest piece first) ∙ get_or-drop first piece n 0 ∙ s.point
+
 module _ (piece : List ℕ) (fits : (k : ℕ) → Fits w8 (get_or piece k 0)) (at : ℕ) (negative : Bool) (first n f end behind : ℕ)
-    (s : IsSpan piece at negative first n f end behind) (room : at ≤ 32) (long : 64 ≤ length piece) (other : class_of behind ≡ Other)
+    (s : IsSpan piece at negative first n f end behind) (some : 0 < n) (some_after : 0 < f) (room : at ≤ 32) (long : 64 ≤ length piece) (other : class_of behind ≡ Other)
     (lanes : List ℕ)
     (placed : lanes ≡ in_lanes (before_point n (map lane_of (take 16 (take (length piece - first) (drop first piece)))))
     (after_point n f (map lane_of (take 16 (take (length piece - first) (drop first piece))))))
@@ -65,10 +69,10 @@ module _ (piece : List ℕ) (fits : (k : ℕ) → Fits w8 (get_or piece k 0)) (a
       subst P (sym (get_or-drop first piece (n + 1 + i) 0)) (w.last many (first + (n + 1 + i)) (omega arith) (omega arith))
 
   abbrev all : ℕ
-  all = whole digits digits_fit n f s.some s.few s.few_after digits_long lanes_small last
+  all = whole digits digits_fit n f some s.few s.few_after digits_long lanes_small last
 
   all_small : all < 10 ^ 18
-  all_small = whole_small digits digits_fit n f s.some s.few s.few_after digits_long lanes_small last
+  all_small = whole_small digits digits_fit n f some s.few s.few_after digits_long lanes_small last
 
   -- from the sign on
   abbrev number : List ℕ
@@ -95,13 +99,13 @@ module _ (piece : List ℕ) (fits : (k : ℕ) → Fits w8 (get_or piece k 0)) (a
       let front : SpellsOn digits 0 n (number_of (take n digits)) =
       record {
         within = omega arith;
-        digits = natural_digits digits digits_fit n f s.some s.few s.few_after digits_long lanes_small last;
+        digits = natural_digits digits digits_fit n f some s.few s.few_after digits_long lanes_small last;
         value_is = refl;
       } in
       let back : SpellsOn (drop (n + 1) digits) (number_of (take n digits)) f all =
       record {
         within = omega (arith, length-drop (n + 1) digits);
-        digits = fraction_digits digits digits_fit n f s.some s.few s.few_after digits_long lanes_small last;
+        digits = fraction_digits digits digits_fit n f some s.few s.few_after digits_long lanes_small last;
         value_is = fold-append with_digit 0 (take n digits) (take f (drop (n + 1) digits));
       } in
       let rest : drop (n + 1) digits ≡ drop (sign + n + 1) number =
@@ -110,8 +114,8 @@ module _ (piece : List ℕ) (fits : (k : ℕ) → Fits w8 (get_or piece k 0)) (a
       get_or-drop at piece (sign + n) 0 ∙ ap (λ k. get_or piece k 0) {x = at + (sign + n)} {y = first + n} (let e = s.first_is in omega arith) ∙ s.point in
       let one : get_or number sign 0 ≡ 48 → n ≡ 1 =
       λ z. s.one (ap (λ k. get_or piece k 0) s.first_is ∙ sym (get_or-drop at piece sign 0) ∙ z) in
-      point_plain number negative sign n (number_of (take n digits)) (sign_at number negative s.sign (omega arith)) (subst P (sym after_sign) front) s.some
-      (one_of number sign n one) f all point (subst Q rest back) s.some_after (omega arith)
+      point_plain number negative sign n (number_of (take n digits)) (sign_at number negative s.sign (omega arith)) (subst P (sym after_sign) front) some
+      (one_of number sign n one) f all point (subst Q rest back) some_after (omega arith)
 
   pub number_is : (precise ≡ true → Each1 (λ x. x ≡ 0) (rests_in lanes) → ⊥) → (precise ≡ false → Each1 (λ x. x ≡ 0) (rests_in lanes))
       → IsCutNumber piece at negative end (cut_in lanes) precise
@@ -136,9 +140,9 @@ module _ (piece : List ℕ) (fits : (k : ℕ) → Fits w8 (get_or piece k 0)) (a
         starts =
             subst P size
             (plain_front number negative all f (sign + n + 1 + f) plain all_small (omega arith) (omega arith) (ap class_of ends ∙ other));
-        cut = subst R (sym there) (cut_is digits digits_fit n f s.some s.few s.few_after digits_long lanes_small last negative);
+        cut = subst R (sym there) (cut_is digits digits_fit n f some s.few s.few_after digits_long lanes_small last negative);
         rest =
-            precise_found digits digits_fit n f s.some s.few s.few_after digits_long lanes_small last negative precise
+            precise_found digits digits_fit n f some s.few s.few_after digits_long lanes_small last negative precise
             (λ t z. found t (subst Q (sym there) z)) (λ t. subst Q there (none t)) w.other;
       }
 

@@ -170,7 +170,7 @@ module _ (piece : List ℕ) (at point end n behind : ℕ) (u : StartsUsual (drop
   module _ (fits : (k : ℕ) → Fits w8 (get_or piece k 0)) (minus : Bool) (first natural fraction : ℕ)
       (s : IsSpan piece at minus first natural fraction end behind)
       (there : point ≡ first + natural) (room : at ≤ 32) (long : 64 ≤ length piece) (lanes : List ℕ)
-      (placed : lanes ≡ in_lanes (before_point natural (map lane_of (take 16 (take (length piece - first) (drop first piece)))))
+      (placed : 0 < natural → 0 < fraction → lanes ≡ in_lanes (before_point natural (map lane_of (take 16 (take (length piece - first) (drop first piece)))))
       (after_point natural fraction (map lane_of (take 16 (take (length piece - first) (drop first piece)))))) where
     sign_same : sign ≡ bool_byte minus
     sign_same = ap bool_byte s.sign
@@ -183,6 +183,12 @@ module _ (piece : List ℕ) (at point end n behind : ℕ) (u : StartsUsual (drop
 
     pub fraction_few : fraction ≤ 12
     fraction_few = let a = fraction_is in let b = u.few_after in omega arith
+
+    pub natural_some : 0 < natural
+    natural_some = let a = natural_is in let d = digits (drop at piece) n behind u in let b = d.some in omega arith
+
+    pub fraction_some : 0 < fraction
+    fraction_some = let a = fraction_is in let d = digits (drop at piece) n behind u in let b = d.some_more in omega arith
 
     pub lanes_are_small : Each1 (λ x. x < 10) lanes
     lanes_are_small =
@@ -204,9 +210,9 @@ module _ (piece : List ℕ) (at point end n behind : ℕ) (u : StartsUsual (drop
         let size : 19 ≤ length digit_bytes = omega (arith, length-drop first piece) in
         let is : lanes ≡ in_lanes (before_point natural (map lane_of (take 16 digit_bytes)))
         (after_point natural fraction (map lane_of (take 16 digit_bytes))) =
-        placed ∙ ap (λ ys. in_lanes (before_point natural (map lane_of (take 16 ys))) (after_point natural fraction (map lane_of (take 16 ys))))
+        placed natural_some fraction_some ∙ ap (λ ys. in_lanes (before_point natural (map lane_of (take 16 ys))) (after_point natural fraction (map lane_of (take 16 ys))))
         (take_rest piece first) in
-        subst P (sym is) (lanes_small digit_bytes fits_on natural fraction s.some s.few s.few_after size front back)
+        subst P (sym is) (lanes_small digit_bytes fits_on natural fraction natural_some s.few s.few_after size front back)
 
 -- ---- both
 
@@ -298,7 +304,7 @@ module _ (piece : List ℕ) (u : StartsUsualPair piece) (tight : u.second_at ≡
         subst P second_there (span_at piece u.second_at other_point end_is u.length_other close_bracket u.other other_from other_end)
 
     module _ (fits : (k : ℕ) → Fits w8 (get_or piece k 0)) (minus : Bool) (first natural fraction : ℕ) (long : 64 ≤ length piece) (lanes : List ℕ)
-        (placed : lanes ≡ in_lanes (before_point natural (map lane_of (take 16 (take (length piece - first) (drop first piece)))))
+        (placed : 0 < natural → 0 < fraction → lanes ≡ in_lanes (before_point natural (map lane_of (take 16 (take (length piece - first) (drop first piece)))))
         (after_point natural fraction (map lane_of (take 16 (take (length piece - first) (drop first piece)))))) where
       pub one_small : IsSpan piece 0 minus first natural fraction comma_is comma → point ≡ first + natural → Each1 (λ x. x < 10) lanes × (fraction ≤ 12)
       one_small s there = let room : 0 ≤ 32 = omega arith in (

@@ -38,14 +38,12 @@ abbrev pub by_sevens : List ℕ → List ℕ
 by_sevens (a ∷ b ∷ numbers) = (a * 10000 + b) ∷ by_sevens numbers
 by_sevens _ = []
 
--- A number stands in a piece from an index on: its first digit's index, one to three digits before its point and one to
--- fifteen bytes after it, and the index of the byte after these.
+-- A number stands in a piece from an index on, if it has digits: the index of the first, up to three bytes before its point
+-- and up to fifteen after it, and the index of the byte after these.
 pub record IsSpan (piece : List ℕ) (at : ℕ) (negative : Bool) (first natural fraction end behind : ℕ) : Type 0 where
   pub sign : StartsSigned (drop at piece) negative
   pub first_is : first ≡ at + bool_byte negative
-  pub some : 0 < natural
   pub few : natural ≤ 3
-  pub some_after : 0 < fraction
   pub few_after : fraction ≤ 15
   pub end_is : end ≡ first + natural + 1 + fraction
   pub point : get_or piece (first + natural) 0 ≡ decimal_point

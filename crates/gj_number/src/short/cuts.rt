@@ -90,7 +90,8 @@ fn first_marks(piece: &[u8]) -> Marks
     }
 }
 
-/// The number that begins at an index, has its point at another and ends before a third, where this byte stands.
+/// The number that begins at an index, has its point at another and ends before a third, where this byte stands. There may
+/// be no digit before the point, or none after it.
 #[inline(always)]
 fn span_between(piece: &[u8], at: usize, point: usize, end: usize, behind: u8) -> Option<Span>
     requires room { 64 ≤ length piece.now }
@@ -104,7 +105,7 @@ fn span_between(piece: &[u8], at: usize, point: usize, end: usize, behind: u8) -
     let first = at + negative as usize;
     let natural = point.wrapping_sub(first);
     let fraction = end.wrapping_sub(point + 1);
-    if natural.wrapping_sub(1) > 2 || fraction.wrapping_sub(1) > 14 {
+    if natural > 3 || fraction > 15 {
         return None;
     }
     if piece[point] != b'.' || piece[end] != behind {

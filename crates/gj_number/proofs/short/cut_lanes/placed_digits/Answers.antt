@@ -1,19 +1,32 @@
-use Rattle.std.proofs.Common.{◌≡◌, ◌+◌, ◌-◌, ◌*◌, length, take, ap, ◌∙◌, arith}
-use Rattle.std.proofs.lemmas.List.{length-map, length-take-le}
+use Rattle.std.proofs.Common.{◌≡◌, ◌+◌, ◌*◌, get_or, length, take, ap, ◌∙◌, arith}
+use Rattle.std.proofs.lemmas.List.{get_or-map, get_or-take, length-map, length-take-le}
 use Rattle.gj_number.specs.Internal.DigitLanes.{lane_of}
 use Rattle.gj_number.specs.Internal.CutLanes.{before_point, after_point, in_lanes}
-use Rattle.gj_number.proofs.Shorts.CutLanes.{placed_ok, placed_is}
+use Rattle.gj_number.proofs.Shorts.CutLanes.{placed_ok, placed_is, digits_there}
 use Rattle.gj_number.proofs.short.cut_lanes.placed_digits.Goals as goal
 
 pub swizzle : goal.swizzle
-swizzle c = placed_ok (256 * (c.args.natural - 1) + 16 * c.args.fraction) (omega arith)
+swizzle c = placed_ok (256 * c.args.natural + 16 * c.args.fraction) (omega arith)
 
-pub returns : goal.returns
-returns c =
+pub returns-clause-digits : goal.returns-clause-digits
+returns-clause-digits c = λ some some_after.
     let n = c.args.natural in
     let f = c.args.fraction in
     let e = c.lanes_of.ensures in
     let piece = c.args.piece.now in
     let long : length c.lanes_of.result ≡ 16 = ap length e ∙ length-map (take 16 piece) lane_of ∙ length-take-le 16 piece c.requires.room in
-    placed_is c.lanes_of.result long n f c.requires.some c.requires.few c.requires.few_after
+    placed_is c.lanes_of.result long n f some c.requires.few some_after c.requires.few_after
     ∙ ap (λ xs. in_lanes (before_point n xs) (after_point n f xs)) e
+
+pub returns-clause-some : goal.returns-clause-some
+returns-clause-some c = λ point h.
+    let n = c.args.natural in
+    let f = c.args.fraction in
+    let e = c.lanes_of.ensures in
+    let piece = c.args.piece.now in
+    let long : length c.lanes_of.result ≡ 16 = ap length e ∙ length-map (take 16 piece) lane_of ∙ length-take-le 16 piece c.requires.room in
+    let few = c.requires.few in
+    let size = length-take-le 16 piece c.requires.room in
+    let there : get_or c.lanes_of.result n 0 ≡ lane_of (get_or piece n 0) =
+    ap (λ xs. get_or xs n 0) e ∙ get_or-map lane_of (take 16 piece) n 0 0 (omega arith) ∙ ap lane_of (get_or-take 16 piece n 0 (omega arith)) in
+    digits_there c.lanes_of.result long n f c.requires.few c.requires.few_after (let k = ap lane_of point in omega arith) h

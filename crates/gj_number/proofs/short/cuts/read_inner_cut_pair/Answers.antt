@@ -2,7 +2,7 @@ use Rattle.std.proofs.Common.{◌+◌, ◌%◌, ◌∙◌, ◌≤◌, ℕ, get_o
 use mir.Val.{SFits}
 use Rattle.std.proofs.lemmas.Int.{to_z-of_z}
 use Rattle.gj_number.specs.Exact.{signed}
-use Rattle.gj_number.proofs.Shorts.CutPairs.{number_is, pair_is}
+use Rattle.gj_number.proofs.Shorts.CutPairs.{number_is, pair_is, point_of}
 use Rattle.gj_number.proofs.Shorts.NumberPairs.{comma_other, bracket_other}
 use Rattle.gj_number.proofs.Shorts.NumberPrefixes.{sign_length}
 use Rattle.gj_number.proofs.Shorts.UsualMarks.{pair_marks, one_span, other_span, one_small, other_small, second_few, end_there}
@@ -30,11 +30,16 @@ returns-clause-numbers c =
     (let a = s.end_is in let b = s.first_is in let d = s.few in let e = s.few_after in omega (arith, sign_length one.negative)) in
     let end = end_before marks.next in
     let ordered : marks.comma + 1 ≤ end = (let a = t.end_is in let b = t.first_is in omega arith) in
-    let first = number_is piece fits 0 one.negative one.first one.natural one.fraction marks.comma 44 s (omega arith) c.requires comma_other
-    c.placed_digits-first.result c.placed_digits-first.ensures (c.are_digits.ensures.first c.if-not-are_digits.false) rests.0
+    let small = c.are_digits.ensures.first c.if-not-are_digits.false in
+    let more_small = c.are_digits.ensures.second c.if-not-are_digits.false in
+    let some = c.placed_digits-first.ensures.some (point_of piece 0 one.negative one.first one.natural one.fraction marks.comma 44 s) small in
+    let others = c.placed_digits-second.ensures.some (point_of piece (marks.comma + 1) other.negative other.first other.natural other.fraction end 93 t)
+    more_small in
+    let first = number_is piece fits 0 one.negative one.first one.natural one.fraction marks.comma 44 s some.0 some.1 (omega arith) c.requires comma_other
+    c.placed_digits-first.result (c.placed_digits-first.ensures.digits some.0 some.1) small rests.0
     (c.is_whole.ensures.whole c.if-not-is_whole.false) told.first_some told.first_none in
-    let second = number_is piece fits (marks.comma + 1) other.negative other.first other.natural other.fraction end 93 t (omega arith) c.requires
-    bracket_other c.placed_digits-second.result c.placed_digits-second.ensures (c.are_digits.ensures.second c.if-not-are_digits.false) rests.1
+    let second = number_is piece fits (marks.comma + 1) other.negative other.first other.natural other.fraction end 93 t others.0 others.1 (omega arith) c.requires
+    bracket_other c.placed_digits-second.result (c.placed_digits-second.ensures.digits others.0 others.1) more_small rests.1
     (c.is_whole-else-not-is_whole.ensures.whole c.if-not-is_whole-2.false) told.second_some told.second_none in
     let fits_one : SFits w64 c.with_sign.result = search rules in
     let fits_other : SFits w64 c.with_sign-2.result = search rules in
@@ -82,9 +87,9 @@ returns-then-not-are_digits-clause-taken c = λ u tight follows.
     let h = c.first_marks-marks.ensures.first _ _ _ _ (pair_marks piece u tight follows (omega (arith, c.requires))) in
     let few = c.first_marks-marks.ensures.next in
     let first = one_small piece u tight follows _ _ _ _ (end_before marks.next) h (λ _. refl) few c.type_inv.piece one.negative one.first one.natural one.fraction c.requires c.placed_digits-first.result
-    c.placed_digits-first.ensures c.in-Some.ensures.span c.in-Some.ensures.point in
+    c.placed_digits-first.ensures.digits c.in-Some.ensures.span c.in-Some.ensures.point in
     let second = other_small piece u tight follows _ _ _ _ _ h (λ _. refl) few c.type_inv.piece other.negative other.first other.natural other.fraction c.requires
-    c.placed_digits-second.result c.placed_digits-second.ensures c.in-Some-span_between.ensures.span c.in-Some-span_between.ensures.point
+    c.placed_digits-second.result c.placed_digits-second.ensures.digits c.in-Some-span_between.ensures.span c.in-Some-span_between.ensures.point
     (second_few piece u tight follows _ _ _ _ (end_before marks.next) h (λ _. refl) few) in
     let yes = c.are_digits.ensures.taken first.0 second.0 in
     let no = c.if-not-are_digits.true in
@@ -99,9 +104,9 @@ returns-then-not-is_whole-clause-taken c = λ u tight follows.
     let h = c.first_marks-marks.ensures.first _ _ _ _ (pair_marks piece u tight follows (omega (arith, c.requires))) in
     let few = c.first_marks-marks.ensures.next in
     let first = one_small piece u tight follows _ _ _ _ (end_before marks.next) h (λ _. refl) few c.type_inv.piece one.negative one.first one.natural one.fraction c.requires c.placed_digits-first.result
-    c.placed_digits-first.ensures c.in-Some.ensures.span c.in-Some.ensures.point in
+    c.placed_digits-first.ensures.digits c.in-Some.ensures.span c.in-Some.ensures.point in
     let second = other_small piece u tight follows _ _ _ _ _ h (λ _. refl) few c.type_inv.piece other.negative other.first other.natural other.fraction c.requires
-    c.placed_digits-second.result c.placed_digits-second.ensures c.in-Some-span_between.ensures.span c.in-Some-span_between.ensures.point
+    c.placed_digits-second.result c.placed_digits-second.ensures.digits c.in-Some-span_between.ensures.span c.in-Some-span_between.ensures.point
     (second_few piece u tight follows _ _ _ _ (end_before marks.next) h (λ _. refl) few) in
     elim c.then-not-is_whole.branch [
       | then-not-is_whole-via-then-not-is_whole w ↦ (let yes = c.is_whole.ensures.taken first.1 in let no = w.if-not-is_whole.true in cc)
