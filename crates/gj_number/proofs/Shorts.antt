@@ -17,3 +17,4 @@ pub mod CutPlaces
 pub mod CutPairs
 pub mod UsualMarks
 pub mod PointedNumbers
+pub mod LastDigits

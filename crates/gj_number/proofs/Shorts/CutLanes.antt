@@ -220,7 +220,7 @@ greater xs ys = sel_l (zip2 ltb xs ys) ys xs
 pub greater_is : (xs ys : List ℕ) → sel_l (map (top 7) (zip2 (λ a b. cond (ltb a b) 255 0) xs ys)) ys xs ≡ greater xs ys
 greater_is xs ys = ap (λ ms. sel_l ms ys xs) (tops_compared w8 ltb xs ys)
 
-less_tells : (x y : ℕ) → ((ltb x y ≡ true) × (x < y)) ⊎ ((ltb x y ≡ false) × (y ≤ x))
+pub less_tells : (x y : ℕ) → ((ltb x y ≡ true) × (x < y)) ⊎ ((ltb x y ≡ false) × (y ≤ x))
 less_tells x y = elim (cases_lt x y) [
   | inl l ↦ (let e : ltb x y ≡ true = grind (arith, nat_tests) in inl (e, l))
   | inr l ↦ (let e : ltb x y ≡ false = grind (arith, nat_tests) in inr (e, l))

@@ -1,7 +1,7 @@
 //! The digits of a number in an order of lanes from which its cut value is read.
-ghost use Rattle.std.specs.Prelude.{◌≡◌, ◌≤◌, ◌<◌, ◌^◌, ◌*◌, length, map, take, get_or, ◌↔◌, true, false, IsTrue};
+ghost use Rattle.std.specs.Prelude.{◌≡◌, ℕ, ◌+◌, ◌≤◌, ◌<◌, ◌^◌, ◌*◌, length, map, take, get_or, ◌↔◌, true, false, IsTrue};
 ghost use Rattle.std.specs.Simd.Lanes.{Each1};
-ghost use Rattle.gj_number.specs.Bytes.{decimal_point};
+ghost use Rattle.gj_number.specs.Bytes.{decimal_point, IsDigit};
 ghost use Rattle.gj_number.specs.Internal.DigitLanes.{lane_of};
 ghost use Rattle.gj_number.specs.Internal.CutLanes.{after_point, before_point, by_parts, by_sevens, cut_in, in_lanes, rests_in};
 
@@ -98,6 +98,21 @@ pub(crate) fn are_digits(first: u8x16, second: u8x16) -> bool
     ensures taken { Each1 (λ digit. digit < 10) first → Each1 (λ digit. digit < 10) second → IsTrue result }
 {
     are_zero(above_nine(first.simd_max(second)))
+}
+
+/// Whether the three bytes before each of two indices are digits.
+#[inline(always)]
+pub(crate) fn are_last_digits(piece: &[u8], end: usize, other_end: usize) -> bool
+    requires start { 3 ≤ end }
+    requires room { end + 13 ≤ length piece.now }
+    requires other_start { 3 ≤ other_end }
+    requires other_room { other_end + 13 ≤ length piece.now }
+    ensures first { IsTrue result → (i : ℕ) → end ≤ i + 3 → i < end → IsDigit (get_or piece.now i 0) }
+    ensures second { IsTrue result → (i : ℕ) → other_end ≤ i + 3 → i < other_end → IsDigit (get_or piece.now i 0) }
+{
+    let greater = lanes_of(&piece[end - 3..]).simd_max(lanes_of(&piece[other_end - 3..]));
+    let three = u8x16::from_array([255, 255, 255, 0, 0, 0, 0, 0, 0, 0, 0, 0, 0, 0, 0, 0]);
+    are_zero(above_nine(greater & three))
 }
 
 /// The digits before the point as one number, the first three after it, the next three, and the seventh.

@@ -3,14 +3,14 @@
 //! A bit for each byte that is a comma or a point says where the parts of two numbers end, if two numbers stand there.
 //! What does stand there is checked after that.
 ghost use mir.Val.{bool_byte};
-ghost use Rattle.std.specs.Prelude.{◌≡◌, ◌==◌, ℕ, ◌+◌, ◌*◌, ◌^◌, ◌<◌, ◌≤◌, length, map, take, drop, IsTrue, IfSome};
+ghost use Rattle.std.specs.Prelude.{◌≡◌, ◌==◌, ℕ, ◌+◌, ◌*◌, ◌^◌, ◌<◌, ◌≤◌, true, length, map, take, drop, IsTrue, IfSome};
 ghost use Rattle.std.specs.Simd.Lanes.{mask_l};
 ghost use Rattle.std.specs.Option.{IsSome};
 ghost use Rattle.gj_number.specs.Cuts.{StartsWithCutPair, BeginsNext};
 ghost use Rattle.gj_number.specs.Short.{StartsUsualPair};
 ghost use Rattle.gj_number.specs.Internal.CutLanes.{is_mark, AreMarks, HasMarks, IsMarkedSpan, IsSpan, IsWhole};
 
-use super::cut_lanes::{are_digits, cuts_of, placed_digits, rests_of};
+use super::cut_lanes::{are_digits, are_last_digits, cuts_of, placed_digits, rests_of};
 use crate::decimal::with_sign;
 use std::simd::prelude::*;
 
@@ -122,19 +122,39 @@ fn span_between(piece: &[u8], at: usize, point: usize, end: usize, behind: u8) -
     })
 }
 
-/// Whether the digits of a number that are in no lane are digits and need not be looked at.
+/// Whether digits of a number that are in no lane say nothing more, once they are known to be digits.
 #[inline(always)]
-fn is_whole(piece: &[u8], end: usize, fraction: usize, precise: bool) -> bool
-    requires start { 3 ≤ end }
-    requires end { end ≤ length piece.now }
-    ensures whole { IsTrue result → IsWhole piece.now fraction end precise }
-    ensures taken { fraction ≤ 12 → IsTrue result }
+fn is_judged(fraction: usize, precise: bool) -> bool
+    ensures judged { IsTrue result → 12 < fraction → precise ≡ true }
 {
-    fraction <= 12
-        || (precise
-            && piece[end - 1].is_ascii_digit()
-            && piece[end - 2].is_ascii_digit()
-            && piece[end - 3].is_ascii_digit())
+    fraction <= 12 || precise
+}
+
+/// Whether digits of two numbers are in all their lanes, or those in none are digits and say nothing more.
+#[inline(always)]
+fn are_whole(
+    piece: &[u8],
+    one: Span,
+    comma: usize,
+    precise: bool,
+    other: Span,
+    end: usize,
+    other_precise: bool,
+) -> bool
+    requires comma { 3 ≤ comma }
+    requires comma_room { comma + 13 ≤ length piece.now }
+    requires end { 3 ≤ end }
+    requires end_room { end + 13 ≤ length piece.now }
+    ensures first { IsTrue result → IsWhole piece.now one.fraction comma precise }
+    ensures second { IsTrue result → IsWhole piece.now other.fraction end other_precise }
+    ensures taken { one.fraction ≤ 12 → other.fraction ≤ 12 → IsTrue result }
+{
+    if one.fraction <= 12 && other.fraction <= 12 {
+        return true;
+    }
+    is_judged(one.fraction, precise)
+        && is_judged(other.fraction, other_precise)
+        && are_last_digits(piece, comma, end)
 }
 
 /// Reads two numbers from the start of a piece as their cut values, with a comma between them and no space, a closing
@@ -168,9 +188,7 @@ pub fn read_inner_cut_pair(piece: &[u8]) -> Option<CutPair>
     }
     let (value, other_value) = cuts_of(first, second);
     let (precise, other_precise) = rests_of(first, second);
-    if !is_whole(piece, marks.comma, one.fraction, precise)
-        || !is_whole(piece, end, other.fraction, other_precise)
-    {
+    if !are_whole(piece, one, marks.comma, precise, other, end, other_precise) {
         return None;
     }
     Some(CutPair {

@@ -9,8 +9,6 @@ use Rattle.gj_number.proofs.Shorts.UsualMarks.{pair_marks, one_span, other_span,
 use Rattle.gj_number.proofs.short.cuts.read_inner_cut_pair.Goals as goal
 use Rattle.gj_number.proofs.short.cuts.read_inner_cut_pair.Goals.{then-piece-end-ne44-via-then-piece-end-ne44}
 use Rattle.gj_number.proofs.short.cuts.read_inner_cut_pair.Goals.{then-piece-end-ne44-via-else-piece-end-ne44+then-piece-end-ne91}
-use Rattle.gj_number.proofs.short.cuts.read_inner_cut_pair.Goals.{then-not-is_whole-via-then-not-is_whole}
-use Rattle.gj_number.proofs.short.cuts.read_inner_cut_pair.Goals.{then-not-is_whole-via-else-not-is_whole+then-not-is_whole-2}
 
 abbrev end_before : ℕ → ℕ
 end_before next = (next + 18446744073709551615) % 18446744073709551616
@@ -37,10 +35,10 @@ returns-clause-numbers c =
     more_small in
     let first = number_is piece fits 0 one.negative one.first one.natural one.fraction marks.comma 44 s some.0 some.1 (omega arith) c.requires comma_other
     c.placed_digits-first.result (c.placed_digits-first.ensures.digits some.0 some.1) small rests.0
-    (c.is_whole.ensures.whole c.if-not-is_whole.false) told.first_some told.first_none in
+    (c.are_whole.ensures.first c.if-not-are_whole.false) told.first_some told.first_none in
     let second = number_is piece fits (marks.comma + 1) other.negative other.first other.natural other.fraction end 93 t others.0 others.1 (omega arith) c.requires
     bracket_other c.placed_digits-second.result (c.placed_digits-second.ensures.digits others.0 others.1) more_small rests.1
-    (c.is_whole-else-not-is_whole.ensures.whole c.if-not-is_whole-2.false) told.second_some told.second_none in
+    (c.are_whole.ensures.second c.if-not-are_whole.false) told.second_some told.second_none in
     let fits_one : SFits w64 c.with_sign.result = search rules in
     let fits_other : SFits w64 c.with_sign-2.result = search rules in
     let value = ap (signed one.negative) (sym c.cuts_of-value.ensures.first) ∙ sym c.with_sign.ensures ∙ sym (to_z-of_z w64 c.with_sign.result fits_one) in
@@ -95,8 +93,8 @@ returns-then-not-are_digits-clause-taken c = λ u tight follows.
     let no = c.if-not-are_digits.true in
     cc
 
-pub returns-then-not-is_whole-clause-taken : goal.returns-then-not-is_whole-clause-taken
-returns-then-not-is_whole-clause-taken c = λ u tight follows.
+pub returns-then-not-are_whole-clause-taken : goal.returns-then-not-are_whole-clause-taken
+returns-then-not-are_whole-clause-taken c = λ u tight follows.
     let piece = c.args.piece.now in
     let one = c.in-Some.one in
     let other = c.in-Some-span_between.other in
@@ -108,8 +106,6 @@ returns-then-not-is_whole-clause-taken c = λ u tight follows.
     let second = other_small piece u tight follows _ _ _ _ _ h (λ _. refl) few c.type_inv.piece other.negative other.first other.natural other.fraction c.requires
     c.placed_digits-second.result c.placed_digits-second.ensures.digits c.in-Some-span_between.ensures.span c.in-Some-span_between.ensures.point
     (second_few piece u tight follows _ _ _ _ (end_before marks.next) h (λ _. refl) few) in
-    elim c.then-not-is_whole.branch [
-      | then-not-is_whole-via-then-not-is_whole w ↦ (let yes = c.is_whole.ensures.taken first.1 in let no = w.if-not-is_whole.true in cc)
-      | then-not-is_whole-via-else-not-is_whole+then-not-is_whole-2 w ↦
-          (let yes = w.is_whole-else-not-is_whole.ensures.taken second.1 in let no = w.if-not-is_whole-2.true in cc)
-    ]
+    let yes = c.are_whole.ensures.taken first.1 second.1 in
+    let no = c.if-not-are_whole.true in
+    cc
