@@ -31,12 +31,13 @@ impl KindWarnings {
         }
     }
 
-    /// Whether it is what is kept of no warning. Both are tested, so that nothing joined to any value leaves it as it is.
+    /// Whether it is what is kept of no warning. Both are tested, by one comparison, so that nothing joined to any value leaves
+    /// it as it is.
     #[inline]
     pub fn is_nothing(&self) -> bool
         ensures { result ≡ is_nothing self.now }
     {
-        self.count == 0 && self.first == 0
+        (self.count as u64 | self.first) == 0
     }
 
     /// Counts are added, and the lesser place is kept.
