@@ -49,16 +49,15 @@ pub fn read_positions(
     ensures few { result ≤ 24 }
     ensures spelled { SpellsPositions (take result positions.new) start piece.now }
 {
+    let end = start + piece.len() as u64;
     let mut count = 0;
     let mut rest = piece;
-    let mut place = start;
     while count < MOST_POSITIONS {
+        let place = end - rest.len() as u64;
         let Some(position) = read_position(rest, place) else {
             return count;
         };
-        let next = position.close + 2;
-        rest = &rest[(next - place) as usize..];
-        place = next;
+        rest = &rest[(position.close + 2 - place) as usize..];
         positions[count] = position;
         count += 1;
     }

@@ -3,9 +3,10 @@
 //! A bit for each byte that is a comma or a point says where the parts of two numbers end, if two numbers stand there.
 //! What does stand there is checked after that.
 ghost use mir.Val.{bool_byte};
-ghost use Rattle.std.specs.Prelude.{◌≡◌, ◌==◌, ℕ, ◌+◌, ◌*◌, ◌^◌, ◌<◌, ◌≤◌, true, length, map, take, drop, IsTrue, IfSome};
+ghost use Rattle.std.specs.Prelude.{◌≡◌, ◌==◌, ℕ, ◌+◌, ◌*◌, ◌^◌, ◌<◌, ◌≤◌, ◌↔◌, true, get_or, length, map, take, drop, IsTrue, IfSome};
 ghost use Rattle.std.specs.Simd.Lanes.{mask_l};
 ghost use Rattle.std.specs.Option.{IsSome};
+ghost use Rattle.gj_number.specs.Bytes.{comma, open_bracket};
 ghost use Rattle.gj_number.specs.Cuts.{StartsWithCutPair, BeginsNext};
 ghost use Rattle.gj_number.specs.Short.{StartsUsualPair};
 ghost use Rattle.gj_number.specs.Internal.CutLanes.{is_mark, AreMarks, HasMarks, IsMarkedSpan, IsSpan, IsWhole};
@@ -122,6 +123,18 @@ fn span_between(piece: &[u8], at: usize, point: usize, end: usize, behind: u8) -
     })
 }
 
+/// A comma and the bracket of an array as one number, the comma in the lower byte.
+const NEXT: u16 = 0x5b2c;
+
+/// Whether a comma and the bracket of another array stand at an index.
+#[inline(always)]
+fn begins_next(piece: &[u8], at: usize) -> bool
+    requires { at + 1 < length piece.now }
+    ensures { IsTrue result ↔ (get_or piece.now at 0 ≡ comma) × (get_or piece.now (at + 1) 0 ≡ open_bracket) }
+{
+    u16::from_le_bytes([piece[at], piece[at + 1]]) == NEXT
+}
+
 /// Whether digits of a number that are in no lane say nothing more, once they are known to be digits.
 #[inline(always)]
 fn is_judged(fraction: usize, precise: bool) -> bool
@@ -178,7 +191,7 @@ pub fn read_inner_cut_pair(piece: &[u8]) -> Option<CutPair>
     let Some(other) = span_between(piece, at, marks.other_point, end, b']') else {
         return None;
     };
-    if piece[end + 1] != b',' || piece[end + 2] != b'[' {
+    if !begins_next(piece, end + 1) {
         return None;
     }
     let first = placed_digits(&piece[one.first..], one.natural, one.fraction);

@@ -13,27 +13,35 @@ loop-count-preserved c =
     let piece = c.args.piece.now in
     let start = c.args.start in
     let rest = c.loop-count.rest.now in
-    let place = c.loop-count.place in
+    let place : ℕ = start + length piece - length rest in
     let p = c.in-Some.position in
     let s = c.in-Some.ensures in
     let n = p.close + 2 - place in
+    let within = i.within in
     let on = one_on p place rest s in
     let b = left_begins p place rest s in
+    let less = b.0 in
     let same : take (length rest - n) (drop n rest) ≡ drop n rest = rest_of rest n in
+    let size : length (take (length rest - n) (drop n rest)) ≡ length rest - n = ap length same ∙ length-drop n rest in
     let P : List CutPosition → Type 0 = λ ps. SpellsPositions ps start piece in
     let Q : ℕ → List ℕ → Type 0 = λ m xs. SpellsPosition p m xs in
     let all = c.loop-count.positions in
     let before = take c.loop-count.count all in
-    let more = take_more_set all c.loop-count.count p (let less = c.loop-count-test.true in let z = i.size in omega arith) in
+    let more = take_more_set all c.loop-count.count p (let few = c.loop-count-test.true in let z = i.size in omega arith) in
+    let here : rest ≡ drop (place - start) piece =
+    i.rest_is ∙ ap (λ k. drop k piece) {x = length piece - length rest} {y = place - start} (omega arith) in
     let there : SpellsPosition p (place_after_all before start) (drop (place_after_all before start - start) piece) =
-    subst (λ (m : ℕ). Q m (drop (m - start) piece)) i.place_is (subst (λ (xs : List ℕ). Q place xs) i.rest_is s) in
+    subst (λ (m : ℕ). Q m (drop (m - start) piece)) i.place_is (subst (λ (xs : List ℕ). Q place xs) here s) in
     record {
-      on = (let o = i.on in omega arith);
       few = (let f = c.loop-count-test.true in omega arith);
       size = search rules;
-      place_is = sym (after_more before p start) ∙ ap (λ ps. place_after_all ps start) (sym more);
-      rest_is = same ∙ ap (drop n) i.rest_is ∙ in_two piece start place (p.close + 2) i.on (omega arith);
-      left = (let l = i.left in let k = b.0 in omega (arith, ap length same, length-drop n rest));
+      within = omega arith;
+      place_is =
+          (let e : start + length piece - length (take (length rest - n) (drop n rest)) ≡ p.close + 2 = omega arith in
+          e ∙ sym (after_more before p start) ∙ ap (λ ps. place_after_all ps start) (sym more));
+      rest_is =
+          same ∙ ap (drop n) here ∙ in_two piece start place (p.close + 2) (omega arith) (omega arith)
+          ∙ ap (λ k. drop k piece) {x = p.close + 2 - start} {y = length piece - length (take (length rest - n) (drop n rest))} (omega arith);
       bracket = ap (λ xs. get_or xs 0 0) same ∙ b.1;
       spelled = subst P (sym more) (one_more before p start piece i.spelled there);
     }

@@ -5,12 +5,11 @@ use Rattle.gj_json.proofs.positions.read_positions.Given as goal
 
 abbrev pub invariant-loop-count : goal.invariant-loop-count
 invariant-loop-count l = record {
-  on : l.fn.start ≤ l.place;
   few : l.count ≤ 24;
   size : length l.positions ≡ 24;
-  place_is : l.place ≡ place_after_all (take l.count l.positions) l.fn.start;
-  rest_is : l.rest ≡ drop (l.place - l.fn.start) l.piece;
-  left : l.place + length l.rest ≡ l.fn.start + length l.piece;
+  within : length l.rest ≤ length l.piece;
+  place_is : l.fn.start + length l.piece - length l.rest ≡ place_after_all (take l.count l.positions) l.fn.start;
+  rest_is : l.rest ≡ drop (length l.piece - length l.rest) l.piece;
   bracket : get_or l.rest 0 0 ≡ open_bracket;
   spelled : SpellsPositions (take l.count l.positions) l.fn.start l.piece;
 }

@@ -7,8 +7,6 @@ use Rattle.gj_number.proofs.Shorts.NumberPairs.{comma_other, bracket_other}
 use Rattle.gj_number.proofs.Shorts.NumberPrefixes.{sign_length}
 use Rattle.gj_number.proofs.Shorts.UsualMarks.{pair_marks, one_span, other_span, one_small, other_small, second_few, end_there}
 use Rattle.gj_number.proofs.short.cuts.read_inner_cut_pair.Goals as goal
-use Rattle.gj_number.proofs.short.cuts.read_inner_cut_pair.Goals.{then-piece-end-ne44-via-then-piece-end-ne44}
-use Rattle.gj_number.proofs.short.cuts.read_inner_cut_pair.Goals.{then-piece-end-ne44-via-else-piece-end-ne44+then-piece-end-ne91}
 
 abbrev end_before : ℕ → ℕ
 end_before next = (next + 18446744073709551615) % 18446744073709551616
@@ -62,19 +60,19 @@ returns-in_default-span_between-clause-taken c = λ u tight follows.
     let few = c.first_marks-marks.ensures.next in
     c.in_default-span_between.ensures.taken (other_span piece u tight follows _ _ _ _ _ h (λ _. refl) few)
 
-pub returns-then-piece-end-ne44-clause-taken : goal.returns-then-piece-end-ne44-clause-taken
-returns-then-piece-end-ne44-clause-taken c = λ u tight follows.
+pub returns-then-not-begins_next-clause-taken : goal.returns-then-not-begins_next-clause-taken
+returns-then-not-begins_next-clause-taken c = λ u tight follows.
     let piece = c.args.piece.now in
     let marks = c.first_marks-marks.result in
     let h = c.first_marks-marks.ensures.first _ _ _ _ (pair_marks piece u tight follows (omega (arith, c.requires))) in
     let few = c.first_marks-marks.ensures.next in
     let e = end_there piece u tight follows _ _ _ _ (end_before marks.next) h (λ _. refl) few in
-    elim c.then-piece-end-ne44.branch [
-      | then-piece-end-ne44-via-then-piece-end-ne44 w ↦
-          (let no = w.if-piece-end-ne44.true in let yes = ap (λ k. get_or piece (k + 1) 0) e ∙ follows.comma in absurd (no yes))
-      | then-piece-end-ne44-via-else-piece-end-ne44+then-piece-end-ne91 w ↦
-          (let no = w.if-piece-end-ne91.true in let yes = ap (λ k. get_or piece (k + 2) 0) e ∙ follows.bracket in absurd (no yes))
-    ]
+    let yes = c.begins_next.ensures.1 (
+      ap (λ k. get_or piece (k + 1) 0) e ∙ follows.comma,
+      ap (λ k. get_or piece k 0) {x = end_before marks.next + 1 + 1} {y = u.second_at + u.length_other + 2} (omega arith) ∙ follows.bracket,
+    ) in
+    let no = c.if-not-begins_next.true in
+    cc
 
 pub returns-then-not-are_digits-clause-taken : goal.returns-then-not-are_digits-clause-taken
 returns-then-not-are_digits-clause-taken c = λ u tight follows.
