@@ -39,7 +39,10 @@ static PAIRS: [(&str, Parts); 14] = [
         "123.4567890,-89.9999999],[",
         (1234567890, false, -899999999, false, 11, 23),
     ),
-    ("1.00000001,2.0],[", (10000000, true, 20000000, false, 10, 14)),
+    (
+        "1.00000001,2.0],[",
+        (10000000, true, 20000000, false, 10, 14),
+    ),
     (
         "1.0,-2.12345678],[",
         (10000000, false, -21234567, true, 3, 15),
@@ -108,7 +111,10 @@ static OTHERS: [(&str, &str); 27] = [
     ("no point", "15,2.5],["),
     ("no point in the second", "1.5,25],["),
     ("four digits before the point", "1234.5,2.5],["),
-    ("sixteen digits after the point", "1.0000000000000001,2.5],["),
+    (
+        "sixteen digits after the point",
+        "1.0000000000000001,2.5],[",
+    ),
     (
         "only the fourteenth digit after the point is no zero",
         "1.00000000000001,2.5],[",
