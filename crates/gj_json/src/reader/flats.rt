@@ -7,7 +7,7 @@ ghost use Rattle.gj_json.specs.Internal.OpenLevels.{levels_in, inner_of};
 ghost use Rattle.gj_json.specs.declared.levels.Level.TheVariants.{Array};
 
 use super::Reader;
-use super::positions::FEW;
+use super::positions::{FEW, arrays_before_next};
 use crate::flat::Flat;
 use crate::flats::{comma_run, read_flat};
 use crate::levels::Level;
@@ -130,8 +130,13 @@ impl Reader {
             if begins_next(&rest[count..]) {
                 self.skip(count + 1, Mode::ValueDue);
                 rest = &rest[count + 1..];
-                let many = self.take_if_many(rest, &mut left, sink);
-                rest = &rest[many..];
+                if left > 0 {
+                    left -= 1;
+                } else {
+                    let many = self.take_positions(rest, sink);
+                    rest = &rest[many..];
+                    left = arrays_before_next(many);
+                }
             } else {
                 let comma = comma_run(&rest[count..]);
                 if comma == 0 {

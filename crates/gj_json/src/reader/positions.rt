@@ -17,6 +17,12 @@ pub(super) const FEW: u8 = 8;
 /// After so many more they are sought again where none was found.
 const MANY: u8 = 32;
 
+/// How many arrays come before positions are sought again, where the last search took so many bytes.
+#[inline(always)]
+pub(super) fn arrays_before_next(count: usize) -> u8 {
+    if count > 0 { FEW } else { MANY }
+}
+
 impl Reader {
     ghost use Rattle.gj_json.specs.Internal.FedReader.{FeedsAll};
 
@@ -49,32 +55,5 @@ impl Reader {
             rest = &rest[count..];
         }
         piece.len() - rest.len()
-    }
-    /// As `take_positions`, and at once nothing where `left` arrays more come before it is tried.
-    #[inline(always)]
-    pub(super) fn take_if_many<S: EventSink>(
-        &mut self,
-        piece: &[u8],
-        left: &mut u8,
-        sink: &mut S,
-    ) -> usize
-        requires next { IsDueAt self.old.mode piece.now }
-        requires live { self.old.fault ≡ None }
-        requires deep { length (levels_in self.old.levels) < self.old.limits.depth }
-        requires inner { inner_of (levels_in self.old.levels) ≡ Some Array }
-        requires room { self.old.offset + length piece.now ≤ self.old.limits.bytes }
-        requires small { self.old.limits.bytes ≤ 2 ^ 60 }
-        ensures within { result ≤ length piece.now }
-        ensures next { IsDueAt self.new.mode (drop result piece.now) }
-        ensures levels { self.new.levels ≡ self.old.levels }
-        ensures feeds { FeedsAll (S.heard sink.old) (S.heard sink.new) self.old self.new (take result piece.now) }
-    {
-        if *left > 0 {
-            *left -= 1;
-            return 0;
-        }
-        let count = self.take_positions(piece, sink);
-        *left = if count > 0 { FEW } else { MANY };
-        count
     }
 }
