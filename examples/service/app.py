@@ -23,7 +23,7 @@ from answers import accepts_html, as_html, as_json, form_page
 from forms import Form, FormError
 
 MOST_BYTES = 100_000_000
-# How many uploads are taken at once. Each holds the memory of its findings, 254 KB, and what of it has come and is not checked yet,
+# How many uploads are taken at once. Each holds the memory of its findings, 246 KB, and what of it has come and is not checked yet,
 # which the server bounds: whatever its size, less than a megabyte, and half a megabyte more for the broken features that are listed.
 MOST_AT_ONCE = 2000
 # How many broken features are listed; the others are counted.
