@@ -8,7 +8,7 @@ pub fn g1() -> &'static str
 {
     "G1: not an object
 
-A GeoJSON object is required at the place, and another value stands there. The text itself must be an object, and so must each
+A GeoJSON object is required at the place, and there is another value. The text itself must be an object, and so must each
 element of `features` and `geometries`, and the `geometry` of a Feature, which may also be `null`. The place is that of the
 value.
 
@@ -21,8 +21,8 @@ Mended:
 
 Usual causes:
 
-- A bare list of features, as many web services answer. Put it into a FeatureCollection, as here.
-- `null` in `features`, left there by a filter. Take it out.
+- A bare list of features, as many web services return it. Put it into a FeatureCollection, as here.
+- `null` in `features`, left there by a filter. Remove it.
 - A geometry as text: `\"geometry\":\"POINT(9.43 54.79)\"`, or JSON inside a string. Write the object itself.
 - `[]`, `\"\"` or `false` as `geometry` where there is no location. Write `null`.
 
@@ -49,7 +49,7 @@ Usual causes:
 
 - Another format. Objects with `x` and `y`, `rings`, `paths` or `attributes` are Esri's JSON: export as GeoJSON.
 - A name that is not quite `type`: `Type`, `@type`, `kind`.
-- An answer of a web service that has the GeoJSON inside, such as `{\"status\":\"ok\",\"data\":{...}}`. Take the inner object out.
+- A response of a web service that has the GeoJSON inside, such as `{\"status\":\"ok\",\"data\":{...}}`. Take the inner object out.
 
 RFC 7946, section 3.
 "
@@ -61,7 +61,7 @@ pub fn g3() -> &'static str
 {
     "G3: type not allowed here
 
-The value of `type` is not one of those that may stand there. Upper and lower case count. The place is that of the value
+The value of `type` is not one of those that are allowed there. Upper and lower case differ. The place is that of the value
 of `type`.
 
 | Object | Types allowed |
@@ -112,7 +112,7 @@ A geometry with `\"coordinates\":[]` is accepted too, whichever of these types i
 Usual causes:
 
 - The location is not known. Write `null` for the whole geometry, as here.
-- The position stands in members of its own, such as `\"lat\":54.79,\"lon\":9.43`. Write `\"coordinates\":[9.43,54.79]`.
+- The position is in separate members, such as `\"lat\":54.79,\"lon\":9.43`. Write `\"coordinates\":[9.43,54.79]`.
 - A name that is not quite `coordinates`: `coords`, `coordinate`, `Coordinates`.
 
 RFC 7946, section 3.1.
@@ -163,7 +163,7 @@ Usual causes:
 
 - A table in which a row has no location.
 - A program that leaves out each member whose value is `null`. Make it write this one.
-- `coordinates` right in the Feature. Put a geometry around it: `\"geometry\":{\"type\":\"Point\",\"coordinates\":[9.43,54.79]}`.
+- `coordinates` directly in the Feature. Put a geometry around it: `\"geometry\":{\"type\":\"Point\",\"coordinates\":[9.43,54.79]}`.
 
 RFC 7946, section 3.2.
 "
@@ -189,7 +189,7 @@ Usual causes:
 
 - A feature that was drawn and never described, or a geometry that was wrapped by hand.
 - A program that leaves out each member that is empty or `null`.
-- The properties stand right in the Feature, or in `attributes`. Put them into `properties`.
+- The properties are directly in the Feature, or in `attributes`. Put them into `properties`.
 
 RFC 7946, section 3.2.
 "
@@ -240,10 +240,10 @@ Usual causes:
 
 - `properties` in a FeatureCollection, for what is said of the whole file. Give the member another name.
 - `properties` in a geometry. Put the geometry into a Feature, and the properties beside it.
-- `coordinates` in a Feature that has its geometry as well. Take them out.
+- `coordinates` in a Feature that has its geometry as well. Remove them.
 - `features` in a Feature, for its parts. Put all of them into one FeatureCollection.
 
-`coordinates` in a GeometryCollection and `geometries` in another geometry are not forbidden. They are passed over.
+`coordinates` in a GeometryCollection and `geometries` in another geometry are not forbidden. They are ignored.
 
 RFC 7946, section 7.1.
 "
@@ -266,18 +266,18 @@ Mended:
     {\"type\":\"Feature\",\"geometry\":null,\"properties\":{\"name\":\"pier\"}}
 
 Some programs take the first of two members, others the last, so the file has two meanings. Find out which one is meant,
-and take the other out. geolint checks the object by the first.
+and remove the other. geolint checks the object by the first.
 
 Names are compared after their escapes are undone: `\"\\u0074ype\"` is `type`. Other names may be repeated, and so may all
 names inside `properties` and foreign members.
 
 Usual causes:
 
-- A line that was copied by hand and not taken out again.
+- A line that was copied by hand and not removed again.
 - A text that was put together from parts, each with its own `type` or `bbox`.
 - Two sets of properties that were joined as text.
 
-RFC 8259, section 4, says that names should be unique. To refuse these eight is this program's choice.
+RFC 8259, section 4, says that names should be unique. That these eight are refused is this program's choice.
 "
 }
 
@@ -323,7 +323,7 @@ Usual causes, each in `{\"type\":TYPE,\"coordinates\":COORDINATES}`:
 | `null` in a line | `LineString` | `[[9.43,54.79],null,[9.44,54.79]]` | G11 at 49 | `[[9.43,54.79],[9.44,54.79]]` |
 
 With one level of brackets too few or too many, the rule can also be G12, G13 or G14, since geolint counts the elements
-of what stands where a position, a line or a ring is required:
+of the value where a position, a line or a ring is required:
 
 | Cause | Type | `coordinates` | geolint says | Mended |
 |---|---|---|---|---|
@@ -359,7 +359,7 @@ Usual causes:
 
 - The latitude was not known and was left out. Write `\"geometry\":null` for the Feature.
 - Both numbers in one string: `[\"9.43 54.79\"]`. Write two numbers.
-- An empty position `[]` in a list, kept for later. Take it out.
+- An empty position `[]` in a list, kept for later. Remove it.
 - One level of brackets too many in a Point: `[[9.43,54.79]]`.
 
 RFC 7946, section 3.1.1.
@@ -384,7 +384,7 @@ Mended:
 Usual causes:
 
 - A track of one fix, or a device that was switched on and off. Write a Point, or leave the line out.
-- A line that was clipped or simplified until one position was left, or none (`[]` in a MultiLineString). Take it out.
+- A line that was clipped or simplified until one position was left, or none (`[]` in a MultiLineString). Remove it.
 - One level of brackets too many in a LineString: `[[[9.43,54.79],[9.44,54.79]]]`.
 
 RFC 7946, sections 3.1.4 and 3.1.5.
@@ -410,7 +410,7 @@ Mended:
 Usual causes:
 
 - A triangle that is not closed, as here. Write the first position again at the end.
-- A small area that was rounded or simplified until two corners were left. Take the hole out, or the whole polygon.
+- A small area that was rounded or simplified until two corners were left. Remove the hole, or the whole polygon.
 - An empty ring in a polygon without area, `[[]]`. Write `\"coordinates\":[]`. In a MultiPolygon an empty polygon `[]` is
   accepted, and an empty ring in it is not.
 - One level of brackets too few in a Polygon or MultiPolygon, so that each position is taken for a ring. See
@@ -466,7 +466,7 @@ Mended:
     {\"type\":\"Point\",\"coordinates\":[9.43,54.79]}
 
 geolint takes a number exactly: as a whole number with no zero at its end, times a power of ten. `1.50` is 15 times 10^-1.
-It refuses the number in these cases:
+It refuses a number in these cases:
 
 - The whole number has more than 30 digits.
 - The power of ten is above 400 or below -400. `1e400` is accepted, and `1e401` and `1e-401` are refused.
@@ -706,7 +706,7 @@ Mended, with the time where it belongs:
 
     {\"type\":\"Feature\",\"geometry\":{\"type\":\"Point\",\"coordinates\":[9.43,54.79,12]},\"properties\":{\"time\":1700000000}}
 
-What goes wrong: most programs drop the fourth number without a word; some refuse the file.
+What goes wrong: most programs drop the fourth number silently; some refuse the file.
 
 Usual causes:
 
@@ -735,7 +735,7 @@ Mended:
 
     {\"type\":\"Point\",\"coordinates\":[9.43,54.79]}
 
-Six places are about ten centimetres, and seven about one. More of them say nothing about a place on the ground. They make a
+Six places are about ten centimetres, and seven about one. More places say nothing about a location on the ground. They make a
 file up to twice as large, and up to twice as slow to send and to read.
 
 Usual causes:
@@ -874,8 +874,8 @@ pub fn w9() -> &'static str
 {
     "W9: crs is no longer used
 
-The object has a member `crs`. GeoJSON of 2008 named the reference system there. Today's standard knows only longitudes and
-latitudes in WGS 84, and a reader may pass over the member. The place is that of its name, and each one counts.
+The object has a member `crs`. GeoJSON of 2008 named the reference system there. Today's standard has only longitudes and
+latitudes in WGS 84, and a reader may ignore the member. The place is that of its name, and each one counts.
 
     $ printf '{\"type\":\"Point\",\"crs\":{\"type\":\"name\",\"properties\":{\"name\":\"EPSG:25832\"}},\"coordinates\":[527673,6071832]}' | geolint
     valid
@@ -886,8 +886,8 @@ Mended, converted to WGS 84:
 
     {\"type\":\"Point\",\"coordinates\":[9.43,54.79]}
 
-What goes wrong: programs that pass over `crs` draw the data in the sea off Africa, or nowhere. If it names CRS 84 or
-EPSG 4326, the data are right, and only the member has to go.
+What goes wrong: programs that ignore `crs` draw the data in the sea near Africa, or nowhere. If it names CRS 84 or
+EPSG 4326, the data are right, and only the member has to be removed.
 
 Usual causes:
 
@@ -903,12 +903,12 @@ pub fn j1() -> &'static str
 {
     "J1: syntax
 
-The byte at the place cannot stand there; all before it could begin a JSON text.
+The byte at the place is not allowed there; everything before it could begin a JSON text.
 
     $ printf '{\"type\":\"Point\",\"coordinates\":[9.43,54.79],}' | geolint
     not JSON at 43: syntax
 
-Here a comma stands before the closing brace. The place is that of the brace, since another member could have followed
+Here a comma comes before the closing brace. The place is that of the brace, since another member could have followed
 the comma. Without the comma the text is right:
 
     {\"type\":\"Point\",\"coordinates\":[9.43,54.79]}
@@ -931,9 +931,9 @@ Usual causes (these short texts are not GeoJSON: mended, they are JSON and break
 | two texts in one file | `{}{}` | 2 | `{}` in a file of its own each; if each line is a text, check the file with `geolint-files --ndjson` |
 | file of another kind, such as HTML | `<html>` | 0 | see Files of another kind |
 
-Two causes show no visible character:
+Two causes cannot be seen:
 
-- **A line break or tab inside a string.** Write `\\n` or `\\t` for it.
+- **A line break or tab inside a string.** Write `\\n` or `\\t` instead.
 - **Letters that are not in UTF-8.** A file in Latin-1 or Windows-1252 usually fails at its first letter beyond ASCII or at
   the byte after it. Convert it: `iconv -f WINDOWS-1252 -t UTF-8 map.geojson > mended.geojson`.
 
@@ -985,7 +985,7 @@ The text is right as far as it goes, and then it ends. The place is its length.
     $ printf '{\"type\":\"Point\",\"coordinates\":[9.43,54.79]' | geolint
     not JSON at 42: truncated
 
-Usually a download, a copy or a program that writes was stopped: fetch or write the file again. If only brackets are missing
+Usually a download, a copy or the program that wrote the file was stopped: fetch or write the file again. If only brackets are missing
 at the end, add them:
 
     {\"type\":\"Point\",\"coordinates\":[9.43,54.79]}
@@ -1006,7 +1006,7 @@ allows one.
     $ printf '[%.0s' $(seq 257) | geolint
     not JSON at 256: too deep
 
-GeoJSON itself needs few levels: the numbers of a MultiPolygon in a FeatureCollection stand inside eight. Look for
+GeoJSON itself needs few levels: the numbers of a MultiPolygon in a FeatureCollection are inside eight. Look for
 GeometryCollections inside one another and for deep values in `properties`, and flatten them.
 "
 }
@@ -1023,7 +1023,7 @@ after 2^60.
     $ printf '{\"type\":\"Point\",\"coordinates\":[9.43,54.79]}' | geolint stdin --max-bytes 10
     not JSON at 10: too long
 
-Either the file is longer than it should be, or the limit is too low. Without the option no file of today is too long, so
-something feeds geolint without an end.
+Either the file is longer than it should be, or the limit is too low. Without the option no real file is too long, so
+something sends bytes to geolint without end.
 "
 }
