@@ -7,7 +7,7 @@ dist:
 	@$(MAKE) --no-print-directory -j2 web npm library TARGET=aarch64
 	@contrib/dist/make-dist
 
-# Nothing goes out without a licence, which is the owner's to choose.
+# Nothing is released without a licence, which the owner has to choose.
 release:
 	@[ -e LICENSE ] || { echo "geolint: no licence is set: make dist is for local use; make release needs the file LICENSE" >&2; exit 2; }
 	@$(MAKE) dist

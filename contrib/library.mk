@@ -4,7 +4,7 @@
 #     make install-library PREFIX=/usr/local     # needs no rt once it is built; honours DESTDIR
 #     make uninstall-library PREFIX=/usr/local
 #
-# The static library has no need of any other. The shared object is one line from it, see below.
+# The static library needs no other. The shared object is made from it by one command, see below.
 GEOLINT_ROOT := $(patsubst %/,%,$(dir $(lastword $(MAKEFILE_LIST))))/..
 LIBRARY_BUILD ?= $(GEOLINT_ROOT)/out/library
 GEOLINT_C := $(GEOLINT_ROOT)/crates/geolint_c

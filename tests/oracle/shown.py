@@ -1,4 +1,4 @@
-"""What the documents and the tables of the repository show: texts, each with the verdict that stands beside it."""
+"""What the documents and the tables of the repository show: texts, each with its verdict."""
 
 import json
 import pathlib
