@@ -17,6 +17,7 @@ pub mod ReaderStep
 pub mod PathTrail
 pub mod FedReader
 pub mod WholeTokens
+pub mod Scalars
 pub mod WholeHeads
 pub mod FlatParts
 pub mod SpelledPositions

@@ -1,6 +1,6 @@
 //! Runs of bytes at the start of a piece, found sixteen at a time.
 
-ghost use Rattle.std.specs.Prelude.{◌≡◌, ◌≤◌, ◌+◌, ◌*◌, ◌++◌, length, map, not, take};
+ghost use Rattle.std.specs.Prelude.{◌≡◌, ◌<◌, ◌≤◌, ◌+◌, ◌*◌, ◌++◌, length, map, not, take};
 ghost use Rattle.std.specs.List.{prefix_len};
 ghost use Rattle.std.specs.Simd.Lanes.{mask_l};
 ghost use Rattle.std.specs.Str.{bytes_eq};
@@ -112,6 +112,16 @@ fn few_white(piece: &[u8]) -> usize
     ensures { result ≡ prefix_len is_white piece.now }
 {
     piece.iter().take_while(|byte| is_white(**byte)).count()
+}
+
+/// How many bytes at the start of the piece are characters by themselves, where one of the first sixteen is none. Else it is
+/// some number from sixteen on.
+#[inline(always)]
+pub fn near_ascii_run(piece: &[u8]) -> usize
+    requires { LANES ≤ length piece.now }
+    ensures { result < LANES → result ≡ prefix_len is_unescaped_ascii piece.now }
+{
+    ascii_stops(u8x16::from_slice(piece)).trailing_zeros() as usize
 }
 
 /// How many bytes at the start of the piece are characters by themselves.

@@ -1,5 +1,5 @@
 //! The arrays and objects that are open, a bit for each.
-ghost use Rattle.std.specs.Prelude.{◌≡◌, ℕ, ◌*◌, ◌^◌, ◌<◌, ◌≤◌, [], ◌∷◌, length, IsTrue};
+ghost use Rattle.std.specs.Prelude.{◌≡◌, ℕ, ◌*◌, ◌^◌, ◌<◌, ◌≤◌, [], ◌∷◌, length, IsTrue, Some};
 ghost use Rattle.gj_json.specs.declared.levels.TheConstants.{WORD, MOST_FULL};
 
 use crate::limits::MOST_LEVELS;
@@ -88,6 +88,15 @@ impl Levels {
         } else {
             Some(Level::Object)
         }
+    }
+
+    /// Whether the innermost level is an object.
+    #[inline(always)]
+    #[tactic(auto, using(crate::proofs::Readers::LevelWords::in_object))]
+    pub fn is_in_object(&self) -> bool
+        ensures { IsTrue result → inner_of (levels_in self.now) ≡ Some Object }
+    {
+        self.count > 0 && self.inner % 2 == 1
     }
 
     /// Whether the three innermost levels are those of a value in a feature: an object in an object in an array.

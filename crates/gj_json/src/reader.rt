@@ -195,6 +195,7 @@ mod bytes;
 mod flats;
 mod heads;
 mod ignored;
+mod members;
 mod pieces;
 mod place;
 mod positions;

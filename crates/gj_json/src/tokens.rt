@@ -1,14 +1,17 @@
 //! Tokens that stand whole at the start of a piece: how far they go, and nothing of what they say.
 
-ghost use Rattle.std.specs.Prelude.{◌≡◌, ◌-◌, ◌≤◌, ◌<◌, length, take, get_or};
+ghost use Rattle.std.specs.Prelude.{◌≡◌, ◌+◌, ◌-◌, ◌≤◌, ◌<◌, length, take, get_or};
 ghost use Rattle.gj_json.specs.Bytes.{quote};
 ghost use Rattle.gj_json.specs.Grammar.{letters_of};
 ghost use Rattle.gj_json.specs.Internal.FlatParts.{cut};
+ghost use Rattle.gj_json.specs.Internal.Scalars.{IsScalar};
 ghost use Rattle.gj_json.specs.Internal.WholeTokens.{AreCharacters, IsQuoted, IsString};
+ghost use Rattle.gj_json.specs.declared.lanes.TheConstants.{LANES};
 
 use crate::characters::characters_run;
 use crate::constant::Constant;
-use crate::lanes::ascii_run;
+use crate::lanes::{LANES, ascii_run, begins, near_ascii_run};
+use gj_number::unsigned_run;
 
 /// How many bytes the string of plain characters has that stands whole at the start of a piece, or 0.
 #[inline(always)]
@@ -56,6 +59,61 @@ pub fn quoted_run(piece: &[u8]) -> usize
         end + 1
     } else {
         0
+    }
+}
+
+/// How many bytes the string has that the piece starts with, where it has fewer than sixteen characters and each is plain, or 0.
+#[inline(always)]
+pub fn near_quoted_run(piece: &[u8]) -> usize
+    requires room { LANES < length piece.now }
+    requires quote { get_or piece.now 0 0 ≡ quote }
+    ensures few { result ≤ LANES + 1 }
+    ensures quoted { 0 < result → IsString (take result piece.now) }
+{
+    let count = near_ascii_run(&piece[1..]);
+    if count < LANES && piece[1 + count] == b'"' {
+        1 + count + 1
+    } else {
+        0
+    }
+}
+
+/// How many bytes the value has that the piece starts with, where it is a string that stands whole with the byte after it, a
+/// short number with no sign, or a literal name, or 0.
+#[inline(always)]
+pub fn scalar_run(piece: &[u8]) -> usize
+    requires room { LANES < length piece.now }
+    ensures within { result < length piece.now }
+    ensures scalar { 0 < result → IsScalar (take result piece.now) }
+{
+    match piece[0] {
+        b'"' => {
+            let count = quoted_run(piece);
+            if count < piece.len() { count } else { 0 }
+        }
+        b'0'..=b'9' => unsigned_run(piece),
+        b'n' => {
+            if begins(piece, b"null            ", 4) {
+                4
+            } else {
+                0
+            }
+        }
+        b't' => {
+            if begins(piece, b"true            ", 4) {
+                4
+            } else {
+                0
+            }
+        }
+        b'f' => {
+            if begins(piece, b"false           ", 5) {
+                5
+            } else {
+                0
+            }
+        }
+        _ => 0,
     }
 }
 

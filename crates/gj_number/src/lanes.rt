@@ -78,7 +78,7 @@ static POINTED: [u8; 768] = [
 
 /// A bit for each lane that is 10 or more.
 #[inline(always)]
-fn from_ten(lanes: u8x16) -> u64
+pub(crate) fn from_ten(lanes: u8x16) -> u64
     ensures { result ≡ mask_l (map (nat_le 10) lanes) }
 {
     lanes.simd_ge(u8x16::splat(10)).to_bitmask()

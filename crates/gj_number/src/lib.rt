@@ -31,3 +31,4 @@ pub use short::Short;
 pub use short::cuts::{Cut, CutPair, read_inner_cut_pair};
 pub use short::pair::{Pair, read_last_pair, read_pair};
 pub use short::prefix::read_short;
+pub use short::unsigned::unsigned_run;

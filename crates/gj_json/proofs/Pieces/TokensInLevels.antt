@@ -1,5 +1,5 @@
 -- Tokens within levels that are open: of the events that one completes, the last alone may close a level.
-use Rattle.std.proofs.Common.{inl, inr, ◌≡◌, ℕ, zero, suc, ◌+◌, ◌-◌, ◌≤◌, ◌<◌, Bool, true, false, List, [], ◌∷◌, ◌++◌, get_or, length, take, take-add}
+use Rattle.std.proofs.Common.{◌≡◌, ℕ, zero, suc, ◌+◌, ◌-◌, ◌≤◌, ◌<◌, Bool, true, false, List, [], ◌∷◌, ◌++◌, get_or, length, take, take-add}
 use Rattle.std.proofs.Common.{drop, Option, Some, None, refl, sym, ap, subst, ◌∙◌, arith}
 use Rattle.std.proofs.lemmas.List.{drop-drop, length-append, take_more}
 use Rattle.gj_json.specs.Bytes.{quote as quote_byte, comma as comma_byte}
@@ -12,20 +12,20 @@ use Rattle.gj_json.specs.Grammar.{letters_of}
 use Rattle.gj_json.specs.declared.levels.Level.{Level}
 use Rattle.gj_json.specs.declared.levels.Level.TheVariants.{Array, Object}
 use Rattle.gj_json.specs.declared.mode.Mode.{Mode}
-use Rattle.gj_json.specs.declared.mode.Mode.TheVariants.{ValueDone, ValueDue, NameDue, NumberOn, StringOn, NameOn}
+use Rattle.gj_json.specs.declared.mode.Mode.TheVariants.{ValueDone, NameDue}
 use Rattle.gj_json.specs.declared.mode.Ending.{Ending}
 use Rattle.gj_json.specs.declared.mode.Move.TheVariants.{Go, Close}
 use Rattle.gj_json.specs.declared.mode.StringState.TheVariants.{Plain as plain}
 use Rattle.gj_json.specs.declared.reader.Reader.{Reader}
 use Rattle.gj_json.specs.Internal.ByteClasses.{class_of}
 use Rattle.gj_json.specs.Events.{what_of}
-use Rattle.gj_json.specs.Internal.FedReader.{Passed, SkipsBy, leading, in_literal, in_text, Skips, FeedsAll, FeedsWithin, FeedsAny, FeedsToken, above}
+use Rattle.gj_json.specs.Internal.FedReader.{Passed, Skips, FeedsAll, FeedsWithin, FeedsAny, FeedsToken, above}
 use Rattle.gj_json.specs.Internal.FlatParts.{awaits}
 use Rattle.gj_json.specs.Ignored.{Leaves}
 use Rattle.gj_json.specs.Internal.OpenLevels.{levels_in, inner_of, outer_of}
 use Rattle.gj_json.specs.Internal.Transitions.{after_move}
 use Rattle.gj_json.specs.Internal.QuietBytes.{Reads}
-use Rattle.gj_json.specs.Internal.WholeTokens.{names, IsString, Lands}
+use Rattle.gj_json.specs.Internal.WholeTokens.{IsString, Lands}
 use Rattle.gj_json.specs.Internal.ToldEvents.{event_at, opening_of, closing_of}
 use Rattle.gj_json.proofs.Grammar.ClassOfBytes.{class_is}
 use Rattle.gj_json.proofs.Readers.CallsInTurn.{feeds_nothing, front_skipped, piece_all, rest_all}
@@ -132,19 +132,6 @@ pub skips_any : (old new : Reader) (piece : List ℕ) (n : ℕ) → old.fault �
 skips_any old new piece n live w room s =
     any_level old new (take n piece) [] (front_skipped {heard = λ events. events ≡ []} old new piece n live w room s) (λ k. refl) (ap levels_in s.levels)
 
--- white space before a name leads to no other mode, so a value is due only after some bytes
-pub value_after : (old new : Reader) (piece : List ℕ) (n : ℕ) → names old.mode ≡ true → Skips old new (take n piece) → new.mode ≡ ValueDue → 0 < n
-value_after old new piece (suc n) w s m = omega arith
-value_after old new piece zero w s m = go s.by
-  where
-    go : SkipsBy old new [] → 0 < 0
-    go (leading leads number text) = let x = rw (leads ∙ m) at w in cc
-    go (in_literal before after stands) = let x : ValueDue ≡ NumberOn = sym m ∙ after in cc
-    go (in_text first last characters goes reads holds) = elim goes [
-      | inl v ↦ let x : ValueDue ≡ StringOn last = sym m ∙ v.1 in cc
-      | inr v ↦ let x : ValueDue ≡ NameOn last = sym m ∙ v.1 in cc
-    ]
-
 -- ---- the byte after a value
 
 module _ (old new : Reader) (piece : List ℕ) (some : 0 < length piece) (live : old.fault ≡ None) (done : old.mode ≡ ValueDone)
@@ -235,7 +222,7 @@ pub comma_ends : (inner : Option Level) (b : ℕ) (level : Level) (next : Mode) 
     → after_move (Some level) comma_class ≡ Go next Ending.Item → after_move inner (class_of b) ≡ Go next Ending.Item
 comma_ends inner b level next i w e = rw (i, w, class_is comma_class comma_byte refl (λ e. cc)) e
 
-first_byte : (piece : List ℕ) (b : ℕ) → 0 < length piece → get_or piece 0 0 ≡ b → take 1 piece ≡ b ∷ []
+pub first_byte : (piece : List ℕ) (b : ℕ) → 0 < length piece → get_or piece 0 0 ≡ b → take 1 piece ≡ b ∷ []
 first_byte [] b w e = absurd (omega arith)
 first_byte (x ∷ xs) b w e = ap (λ y. y ∷ []) e
 

@@ -1,12 +1,12 @@
 -- Words of bits keep as many levels as their counts say.
-use Rattle.std.proofs.Common.{◌≡◌, ◌≢◌, ℕ, zero, suc, ◌+◌, ◌-◌, ◌*◌, ◌≤◌, ◌<◌, ◌/◌, ◌%◌, List, ◌∷◌, ◌++◌, length, get_or, set, refl, ap, arith, add-one}
+use Rattle.std.proofs.Common.{◌≡◌, ◌≢◌, ℕ, zero, suc, ◌+◌, ◌-◌, ◌*◌, ◌≤◌, ◌<◌, ◌/◌, ◌%◌, List, ◌∷◌, ◌++◌, length, get_or, set, Some, refl, ap, arith, add-one}
 use Rattle.std.proofs.lemmas.List.{get_or-set_same, get_or-set_other, length-append}
 use Rattle.std.specs.Prelude.{slice_set}
 use Rattle.gj_json.specs.declared.levels.Levels.{Levels}
 use Rattle.gj_json.specs.declared.levels.Level.{Level}
 use Rattle.gj_json.specs.declared.levels.Level.TheVariants.{Array, Object}
 use Rattle.gj_json.specs.declared.levels.TheConstants.{WORD}
-use Rattle.gj_json.specs.Internal.OpenLevels.{level_of, bit_of, levels_at, full_levels, levels_in, outer_of}
+use Rattle.gj_json.specs.Internal.OpenLevels.{level_of, bit_of, levels_at, full_levels, levels_in, inner_of, outer_of}
 
 length-levels_at : (count bits : ℕ) → length (levels_at count bits) ≡ count
 length-levels_at zero bits = refl
@@ -58,3 +58,13 @@ pub in_feature : (l : Levels) → 2 < l.count → l.inner % 8 ≡ 3
     → levels_in l ≡ Object ∷ Object ∷ Array ∷ outer_of (outer_of (outer_of (levels_in l)))
 unfolding levels_in
 in_feature l few bits = rw (three_inner l.count l.inner (full_levels l.full l.outer) few bits) refl
+
+-- the lowest bit of the word of the innermost levels
+one_inner : (count inner : ℕ) (around : List Level) → 0 < count → inner % 2 ≡ 1
+    → levels_at count inner ++ around ≡ Object ∷ (levels_at (count - 1) (inner / 2) ++ around)
+one_inner zero inner around few bits = absurd (omega arith)
+one_inner (suc count) inner around few bits = let left : suc count - 1 ≡ count = omega arith in rw (bits, left) refl
+
+pub in_object : (l : Levels) → 0 < l.count → l.inner % 2 ≡ 1 → inner_of (levels_in l) ≡ Some Object
+unfolding levels_in
+in_object l few bits = rw (one_inner l.count l.inner (full_levels l.full l.outer) few bits) refl

@@ -1,9 +1,7 @@
 //! Bytes whose events do not matter to the sink: their tokens are taken for one that drops the events.
 
-ghost use Rattle.std.specs.Prelude.{◌≡◌, ◌+◌, ◌^◌, ◌≤◌, ◌<◌, true, [], length, take, IfOk, MatchResult, None};
+ghost use Rattle.std.specs.Prelude.{◌≡◌, ◌+◌, ◌^◌, ◌≤◌, ◌<◌, [], length, take, IfOk, MatchResult, None};
 ghost use Rattle.gj_json.specs.Internal.OpenLevels.{levels_in};
-ghost use Rattle.gj_json.specs.Internal.WholeTokens.{names};
-ghost use Rattle.gj_json.specs.declared.mode.Mode.TheVariants.{ValueDue};
 
 use super::Reader;
 use crate::fault::JsonFault;
@@ -13,63 +11,6 @@ use crate::sink::{EventSink, NoEvents};
 impl Reader {
     ghost use Rattle.gj_json.specs.Ignored.{Leaves};
     ghost use Rattle.gj_json.specs.Internal.FedReader.{FeedsAll, FeedsAny, FeedsTo, FeedsWithin, FeedsWithinTo};
-
-    /// Takes the name at the start of the piece and its colon, or the white space there: how many bytes.
-    #[inline(always)]
-    fn pass_name_or_white(&mut self, piece: &[u8]) -> usize
-        requires some { 0 < length piece.now }
-        requires live { self.old.fault ≡ None }
-        requires due { names self.old.mode ≡ true }
-        requires room { self.old.offset + length piece.now ≤ self.old.limits.bytes }
-        requires small { self.old.limits.bytes ≤ 2 ^ 60 }
-        ensures within { result ≤ length piece.now }
-        ensures some { self.new.mode ≡ ValueDue → 0 < result }
-        ensures levels { self.new.levels ≡ self.old.levels }
-        ensures feeds { FeedsAny self.old self.new (take result piece.now) }
-    {
-        if piece[0] == b'"' {
-            self.pass_name(piece)
-        } else {
-            self.skip_white(piece)
-        }
-    }
-
-    /// Takes members from the start of the piece, one after another, with the white space between them: how many bytes. It goes
-    /// on where a comma is taken with the value before it.
-    #[inline(always)]
-    fn pass_members(&mut self, piece: &[u8]) -> usize
-        requires live { self.old.fault ≡ None }
-        requires due { names self.old.mode ≡ true }
-        requires room { self.old.offset + length piece.now ≤ self.old.limits.bytes }
-        requires small { self.old.limits.bytes ≤ 2 ^ 60 }
-        ensures within { result ≤ length piece.now }
-        ensures feeds { FeedsAny self.old self.new (take result piece.now) }
-    {
-        let mut at = 0;
-        while at < piece.len() {
-            let count = self.pass_name_or_white(&piece[at..]);
-            at += count;
-            match self.mode {
-                Mode::ValueDue => {}
-                Mode::NameDue => {
-                    if count == 0 {
-                        return at;
-                    }
-                    continue;
-                }
-                _ => return at,
-            }
-            if at == piece.len() {
-                return at;
-            }
-            at += self.take_value::<NoEvents, false>(&piece[at..], &mut NoEvents);
-            match self.mode {
-                Mode::NameDue => {}
-                _ => return at,
-            }
-        }
-        at
-    }
 
     /// Takes white space, or tokens that stand whole at the start of the piece: how many bytes.
     #[inline(always)]

@@ -226,7 +226,7 @@ impl Reader {
         requires room { self.old.offset + length piece.now ≤ self.old.limits.bytes }
         requires small { self.old.limits.bytes ≤ 2 ^ 60 }
         ensures within { result ≤ length piece.now }
-        ensures some { self.new.mode ≡ ValueDue → 0 < result }
+        ensures mode { 0 < result → self.new.mode ≡ ValueDue }
         ensures levels { self.new.levels ≡ self.old.levels }
         ensures feeds { FeedsAny self.old self.new (take result piece.now) }
     {
@@ -323,7 +323,12 @@ impl Reader {
 
     /// Takes `count` bytes, of which the last closes the innermost level, which is this.
     #[inline(always)]
-    fn take_close<S: EventSink>(&mut self, level: Level, count: usize, sink: &mut S) -> usize
+    pub(super) fn take_close<S: EventSink>(
+        &mut self,
+        level: Level,
+        count: usize,
+        sink: &mut S,
+    ) -> usize
         requires some { 0 < count }
         requires room { self.old.offset + count ≤ self.old.limits.bytes }
         requires small { self.old.limits.bytes ≤ 2 ^ 60 }

@@ -1,0 +1,146 @@
+-- Members of objects in which no event matters: a name and its colon, and a value with the byte after it.
+use Rattle.std.proofs.Common.{◌≡◌, ℕ, ◌+◌, ◌-◌, ◌≤◌, ◌<◌, true, false, List, [], ◌∷◌, get_or, length, take, drop, Option, Some, None, refl, sym, ap, subst, ◌∙◌, inl, arith}
+use Rattle.std.proofs.lemmas.List.{get_or-drop, length-drop}
+use Rattle.std.specs.List.{AllByRecursion}
+use Rattle.gj_json.specs.Bytes.{IsWhite, space, colon as colon_byte, close_brace}
+use Rattle.gj_json.specs.declared.class.Class.TheVariants.{CloseObject as close_class}
+use Rattle.gj_json.specs.declared.event.Event.{Event}
+use Rattle.gj_json.specs.declared.event.What.{What}
+use Rattle.gj_json.specs.declared.levels.Level.{Level}
+use Rattle.gj_json.specs.declared.levels.Level.TheVariants.{Object}
+use Rattle.gj_json.specs.declared.mode.Ending.{Ending}
+use Rattle.gj_json.specs.declared.mode.Mode.{Mode}
+use Rattle.gj_json.specs.declared.mode.Mode.TheVariants.{ValueDone, ValueDue}
+use Rattle.gj_json.specs.declared.mode.Move.TheVariants.{Go, Close}
+use Rattle.gj_json.specs.declared.reader.Reader.{Reader}
+use Rattle.gj_json.specs.Names.{known_of, word_of}
+use Rattle.gj_json.specs.Internal.ByteClasses.{class_of}
+use Rattle.gj_json.specs.Internal.FedReader.{Passed, FeedsAny}
+use Rattle.gj_json.specs.Internal.FlatParts.{awaits, cut}
+use Rattle.gj_json.specs.Internal.OpenLevels.{levels_in, inner_of, outer_of}
+use Rattle.gj_json.specs.Internal.Scalars.{IsScalar, text, digits, literal}
+use Rattle.gj_json.specs.Internal.ToldEvents.{event_at}
+use Rattle.gj_json.specs.Internal.Transitions.{IsMode, after_move}
+use Rattle.gj_json.specs.Internal.WholeTokens.{names, IsString, Lands}
+use Rattle.gj_json.proofs.Grammar.ClassOfBytes.{class_is}
+use Rattle.gj_json.proofs.Grammar.SpelledTokens.{first_colon_cut}
+use Rattle.gj_json.proofs.Pieces.PieceRests.{rest_of}
+use Rattle.gj_json.proofs.Pieces.TakenFlats.{mid_of, to_mid, from_mid}
+use Rattle.gj_json.proofs.Pieces.TakenTokens.{named_taken, text_taken}
+use Rattle.gj_json.proofs.Pieces.TokensInLevels.{from_none, first_byte, any_level, any_constant, any_goes, any_closes, any_then, number_token, ended_token}
+
+-- ---- a name, its colon, and one space after it or none
+
+module _ (old new : Reader) (piece : List ℕ) (n : ℕ) (live : old.fault ≡ None) (due : names old.mode ≡ true)
+    (room : old.offset + length piece ≤ old.limits.bytes) (w : n < length piece) (q : IsString (take n piece)) (colon : get_or piece n 0 ≡ colon_byte) where
+  abbrev rest : List ℕ
+  rest = take (length piece - n) (drop n piece)
+
+  rest_length : length rest ≡ length piece - n
+  rest_length = ap length (rest_of piece n) ∙ length-drop n piece
+
+  rest_at : (k : ℕ) → get_or rest k 0 ≡ get_or piece (n + k) 0
+  rest_at k = ap (λ xs. get_or xs k 0) (rest_of piece n) ∙ get_or-drop n piece k 0
+
+  named_any : (k : ℕ) → 1 ≤ k → n + k ≤ length piece → AllByRecursion IsWhite (cut rest 1 k) → Passed (n + k) ValueDue old new
+      → FeedsAny old new (take (n + k) piece)
+  named_any k some few white p =
+      let z : n + 0 ≡ n = omega arith in
+      let first : get_or rest 0 0 ≡ colon_byte = rest_at 0 ∙ ap (λ i. get_or piece i 0) z ∙ colon in
+      let l = rest_length in
+      let leads = first_colon_cut rest k (omega arith) first some (omega arith) white in
+      let es : List Event = event_at old.offset (What.Name (known_of q.characters)) ∷ [] in
+      any_level old new (take (n + k) piece) es
+      (named_taken {before = λ events. events ≡ []} {after = λ events. events ≡ es} old new piece n k live due room (omega arith) q (omega arith) leads p
+      (from_none es)) (λ i. refl) (ap levels_in p.levels)
+
+  pub dense_name : Passed (n + 1) ValueDue old new → FeedsAny old new (take (n + 1) piece)
+  dense_name p = named_any 1 (omega arith) (omega arith) tt p
+
+  pub spaced_name : n + 2 ≤ length piece → get_or piece (n + 1) 0 ≡ space → Passed (n + 2) ValueDue old new → FeedsAny old new (take (n + 2) piece)
+  spaced_name v here p =
+      let l = rest_length in
+      let d : get_or (drop 1 rest) 0 0 ≡ space = get_or-drop 1 rest 0 0 ∙ rest_at 1 ∙ here in
+      let one : take 1 (drop 1 rest) ≡ space ∷ [] = first_byte (drop 1 rest) space (omega (arith, length-drop 1 rest)) d in
+      let P : List ℕ → Type 0 = λ xs. AllByRecursion IsWhite xs in
+      named_any 2 (omega arith) v (subst P (sym one) (inl refl, tt)) p
+
+-- ---- a value, and the byte after it
+
+pub brace_closes : (inner : Option Level) (b : ℕ) → inner ≡ Some Object → b ≡ close_brace → after_move inner (class_of b) ≡ Close Object
+brace_closes inner b i w = rw (i, w, class_is close_class close_brace refl (λ e. cc)) refl
+
+module _ (old new : Reader) (piece : List ℕ) (n : ℕ) (live : old.fault ≡ None) (due : awaits old.mode ≡ true)
+    (room : old.offset + length piece ≤ old.limits.bytes) (w : n < length piece) (scalar : IsScalar (take n piece)) where
+  done_mode : IsMode ValueDone
+  done_mode = omega arith
+
+  mid_room : old.offset + n ≤ old.limits.bytes
+  mid_room = omega arith
+
+  abbrev mid : Reader
+  mid = mid_of old n ValueDone done_mode mid_room
+
+  abbrev last : List ℕ
+  last = take (length piece - n) (drop n piece)
+
+  last_some : 0 < length last
+  last_some = omega (arith, ap length (rest_of piece n), length-drop n piece)
+
+  last_room : mid.offset + length last ≤ mid.limits.bytes
+  last_room = omega (arith, ap length (rest_of piece n), length-drop n piece)
+
+  last_at : get_or last 0 0 ≡ get_or piece n 0
+  last_at =
+      let z : n + 0 ≡ n = omega arith in
+      ap (λ xs. get_or xs 0 0) (rest_of piece n) ∙ get_or-drop n piece 0 0 ∙ ap (λ i. get_or piece i 0) z
+
+  same_move : after_move (inner_of (levels_in old.levels)) (class_of (get_or last 0 0))
+      ≡ after_move (inner_of (levels_in old.levels)) (class_of (get_or piece n 0))
+  same_move = ap (λ b. after_move (inner_of (levels_in old.levels)) (class_of b)) last_at
+
+  text_any : IsString (take n piece) → FeedsAny old mid (take n piece)
+  text_any q =
+      let es : List Event = event_at old.offset (What.Text (word_of q.characters)) ∷ [] in
+      any_level old mid (take n piece) es
+      (text_taken {before = λ events. events ≡ []} {after = λ events. events ≡ es} old mid piece n live due room (omega arith)
+      (to_mid old n ValueDone done_mode mid_room) q (from_none es)) (λ i. refl) refl
+
+  module _ (next : Mode) (ending : Ending) (made : after_move (inner_of (levels_in old.levels)) (class_of (get_or piece n 0)) ≡ Go next ending)
+      (p : Passed (n + 1) next old new) where
+    goes : FeedsAny old mid (take n piece) → FeedsAny old new (take (n + 1) piece)
+    goes f =
+        any_then old mid new piece n 1 (omega arith) f
+        (any_goes mid new last last_some live refl last_room next ending (same_move ∙ made)
+        (from_mid old new n 1 (n + 1) ValueDone next done_mode mid_room refl p))
+
+    pub scalar_goes : FeedsAny old new (take (n + 1) piece)
+    scalar_goes = elim scalar [
+      | text q ↦ goes (text_any q)
+      | digits d ↦ number_token false (λ events. Unit {0}) (λ events. Unit {0}) old new piece n None live due room w d (λ h. cc) next ending made p (λ events h. tt)
+      | literal which e ↦
+          goes (any_constant old mid piece n which live due room (omega arith) (to_mid old n ValueDone done_mode mid_room) e)
+    ]
+
+  module _ (level : Level) (made : after_move (inner_of (levels_in old.levels)) (class_of (get_or piece n 0)) ≡ Close level)
+      (p : Lands (n + 1) ValueDone (outer_of (levels_in old.levels)) old new) where
+    from_done : Lands 1 ValueDone (outer_of (levels_in old.levels)) mid new
+    from_done = record {
+      limits = p.limits;
+      fault = p.fault;
+      offset = (let o = p.offset in omega arith);
+      mode_is = p.mode_is;
+      levels_are = p.levels_are;
+    }
+
+    closes : FeedsAny old mid (take n piece) → FeedsAny old new (take (n + 1) piece)
+    closes f =
+        any_then old mid new piece n 1 (omega arith) f (any_closes mid new last last_some live refl last_room level (same_move ∙ made) from_done)
+
+    pub scalar_closes : FeedsAny old new (take (n + 1) piece)
+    scalar_closes = elim scalar [
+      | text q ↦ closes (text_any q)
+      | digits d ↦ ended_token false (λ events. Unit {0}) (λ events. Unit {0}) old new piece n None live due room w d (λ h. cc) level made p (λ events h. tt)
+      | literal which e ↦
+          closes (any_constant old mid piece n which live due room (omega arith) (to_mid old n ValueDone done_mode mid_room) e)
+    ]

@@ -1,0 +1,151 @@
+//! Members of objects in which no event matters to the sink: where they are written as most are, each is taken in one step
+//! for its name and one for its value.
+
+ghost use Rattle.std.specs.Prelude.{◌≡◌, ◌+◌, ◌^◌, ◌≤◌, ◌<◌, true, length, take, get_or, None};
+ghost use Rattle.gj_json.specs.Bytes.{quote};
+ghost use Rattle.gj_json.specs.Internal.FlatParts.{awaits};
+ghost use Rattle.gj_json.specs.Internal.WholeTokens.{names};
+ghost use Rattle.gj_json.specs.declared.lanes.TheConstants.{LANES};
+
+use super::Reader;
+use crate::lanes::LANES;
+use crate::levels::Level;
+use crate::mode::Mode;
+use crate::sink::NoEvents;
+use crate::tokens::{near_quoted_run, scalar_run};
+
+/// A piece of fewer bytes has no room for a short name, what stands after it, and what is looked at of the value.
+const ROOM: usize = 2 * LANES + 8;
+
+impl Reader {
+    ghost use Rattle.gj_json.specs.Internal.FedReader.{FeedsAny};
+
+    /// Takes a value that stands whole with the byte after it, or the bracket that opens one: how many bytes, or 0.
+    #[inline(never)]
+    fn pass_value(&mut self, piece: &[u8]) -> usize
+        requires some { 0 < length piece.now }
+        requires live { self.old.fault ≡ None }
+        requires due { awaits self.old.mode ≡ true }
+        requires room { self.old.offset + length piece.now ≤ self.old.limits.bytes }
+        requires small { self.old.limits.bytes ≤ 2 ^ 60 }
+        ensures within { result ≤ length piece.now }
+        ensures feeds { FeedsAny self.old self.new (take result piece.now) }
+    {
+        self.take_value::<NoEvents, false>(piece, &mut NoEvents)
+    }
+
+    /// As `pass_value`, at once where the value is a usual one in an object.
+    #[inline(always)]
+    fn pass_scalar(&mut self, piece: &[u8]) -> usize
+        requires wide { LANES < length piece.now }
+        requires live { self.old.fault ≡ None }
+        requires due { awaits self.old.mode ≡ true }
+        requires room { self.old.offset + length piece.now ≤ self.old.limits.bytes }
+        requires small { self.old.limits.bytes ≤ 2 ^ 60 }
+        ensures within { result ≤ length piece.now }
+        ensures feeds { FeedsAny self.old self.new (take result piece.now) }
+    {
+        let count = scalar_run(piece);
+        if count > 0 && self.levels.is_in_object() {
+            if piece[count] == b',' {
+                return self.skip(count + 1, Mode::NameDue);
+            }
+            if piece[count] == b'}' {
+                return self.take_close(Level::Object, count + 1, &mut NoEvents);
+            }
+        }
+        self.pass_value(piece)
+    }
+
+    /// Takes a name of any characters and its colon, with the white space around that, and the value after them, or the bracket
+    /// that opens it: how many bytes, or 0.
+    #[inline(never)]
+    fn pass_any_member(&mut self, piece: &[u8]) -> usize
+        requires some { 0 < length piece.now }
+        requires begins { get_or piece.now 0 0 ≡ quote }
+        requires live { self.old.fault ≡ None }
+        requires due { names self.old.mode ≡ true }
+        requires room { self.old.offset + length piece.now ≤ self.old.limits.bytes }
+        requires small { self.old.limits.bytes ≤ 2 ^ 60 }
+        ensures within { result ≤ length piece.now }
+        ensures feeds { FeedsAny self.old self.new (take result piece.now) }
+    {
+        let name = self.pass_name(piece);
+        if name == 0 || name == piece.len() {
+            return name;
+        }
+        name + self.pass_value(&piece[name..])
+    }
+
+    /// As `pass_any_member`, at once where the name is short, with one space after its colon or none.
+    // The two calls at the end let the processor foresee which it is: the place of the value does not wait for that byte.
+    #[inline(always)]
+    fn pass_member(&mut self, piece: &[u8]) -> usize
+        requires some { 0 < length piece.now }
+        requires begins { get_or piece.now 0 0 ≡ quote }
+        requires live { self.old.fault ≡ None }
+        requires due { names self.old.mode ≡ true }
+        requires room { self.old.offset + length piece.now ≤ self.old.limits.bytes }
+        requires small { self.old.limits.bytes ≤ 2 ^ 60 }
+        ensures within { result ≤ length piece.now }
+        ensures feeds { FeedsAny self.old self.new (take result piece.now) }
+    {
+        if piece.len() < ROOM {
+            return self.pass_any_member(piece);
+        }
+        let name = near_quoted_run(piece);
+        if name == 0 || piece[name] != b':' {
+            return self.pass_any_member(piece);
+        }
+        if piece[name + 1] == b' ' {
+            self.skip(name + 2, Mode::ValueDue);
+            return name + 2 + self.pass_scalar(&piece[name + 2..]);
+        }
+        self.skip(name + 1, Mode::ValueDue);
+        name + 1 + self.pass_scalar(&piece[name + 1..])
+    }
+
+    /// Takes a member at the start of the piece, or the white space there: how many bytes.
+    #[inline(always)]
+    fn pass_member_or_white(&mut self, piece: &[u8]) -> usize
+        requires some { 0 < length piece.now }
+        requires live { self.old.fault ≡ None }
+        requires due { names self.old.mode ≡ true }
+        requires room { self.old.offset + length piece.now ≤ self.old.limits.bytes }
+        requires small { self.old.limits.bytes ≤ 2 ^ 60 }
+        ensures within { result ≤ length piece.now }
+        ensures feeds { FeedsAny self.old self.new (take result piece.now) }
+    {
+        if piece[0] == b'"' {
+            self.pass_member(piece)
+        } else {
+            self.skip_white(piece)
+        }
+    }
+
+    /// Takes members from the start of the piece, one after another, with the white space between them: how many bytes. It goes
+    /// on where a comma is taken with the value before it.
+    #[inline(always)]
+    pub(super) fn pass_members(&mut self, piece: &[u8]) -> usize
+        requires live { self.old.fault ≡ None }
+        requires due { names self.old.mode ≡ true }
+        requires room { self.old.offset + length piece.now ≤ self.old.limits.bytes }
+        requires small { self.old.limits.bytes ≤ 2 ^ 60 }
+        ensures within { result ≤ length piece.now }
+        ensures feeds { FeedsAny self.old self.new (take result piece.now) }
+    {
+        let mut at = 0;
+        while at < piece.len() {
+            let count = self.pass_member_or_white(&piece[at..]);
+            at += count;
+            if count == 0 {
+                return at;
+            }
+            match self.mode {
+                Mode::NameDue => {}
+                _ => return at,
+            }
+        }
+        at
+    }
+}
