@@ -110,6 +110,26 @@ impl Reader {
         Ok(at)
     }
 
+    /// Takes whole tokens from the start of the piece whose events do not matter to the sink: how many bytes.
+    #[inline(never)]
+    pub(super) fn pass_ignored<S: EventSink>(&mut self, piece: &[u8], sink: &mut S) -> usize
+        requires live { self.old.fault ≡ None }
+        requires room { self.old.offset + length piece.now ≤ self.old.limits.bytes }
+        requires small { self.old.limits.bytes ≤ 2 ^ 60 }
+        ensures within { result ≤ length piece.now }
+        ensures feeds { FeedsAll (S.heard sink.old) (S.heard sink.new) self.old self.new (take result piece.now) }
+    {
+        let ignored = sink.ignored();
+        let open = self.levels.len();
+        if ignored == 0 || open < ignored {
+            return 0;
+        }
+        let floor = open - ignored;
+        let count = self.pass_tokens(piece, floor);
+        sink.pass(self.levels.len() - floor);
+        count
+    }
+
     /// Takes bytes from the start of the piece whose events do not matter to the sink: how many.
     #[inline(never)]
     pub(super) fn take_ignored<S: EventSink>(

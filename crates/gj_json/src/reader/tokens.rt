@@ -6,7 +6,7 @@ ghost use Rattle.std.specs.Prelude.{◌≡◌, ◌+◌, ◌-◌, ◌^◌, ◌≤
 ghost use Rattle.gj_number.specs.Grammar.{IsNumber};
 ghost use Rattle.gj_number.specs.Value.{value_of};
 ghost use Rattle.gj_json.specs.Internal.QuietBytes.{Leads};
-ghost use Rattle.gj_json.specs.Bytes.{open_bracket, quote};
+ghost use Rattle.gj_json.specs.Bytes.{open_bracket, open_brace, quote};
 ghost use Rattle.gj_json.specs.Internal.FlatParts.{awaits};
 ghost use Rattle.gj_json.specs.Internal.OpenLevels.{levels_in, inner_of, outer_of};
 ghost use Rattle.gj_json.specs.Internal.ReaderStep.{opened};
@@ -696,6 +696,26 @@ impl Reader {
         }
     }
 
+    /// Takes the beginning of an object, and the whole tokens in it where their events do not matter to the sink: how many bytes,
+    /// or 0.
+    #[inline(always)]
+    fn take_object_within<S: EventSink>(&mut self, piece: &[u8], sink: &mut S) -> usize
+        requires some { 0 < length piece.now }
+        requires begins { get_or piece.now 0 0 ≡ open_brace }
+        requires live { self.old.fault ≡ None }
+        requires due { awaits self.old.mode ≡ true }
+        requires room { self.old.offset + length piece.now ≤ self.old.limits.bytes }
+        requires small { self.old.limits.bytes ≤ 2 ^ 60 }
+        ensures within { result ≤ length piece.now }
+        ensures feeds { FeedsAll (S.heard sink.old) (S.heard sink.new) self.old self.new (take result piece.now) }
+    {
+        let opened = self.take_object(piece, sink);
+        if opened == 0 || sink.ignored() == 0 {
+            return opened;
+        }
+        opened + self.pass_ignored(&piece[opened..], sink)
+    }
+
     /// Takes a token that stands whole at the start of the piece, or the white space there: how many bytes, or 0 where there is
     /// none or no event matters to the sink.
     #[inline(always)]
@@ -719,6 +739,9 @@ impl Reader {
                 let named = self.take_member(piece, sink);
                 if named == 0 || named == piece.len() {
                     return named;
+                }
+                if piece[named] == b'{' {
+                    return named + self.take_object_within(&piece[named..], sink);
                 }
                 named + self.take_value::<S, true>(&piece[named..], sink)
             }

@@ -1,0 +1,20 @@
+-- What was passed over does not matter to the sink.
+use Rattle.std.proofs.Common.{◌≡◌, ◌-◌, take, subst, sym, arith}
+use Rattle.gj_json.specs.Internal.FedReader.{above}
+use Rattle.gj_json.specs.Ignored.{Leaves}
+use Rattle.gj_json.proofs.Events.IgnoredEvents.{all_as}
+use Rattle.gj_json.proofs.reader.Reader.pass_ignored.Goals as goal
+
+pub returns-clause-feeds : goal.returns-clause-feeds
+returns-clause-feeds g c =
+    let old = c.args.self.now in
+    let t = c.pass_tokens-count in
+    let floor = c.len-open.result - c.ignored-ignored.result in
+    let m : above floor old ≡ g.S.EventSink.ignores c.args.sink.now = omega (arith, c.len-open.ensures.value, c.ignored-ignored.ensures) in
+    let n : c.len.result - floor ≡ above floor t.new.self = omega (arith, c.len.ensures.value) in
+    all_as {before = g.S.EventSink.heard c.args.sink.now} {after = g.S.EventSink.heard c.pass.new.self} (above floor old) (above floor t.new.self) old
+    t.new.self (take t.result c.args.piece.now)
+    (λ events inner h l.
+    let k : Leaves (above floor old) inner (c.len.result - floor) = subst (λ x. Leaves (above floor old) inner x) (sym n) l in
+    c.pass.ensures events inner (omega (arith, c.ignored-ignored.ensures)) h (subst (λ x. Leaves x inner (c.len.result - floor)) m k))
+    t.ensures.feeds
