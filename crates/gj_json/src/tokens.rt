@@ -92,27 +92,9 @@ pub fn scalar_run(piece: &[u8]) -> usize
             if count < piece.len() { count } else { 0 }
         }
         b'0'..=b'9' => unsigned_run(piece),
-        b'n' => {
-            if begins(piece, b"null            ", 4) {
-                4
-            } else {
-                0
-            }
-        }
-        b't' => {
-            if begins(piece, b"true            ", 4) {
-                4
-            } else {
-                0
-            }
-        }
-        b'f' => {
-            if begins(piece, b"false           ", 5) {
-                5
-            } else {
-                0
-            }
-        }
+        b'n' => constant_run(Constant::Null, piece),
+        b't' => constant_run(Constant::True, piece),
+        b'f' => constant_run(Constant::False, piece),
         _ => 0,
     }
 }
@@ -120,6 +102,40 @@ pub fn scalar_run(piece: &[u8]) -> usize
 /// How many bytes the literal name has, where the piece starts with it, or 0.
 #[inline(always)]
 pub fn constant_run(which: Constant, piece: &[u8]) -> usize
+    ensures within { result ≤ length piece.now }
+    ensures letters { 0 < result → take result piece.now ≡ letters_of which }
+{
+    if piece.len() < LANES {
+        return last_constant_run(which, piece);
+    }
+    match which {
+        Constant::Null => {
+            if begins(piece, b"null            ", 4) {
+                4
+            } else {
+                0
+            }
+        }
+        Constant::True => {
+            if begins(piece, b"true            ", 4) {
+                4
+            } else {
+                0
+            }
+        }
+        Constant::False => {
+            if begins(piece, b"false           ", 5) {
+                5
+            } else {
+                0
+            }
+        }
+    }
+}
+
+/// As `constant_run`, in a piece of any length.
+#[inline(never)]
+fn last_constant_run(which: Constant, piece: &[u8]) -> usize
     ensures within { result ≤ length piece.now }
     ensures letters { 0 < result → take result piece.now ≡ letters_of which }
 {

@@ -1,7 +1,7 @@
 //! The names and the types that most features have, each distinguished from others by a comparison of words. A word is filled up
 //! with spaces to the length of a vector.
 
-ghost use Rattle.std.specs.Prelude.{◌<◌, ◌≤◌, length};
+ghost use Rattle.std.specs.Prelude.{◌≡◌, ◌<◌, ◌≤◌, length, IsTrue};
 ghost use Rattle.gj_json.specs.Internal.WholeTokens.{IsUsualName, IsUsualText};
 
 use crate::lanes::begins;
@@ -34,6 +34,20 @@ const NO_TEXT: UsualText = UsualText {
     word: Word::Other,
 };
 
+/// This name, or none.
+#[inline(always)]
+fn if_there(is_there: bool, count: usize, known: Known) -> UsualName
+    ensures there { 0 < result.count → IsTrue is_there }
+    ensures count { 0 < result.count → result.count ≡ count }
+    ensures known { 0 < result.count → result.known ≡ known }
+{
+    if is_there {
+        UsualName { count, known }
+    } else {
+        NO_NAME
+    }
+}
+
 /// The usual name that the piece starts with, where its colon follows at once.
 #[inline(always)]
 pub fn usual_name(piece: &[u8]) -> UsualName
@@ -44,41 +58,25 @@ pub fn usual_name(piece: &[u8]) -> UsualName
         return NO_NAME;
     }
     match piece[1] {
-        b't' => {
-            if begins(piece, b"\"type\":         ", 7) {
-                return UsualName {
-                    count: 6,
-                    known: Known::TypeName,
-                };
-            }
-        }
-        b'g' => {
-            if begins(piece, b"\"geometry\":     ", 11) {
-                return UsualName {
-                    count: 10,
-                    known: Known::Geometry,
-                };
-            }
-        }
-        b'c' => {
-            if begins(piece, b"\"coordinates\":  ", 14) {
-                return UsualName {
-                    count: 13,
-                    known: Known::Coordinates,
-                };
-            }
-        }
-        b'p' => {
-            if begins(piece, b"\"properties\":   ", 13) {
-                return UsualName {
-                    count: 12,
-                    known: Known::Properties,
-                };
-            }
-        }
-        _ => {}
+        b't' => if_there(begins(piece, b"\"type\":         ", 7), 6, Known::TypeName),
+        b'g' => if_there(
+            begins(piece, b"\"geometry\":     ", 11),
+            10,
+            Known::Geometry,
+        ),
+        b'c' => if_there(
+            begins(piece, b"\"coordinates\":  ", 14),
+            13,
+            Known::Coordinates,
+        ),
+        b'p' => if_there(
+            begins(piece, b"\"properties\":   ", 13),
+            12,
+            Known::Properties,
+        ),
+        b'i' => if_there(begins(piece, b"\"id\":           ", 5), 4, Known::Id),
+        _ => NO_NAME,
     }
-    NO_NAME
 }
 
 /// The usual type that the piece starts with.

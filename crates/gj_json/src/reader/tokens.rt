@@ -716,6 +716,25 @@ impl Reader {
         opened + self.pass_ignored(&piece[opened..], sink)
     }
 
+    /// Takes the value of a member as `take_value` does. The usual kinds are told apart here, since that is a call.
+    #[inline(always)]
+    fn take_member_value<S: EventSink>(&mut self, piece: &[u8], sink: &mut S) -> usize
+        requires some { 0 < length piece.now }
+        requires live { self.old.fault ≡ None }
+        requires due { awaits self.old.mode ≡ true }
+        requires room { self.old.offset + length piece.now ≤ self.old.limits.bytes }
+        requires small { self.old.limits.bytes ≤ 2 ^ 60 }
+        ensures within { result ≤ length piece.now }
+        ensures feeds { FeedsAll (S.heard sink.old) (S.heard sink.new) self.old self.new (take result piece.now) }
+    {
+        match piece[0] {
+            b'{' => self.take_object_within(piece, sink),
+            b'[' => self.take_array(piece, sink),
+            b'n' => self.take_constant(Constant::Null, piece, sink),
+            _ => self.take_value::<S, true>(piece, sink),
+        }
+    }
+
     /// Takes a token that stands whole at the start of the piece, or the white space there: how many bytes, or 0 where there is
     /// none or no event matters to the sink.
     #[inline(always)]
@@ -740,10 +759,7 @@ impl Reader {
                 if named == 0 || named == piece.len() {
                     return named;
                 }
-                if piece[named] == b'{' {
-                    return named + self.take_object_within(&piece[named..], sink);
-                }
-                named + self.take_value::<S, true>(&piece[named..], sink)
+                named + self.take_member_value(&piece[named..], sink)
             }
             Mode::ValueDue | Mode::ArrayOpened => {
                 if sink.ignored() > 0 {
