@@ -59,6 +59,8 @@ impl Frame {
 
     /// Takes a name, and returns as the first member of which name its value is to be checked:
     /// `Other` where it is not.
+    // Where the name is known, little is left of it.
+    #[inline(always)]
     pub fn name(&mut self, name: Known, place: u64) -> Known
         ensures frame { frame_in self.new ≡ named name place (frame_in self.old) }
         ensures due { result ≡ due_after name (frame_in self.old) }

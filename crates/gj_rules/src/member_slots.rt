@@ -221,7 +221,7 @@ impl MemberSlots {
     /// Takes a name, and returns as the first member of which name its value is to be checked:
     /// `Other` where it is not.
     // In each arm the name is a constant, so that what is done for it is all that is left of the rest.
-    #[inline]
+    #[inline(always)]
     pub fn name(&mut self, name: Known, place: u64) -> Known
         ensures slots { slots_in self.new ≡ named name place (slots_in self.old) }
         ensures due { result ≡ due_after name (slots_in self.old) }

@@ -191,6 +191,13 @@ impl<const FRAMES: usize> FramedRules<FRAMES> {
         self.tell_what(What::CloseArray, place);
     }
 
+    #[inline(never)]
+    fn tell_null(&mut self, place: u64)
+        ensures { (events : List Event) → StandsFor self.old events → StandsFor self.new (events ++ record { place = place; what = W.Null } ∷ []) }
+    {
+        self.tell_what(What::Null, place);
+    }
+
     /// A number, or an event of another kind that is told whole.
     #[inline(always)]
     pub(super) fn tell_rest(&mut self, event: Event)
@@ -198,6 +205,7 @@ impl<const FRAMES: usize> FramedRules<FRAMES> {
     {
         match &event.what {
             What::Number(value) => self.tell_number(value, event.place),
+            What::Null => self.tell_null(event.place),
             _ => self.tell_other(event),
         }
     }
