@@ -716,9 +716,9 @@ impl Reader {
         opened + self.pass_ignored(&piece[opened..], sink)
     }
 
-    /// Takes the value of a member as `take_value` does. The usual kinds are told apart here, since that is a call.
+    /// As `take_value`. The usual kinds are told apart here, since that is a call.
     #[inline(always)]
-    fn take_member_value<S: EventSink>(&mut self, piece: &[u8], sink: &mut S) -> usize
+    fn take_usual_value<S: EventSink>(&mut self, piece: &[u8], sink: &mut S) -> usize
         requires some { 0 < length piece.now }
         requires live { self.old.fault ≡ None }
         requires due { awaits self.old.mode ≡ true }
@@ -759,13 +759,13 @@ impl Reader {
                 if named == 0 || named == piece.len() {
                     return named;
                 }
-                named + self.take_member_value(&piece[named..], sink)
+                named + self.take_usual_value(&piece[named..], sink)
             }
             Mode::ValueDue | Mode::ArrayOpened => {
                 if sink.ignored() > 0 {
                     return 0;
                 }
-                self.take_value::<S, true>(piece, sink)
+                self.take_usual_value(piece, sink)
             }
             _ => 0,
         }
