@@ -36,6 +36,7 @@ impl MemberSlots {
 
     /// Whether nothing is wrong with the object, as mostly nothing is: a few looks tell.
     #[tactic(auto, using(crate::proofs::Objects::MetRules::none_lesser))]
+    #[inline(always)]
     pub fn is_sound(&self) -> bool
         ensures { result ≡ is_none (settled (slots_in self.now)) }
     {

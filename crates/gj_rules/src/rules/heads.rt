@@ -8,7 +8,7 @@ ghost use Rattle.gj_json.specs.Head.{typed_events, located_events};
 use super::FramedRules;
 use crate::mode::Mode;
 use crate::role::Role;
-use gj_json::{Known, Located, Typed, What};
+use gj_json::{Known, Located, Typed};
 
 impl<const FRAMES: usize> FramedRules<FRAMES> {
     ghost use Rattle.gj_rules.specs.Rules.{StandsFor};
@@ -64,15 +64,14 @@ impl<const FRAMES: usize> FramedRules<FRAMES> {
     }
 
     /// The type of the object that has just opened.
-    // Here it is known that a name is due, which spares the looks.
     #[inline(always)]
     fn tell_type(&mut self, typed: &Typed)
         ensures { (events : List Event) → StandsFor self.old events
             → StandsFor self.new (events ++ record { place = typed.now.place + 1; what = W.Name Known.TypeName }
             ∷ record { place = typed.now.word_at; what = W.Text typed.now.word } ∷ []) }
     {
-        self.tell_what(What::Name(Known::TypeName), typed.place + 1);
-        self.tell_what(What::Text(typed.word), typed.word_at);
+        self.tell_member(Known::TypeName, typed.place + 1);
+        self.tell_type_value(typed.word, typed.word_at);
     }
 
     /// The beginning of an object. Mostly it is a feature.

@@ -72,6 +72,33 @@ impl<const FRAMES: usize> FramedRules<FRAMES> {
         self.tell_what(What::Text(word), place);
     }
 
+    /// Whether the value of a `type` is due.
+    #[inline(always)]
+    fn is_at_type(&self) -> bool
+        ensures skipped { IsTrue result → self.now.skipped ≡ 0 }
+        ensures mode { IsTrue result → self.now.mode ≡ Mode.Due Known.TypeName }
+    {
+        if self.skipped > 0 {
+            return false;
+        }
+        match self.mode {
+            Mode::Due(Known::TypeName) => true,
+            _ => false,
+        }
+    }
+
+    /// A string right after a name `type`. Mostly it is the type of an object with a role.
+    #[inline(always)]
+    pub(super) fn tell_type_value(&mut self, word: Word, place: u64)
+        ensures { (events : List Event) → StandsFor self.old events → StandsFor self.new (events ++ record { place = place; what = W.Text word } ∷ []) }
+    {
+        if self.is_at_type() {
+            self.value(Known::TypeName, What::Text(word), place);
+        } else {
+            self.tell_text(word, place);
+        }
+    }
+
     #[inline(never)]
     pub(super) fn tell_open_object(&mut self, place: u64)
         ensures { (events : List Event) → StandsFor self.old events → StandsFor self.new (events ++ record { place = place; what = W.OpenObject } ∷ []) }

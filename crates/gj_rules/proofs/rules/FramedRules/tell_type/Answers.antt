@@ -5,5 +5,5 @@ use Rattle.gj_rules.proofs.rules.FramedRules.tell_type.Goals as goal
 
 pub returns : goal.returns
 returns g c = λ events h.
-    let H : List Event → Type 0 = λ es. StandsFor c.tell_what-2.new.self es in
-    subst H (append_assoc events (_ ∷ []) (_ ∷ [])) (c.tell_what-2.ensures _ (c.tell_what.ensures events h))
+    let H : List Event → Type 0 = λ es. StandsFor c.tell_type_value.new.self es in
+    subst H (append_assoc events (_ ∷ []) (_ ∷ [])) (c.tell_type_value.ensures _ (c.tell_member.ensures events h))
