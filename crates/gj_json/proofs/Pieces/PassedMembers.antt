@@ -1,5 +1,5 @@
 -- Members of objects in which no event matters: a name and its colon, and a value with the byte after it.
-use Rattle.std.proofs.Common.{◌≡◌, ℕ, ◌+◌, ◌-◌, ◌≤◌, ◌<◌, true, false, List, [], ◌∷◌, get_or, length, take, drop, Option, Some, None, refl, sym, ap, subst, ◌∙◌, inl, arith}
+use Rattle.std.proofs.Common.{◌≡◌, ℕ, ◌+◌, ◌-◌, ◌≤◌, ◌<◌, true, false, List, [], ◌∷◌, get_or, length, take, drop, Option, Some, None, refl, sym, ap, subst, ◌∙◌, inl, inr, ◌⊎◌, arith}
 use Rattle.std.proofs.lemmas.List.{get_or-drop, length-drop}
 use Rattle.std.specs.List.{AllByRecursion}
 use Rattle.gj_json.specs.Bytes.{IsWhite, space, colon as colon_byte, close_brace}
@@ -64,6 +64,15 @@ module _ (old new : Reader) (piece : List ℕ) (n : ℕ) (live : old.fault ≡ N
       let one : take 1 (drop 1 rest) ≡ space ∷ [] = first_byte (drop 1 rest) space (omega (arith, length-drop 1 rest)) d in
       let P : List ℕ → Type 0 = λ xs. AllByRecursion IsWhite xs in
       named_any 2 (omega arith) v (subst P (sym one) (inl refl, tt)) p
+
+  pub name_to : (at : ℕ) → (at ≡ n + 1) ⊎ ((at ≡ n + 2) × (get_or piece (n + 1) 0 ≡ space)) → at ≤ length piece → Passed at ValueDue old new
+      → FeedsAny old new (take at piece)
+  name_to at shape v p =
+      let P : ℕ → Type 0 = λ k. k ≤ length piece → Passed k ValueDue old new → FeedsAny old new (take k piece) in
+      elim shape [
+        | inl e ↦ subst P (sym e) (λ v p. dense_name p) v p
+        | inr e ↦ subst P (sym e.0) (λ v p. spaced_name v e.1 p) v p
+      ]
 
 -- ---- a value, and the byte after it
 
@@ -144,3 +153,63 @@ module _ (old new : Reader) (piece : List ℕ) (n : ℕ) (live : old.fault ≡ N
       | literal which e ↦
           closes (any_constant old mid piece n which live due room (omega arith) (to_mid old n ValueDone done_mode mid_room) e)
     ]
+
+-- ---- a name, the value after it, and the byte after that
+
+module _ (old new : Reader) (piece : List ℕ) (n value count : ℕ) (live : old.fault ≡ None) (due : names old.mode ≡ true)
+    (room : old.offset + length piece ≤ old.limits.bytes) (q : IsString (take n piece)) (colon : get_or piece n 0 ≡ colon_byte)
+    (between : (value ≡ n + 1) ⊎ ((value ≡ n + 2) × (get_or piece (n + 1) 0 ≡ space))) (w : value + count < length piece)
+    (scalar : IsScalar (take count (take (length piece - value) (drop value piece)))) where
+  due_mode : IsMode ValueDue
+  due_mode = omega arith
+
+  value_room : old.offset + value ≤ old.limits.bytes
+  value_room = omega arith
+
+  abbrev named : Reader
+  named = mid_of old value ValueDue due_mode value_room
+
+  abbrev after : List ℕ
+  after = take (length piece - value) (drop value piece)
+
+  after_length : length after ≡ length piece - value
+  after_length = ap length (rest_of piece value) ∙ length-drop value piece
+
+  after_at : get_or after count 0 ≡ get_or piece (value + count) 0
+  after_at = ap (λ xs. get_or xs count 0) (rest_of piece value) ∙ get_or-drop value piece count 0
+
+  name_first : n < length piece
+  name_first = elim between [ inl e ↦ omega arith | inr e ↦ (let f = e.0 in omega arith) ]
+
+  name_fed : FeedsAny old named (take value piece)
+  name_fed =
+      name_to old named piece n live due room name_first q colon value between (omega arith) (to_mid old value ValueDue due_mode value_room)
+
+  both : FeedsAny named new (take (count + 1) after) → FeedsAny old new (take (value + count + 1) piece)
+  both f =
+      let e : value + (count + 1) ≡ value + count + 1 = omega arith in
+      let P : ℕ → Type 0 = λ k. FeedsAny old new (take k piece) in
+      subst P e (any_then old named new piece value (count + 1) (omega arith) name_fed f)
+
+  pub named_goes : (next : Mode) (ending : Ending)
+      → after_move (inner_of (levels_in old.levels)) (class_of (get_or piece (value + count) 0)) ≡ Go next ending
+      → Passed (value + count + 1) next old new → FeedsAny old new (take (value + count + 1) piece)
+  named_goes next ending made p =
+      let l = after_length in
+      both (scalar_goes named new after count live refl (omega arith) (omega arith) scalar next ending
+      (ap (λ b. after_move (inner_of (levels_in old.levels)) (class_of b)) after_at ∙ made)
+      (from_mid old new value (count + 1) (value + count + 1) ValueDue next due_mode value_room (omega arith) p))
+
+  pub named_closes : (level : Level)
+      → after_move (inner_of (levels_in old.levels)) (class_of (get_or piece (value + count) 0)) ≡ Close level
+      → Lands (value + count + 1) ValueDone (outer_of (levels_in old.levels)) old new → FeedsAny old new (take (value + count + 1) piece)
+  named_closes level made p =
+      let l = after_length in
+      both (scalar_closes named new after count live refl (omega arith) (omega arith) scalar level
+      (ap (λ b. after_move (inner_of (levels_in old.levels)) (class_of b)) after_at ∙ made) (record {
+        limits = p.limits;
+        fault = p.fault;
+        offset = (let o = p.offset in omega arith);
+        mode_is = p.mode_is;
+        levels_are = p.levels_are;
+      }))

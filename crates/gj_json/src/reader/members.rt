@@ -1,10 +1,9 @@
-//! Members of objects in which no event matters to the sink: where they are written as most are, each is taken in one step
-//! for its name and one for its value.
+//! Members of objects in which no event matters to the sink: where they are written as most are, each is taken at once.
 
-ghost use Rattle.std.specs.Prelude.{◌≡◌, ◌+◌, ◌^◌, ◌≤◌, ◌<◌, true, length, take, get_or, None};
-ghost use Rattle.gj_json.specs.Bytes.{quote};
+ghost use Rattle.std.specs.Prelude.{◌≡◌, ◌⊎◌, ◌+◌, ◌^◌, ◌≤◌, ◌<◌, true, length, take, get_or, None};
+ghost use Rattle.gj_json.specs.Bytes.{quote, colon, space};
 ghost use Rattle.gj_json.specs.Internal.FlatParts.{awaits};
-ghost use Rattle.gj_json.specs.Internal.WholeTokens.{names};
+ghost use Rattle.gj_json.specs.Internal.WholeTokens.{names, IsString};
 ghost use Rattle.gj_json.specs.declared.lanes.TheConstants.{LANES};
 
 use super::Reader;
@@ -34,29 +33,6 @@ impl Reader {
         self.take_value::<NoEvents, false>(piece, &mut NoEvents)
     }
 
-    /// As `pass_value`, at once where the value is a usual one in an object.
-    #[inline(always)]
-    fn pass_scalar(&mut self, piece: &[u8]) -> usize
-        requires wide { LANES < length piece.now }
-        requires live { self.old.fault ≡ None }
-        requires due { awaits self.old.mode ≡ true }
-        requires room { self.old.offset + length piece.now ≤ self.old.limits.bytes }
-        requires small { self.old.limits.bytes ≤ 2 ^ 60 }
-        ensures within { result ≤ length piece.now }
-        ensures feeds { FeedsAny self.old self.new (take result piece.now) }
-    {
-        let count = scalar_run(piece);
-        if count > 0 && self.levels.is_in_object() {
-            if piece[count] == b',' {
-                return self.skip(count + 1, Mode::NameDue);
-            }
-            if piece[count] == b'}' {
-                return self.take_close(Level::Object, count + 1, &mut NoEvents);
-            }
-        }
-        self.pass_value(piece)
-    }
-
     /// Takes a name of any characters and its colon, with the white space around that, and the value after them, or the bracket
     /// that opens it: how many bytes, or 0.
     #[inline(never)]
@@ -75,6 +51,34 @@ impl Reader {
             return name;
         }
         name + self.pass_value(&piece[name..])
+    }
+
+    /// Takes a name of so many bytes, its colon, and the value that stands at an index, with the byte after it, or the bracket that
+    /// opens it: how many bytes. A usual value is taken with the name.
+    #[inline(always)]
+    fn pass_named(&mut self, piece: &[u8], name: usize, value: usize) -> usize
+        requires wide { value + LANES < length piece.now }
+        requires quoted { IsString (take name piece.now) }
+        requires colon { get_or piece.now name 0 ≡ colon }
+        requires between { (value ≡ name + 1) ⊎ ((value ≡ name + 2) × (get_or piece.now (name + 1) 0 ≡ space)) }
+        requires live { self.old.fault ≡ None }
+        requires due { names self.old.mode ≡ true }
+        requires room { self.old.offset + length piece.now ≤ self.old.limits.bytes }
+        requires small { self.old.limits.bytes ≤ 2 ^ 60 }
+        ensures within { result ≤ length piece.now }
+        ensures feeds { FeedsAny self.old self.new (take result piece.now) }
+    {
+        let end = value + scalar_run(&piece[value..]);
+        if end > value && self.levels.is_in_object() {
+            if piece[end] == b',' {
+                return self.skip(end + 1, Mode::NameDue);
+            }
+            if piece[end] == b'}' {
+                return self.take_close(Level::Object, end + 1, &mut NoEvents);
+            }
+        }
+        self.skip(value, Mode::ValueDue);
+        value + self.pass_value(&piece[value..])
     }
 
     /// As `pass_any_member`, at once where the name is short, with one space after its colon or none.
@@ -98,11 +102,9 @@ impl Reader {
             return self.pass_any_member(piece);
         }
         if piece[name + 1] == b' ' {
-            self.skip(name + 2, Mode::ValueDue);
-            return name + 2 + self.pass_scalar(&piece[name + 2..]);
+            return self.pass_named(piece, name, name + 2);
         }
-        self.skip(name + 1, Mode::ValueDue);
-        name + 1 + self.pass_scalar(&piece[name + 1..])
+        self.pass_named(piece, name, name + 1)
     }
 
     /// Takes a member at the start of the piece, or the white space there: how many bytes.

@@ -1,0 +1,39 @@
+-- A name, the value after it, and the byte after that.
+use Rattle.std.proofs.Common.{◌+◌, get_or, length, refl, ap, arith}
+use Rattle.gj_json.specs.declared.levels.Level.TheVariants.{Object}
+use Rattle.gj_json.specs.declared.mode.Ending.TheVariants.{Item}
+use Rattle.gj_json.specs.declared.mode.Mode.TheVariants.{NameDue}
+use Rattle.gj_json.specs.Internal.OpenLevels.{levels_in, inner_of}
+use Rattle.gj_json.proofs.Pieces.PassedMembers.{name_to, named_goes, named_closes, brace_closes}
+use Rattle.gj_json.proofs.Pieces.TokensInLevels.{any_then, comma_ends}
+use Rattle.gj_json.proofs.reader.Reader.pass_named.Goals as goal
+
+pub returns-then-piece-end-eq44-clause-feeds : goal.returns-then-piece-end-eq44-clause-feeds
+returns-then-piece-end-eq44-clause-feeds c =
+    let q = c.scalar_run in
+    let r = c.requires in
+    let made = comma_ends (inner_of (levels_in c.args.self.now.levels)) (get_or c.args.piece.now (c.args.value + q.result) 0) Object NameDue
+    (c.is_in_object.ensures c.if-is_in_object.true) c.if-piece-end-eq44.true refl in
+    rw (c.skip.ensures.count)
+    (named_goes c.args.self.now c.skip.new.self c.args.piece.now c.args.name c.args.value q.result r.live r.due r.room r.quoted r.colon r.between
+    (omega arith) (q.ensures.scalar (omega arith)) NameDue Item made c.skip.ensures.passed)
+
+pub returns-then-piece-end-eq125-clause-feeds : goal.returns-then-piece-end-eq125-clause-feeds
+returns-then-piece-end-eq125-clause-feeds c =
+    let q = c.scalar_run in
+    let r = c.requires in
+    let made = brace_closes (inner_of (levels_in c.args.self.now.levels)) (get_or c.args.piece.now (c.args.value + q.result) 0)
+    (c.is_in_object.ensures c.if-is_in_object.true) c.if-piece-end-eq125.true in
+    rw (c.take_close.ensures.count)
+    (named_closes c.args.self.now c.take_close.new.self c.args.piece.now c.args.name c.args.value q.result r.live r.due r.room r.quoted r.colon r.between
+    (omega arith) (q.ensures.scalar (omega arith)) Object made c.take_close.ensures.lands)
+
+pub returns-clause-feeds : goal.returns-clause-feeds
+returns-clause-feeds c =
+    let v = c.pass_value in
+    let r = c.requires in
+    let passed = c.skip-2.ensures.passed in
+    any_then c.args.self.now c.skip-2.new.self v.new.self c.args.piece.now c.args.value v.result
+    (omega (arith, ap (λ ls. length (levels_in ls)) passed.levels))
+    (name_to c.args.self.now c.skip-2.new.self c.args.piece.now c.args.name r.live r.due r.room (omega arith) r.quoted r.colon c.args.value r.between
+    (omega arith) passed) v.ensures.feeds
