@@ -28,7 +28,7 @@ Usage: geolint-files [--strict] [--allow W4,W9] [--quick] [--max-bytes N] [--for
   --files-from FILE  Also check the paths in this file, or in standard input if it is -, one in each line
   -0, --null       Each path of --files-from ends with NUL
   --ending ENDING  In a folder, also check files with this ending, such as json. May be given several times
-  --allow-empty    Exit with status 0 if there is no file to check
+  --allow-empty    Do not fail if there is no file to check
   --help, --version
 
 A PATH is a file, a folder, in which each *.geojson, *.geojsons, *.ndjson and *.geojsonl is checked, or - for standard input. With

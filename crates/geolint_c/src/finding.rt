@@ -21,7 +21,7 @@ pub struct Progress {
     pub ready: u32,
 }
 
-/// What is found in a feature or in a record: how many features stand before it, or the record's number; the place of its first
+/// What is found in a feature or in a record: how many features come before it, or the record's number; the place of its first
 /// byte, and that after its last; the place of the feature's `id`. A place that is not reported is 0.
 #[repr(C)]
 #[derive(Clone, Copy)]

@@ -15,7 +15,7 @@ const HEAD: usize = 512;
 /// How many bytes count before a place, and from it on.
 const AROUND: usize = 256;
 
-/// The cause that a byte cannot stand where it does.
+/// The cause that a byte is not allowed where it is.
 const SYNTAX: u32 = 1;
 
 /// The warnings of positions out of range.
@@ -25,7 +25,7 @@ fn out_of_range(report: &Report) -> Warned
     report.warnings[4]
 }
 
-/// Whether a byte that cannot stand there is refused, and not the first one.
+/// Whether a byte that is not allowed there is refused, and not the first one.
 fn is_later_syntax(report: &Report) -> bool
     ensures { result ≡ is_later_syntax report.now }
 {

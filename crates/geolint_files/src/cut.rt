@@ -132,7 +132,7 @@ fn state_of(alloc: Global, path: &str, metadata: &Metadata) -> io::Result<FileSt
 
 // ---- all parts
 
-/// Where a line stands.
+/// Where a line is.
 #[derive(Clone, Copy)]
 pub struct Origin {
     /// The index of its file among those that are named.

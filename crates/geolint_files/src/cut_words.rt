@@ -30,7 +30,7 @@ pub fn with_cut<'a>(alloc: Global, command: Command<'a>) -> Result<Command<'a>, 
     let join = Arg::new(alloc, "join")
         .long("join")
         .help(
-            "Report a file by the lines of all its parts, which stand in the PATHs or come on standard input",
+            "Report on a file from the lines of all its parts, read from the PATHs or from standard input",
         )
         .action(ArgAction::SetTrue)
         .conflicts_with("part")?
@@ -80,11 +80,11 @@ pub fn wrong_cut(
     match paths {
         [path] => match path.as_slice() {
             b"-" => Some(
-                "'--part <I/N>' needs a file, which it reads from a place on: write standard input to one first",
+                "'--part <I/N>' needs a file, since it starts reading in the middle: write standard input to a file first",
             ),
             name if framing_by(framing_in(given), name).is_some() => None,
             _ => Some(
-                "'--part <I/N>' takes a text sequence, as *.geojsons or by '--seq', or newline-delimited texts, as *.ndjson or by '--ndjson'",
+                "'--part <I/N>' takes a text sequence, named *.geojsons or read with '--seq', or newline-delimited texts, named *.ndjson or read with '--ndjson'",
             ),
         },
         _ => Some("'--part <I/N>' takes one file"),

@@ -199,7 +199,7 @@ fn entry_name(rt: &HostRuntime, folder: &[u8], entry: &[u8]) -> Result<Vec<u8>, 
     Ok(name)
 }
 
-/// What stands between a folder's name and that of an entry.
+/// What is between a folder's name and that of an entry.
 fn separator_after(folder: &[u8]) -> &'static [u8]
     ensures { result.now ≡ separator_after folder.now }
 {

@@ -54,10 +54,10 @@ In a folder and the folders below it, files are checked by their endings, in upp
 
 Exit status:
   0    every file is valid; under --strict, with no warnings but those that --allow lets pass
-  1    a file is not
+  1    a file is not valid, or under --strict has a warning that is not allowed
   2    a file, a folder or a list could not be opened or read; no file was checked, and --allow-empty was not given; the
-       arguments are wrong; or the report could not be written. This comes before 1
-  141  nobody reads the report any more, as in `geolint-files data | head -n 1`
+       arguments are wrong; or the report could not be written. This takes precedence over 1
+  141  nothing reads the report any more, as in `geolint-files data | head -n 1`
 
 Examples:
   geolint-files data
@@ -152,7 +152,7 @@ fn with_reading<'a>(alloc: Global, command: Command<'a>) -> Result<Command<'a>, 
     let command = command.arg(sequence)?;
     let lines = Arg::new(alloc, "ndjson")
         .long("ndjson")
-        .help("Check each line of each file as a text of its own, whatever the file's name is")
+        .help("Check each line of each file as a separate text, whatever the file's name is")
         .action(ArgAction::SetTrue)
         .conflicts_with("seq")?;
     let command = command.arg(lines)?;
@@ -176,7 +176,9 @@ fn with_report<'a>(alloc: Global, command: Command<'a>) -> Result<Command<'a>, A
     let command = command.arg(format)?;
     let summary = Arg::new(alloc, "summary")
         .long("summary")
-        .help("Count the files and the rules at the end. With --every, the features or records too")
+        .help(
+            "Count the files and the rules at the end. With --every, also count the features or records",
+        )
         .action(ArgAction::SetTrue);
     let command = command.arg(summary)?;
     with_features(alloc, command)
@@ -220,7 +222,7 @@ fn with_parts<'a>(alloc: Global, command: Command<'a>) -> Result<Command<'a>, Al
     let command = command.arg(split)?;
     let force = Arg::new(alloc, "force")
         .long("force")
-        .help("Write over the files of --split")
+        .help("Overwrite the files of --split if they exist")
         .action(ArgAction::SetTrue)
         .requires_arg("split")?;
     command.arg(force)
@@ -254,7 +256,7 @@ fn with_files<'a>(alloc: Global, command: Command<'a>) -> Result<Command<'a>, Al
     let command = command.arg(ending)?;
     let empty = Arg::new(alloc, "allow-empty")
         .long("allow-empty")
-        .help("Exit with status 0 if there is no file to check")
+        .help("Do not fail if there is no file to check")
         .action(ArgAction::SetTrue);
     let command = command.arg(empty)?;
     let path = Arg::new(alloc, "path")

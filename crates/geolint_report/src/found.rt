@@ -1,4 +1,4 @@
-//! What stands at the place of a fault, and what may stand there: the bytes are looked at once more.
+//! What is at the place of a fault, and what is allowed there: the bytes are looked at once more.
 
 ghost use Rattle.std.specs.Prelude.{◌≤◌, length};
 
@@ -21,7 +21,7 @@ const MOST_OF_POSITION: usize = 64;
 /// How many bytes are looked at together.
 const PIECE: usize = 4096;
 
-/// What stands at the place of a fault, in words. It is advice: no verdict depends on it.
+/// What is at the place of a fault, in words. It is advice: no verdict depends on it.
 #[derive(Clone, Copy)]
 pub struct Found {
     bytes: [u8; MOST_FOUND],
@@ -63,14 +63,14 @@ impl Found {
     }
 }
 
-/// What stands at the place of what was found in a source, of which these sites were found.
+/// What is at the place of what was found in a source, of which these sites were found.
 pub fn found_at<S: Rewind>(finding: &Finding, sites: &Sites, source: &S) -> Option<Found> {
     let told = finding.fault()?;
     let site = sites.at(told.place)?;
     find_found(&told, site.path.as_ref(), source)
 }
 
-/// What stands at the place of a fault of the text of a source. The path is that of the place.
+/// What is at the place of a fault of the text of a source. The path is that of the place.
 fn find_found<S: Rewind>(told: &Told, path: Option<&Path>, source: &S) -> Option<Found> {
     let Code::Rule(rule) = told.code else {
         return None;
@@ -100,7 +100,7 @@ fn found_value<S: Rewind>(place: u64, source: &S) -> Option<Found> {
     Some(found)
 }
 
-/// A type, and those that may stand there (RFC 7946, section 1.4), by the path to it.
+/// A type, and those that are allowed there (RFC 7946, section 1.4), by the path to it.
 fn found_type<S: Rewind>(place: u64, path: Option<&Path>, source: &S) -> Option<Found> {
     let mut found = found_value(place, source)?;
     if let Some(path) = path {

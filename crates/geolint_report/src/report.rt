@@ -17,7 +17,7 @@ pub struct Report<'a> {
     /// None where no place was sought.
     pub sites: Option<&'a Sites>,
     pub passes: bool,
-    /// What stands at the place of the fault, where that is reported. It is advice, as the hint is.
+    /// What is at the place of the fault, where that is reported. It is advice, as the hint is.
     pub found: Option<Found>,
     /// What the file looks like, where its bytes show it. It is advice, and no part of the finding.
     pub hint: Option<Hint>,
@@ -247,7 +247,7 @@ impl<'a> Report<'a> {
     ghost use Rattle.std.specs.Prelude.{◌≡◌};
     ghost use Rattle.geolint_report.specs.Report.{site_at, spot_of, path_from, path_of};
 
-    /// Where a place stands, if that was found.
+    /// Where a place is, if that was found.
     pub fn spot(&self, place: u64) -> Option<Spot>
         ensures { result ≡ spot_of self.now place }
     {

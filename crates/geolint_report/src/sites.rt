@@ -19,7 +19,7 @@ pub const MOST_PLACES: usize = 10;
 /// The most bytes of a record: no record reaches it.
 const MOST_BYTES: u64 = 1 << 60;
 
-/// Where a place stands, as far as it was found.
+/// Where a place is, as far as it was found.
 #[derive(Clone, Copy)]
 pub struct Site {
     place: u64,
@@ -109,7 +109,7 @@ impl Sites {
         &self.excerpt
     }
 
-    /// Where the place stands, if it was found.
+    /// Where the place is, if it was found.
     pub fn at(&self, place: u64) -> Option<&Site>
         ensures missed { IsNone result → (text : List ℕ) → AllFound text self.now → Contains (sought self.now) place → place < 2 ^ 64 - 1
             → length text < place }

@@ -5,8 +5,8 @@ ghost use Rattle.gj_coords.specs.Texts.{rule_text};
 
 use std::fmt;
 
-/// The rules that a GeoJSON text may break. The section of RFC 7946 stands in brackets. What is at the place of the
-/// fault stands after the colon.
+/// The rules that a GeoJSON text may break. The section of RFC 7946 is in brackets. What is at the place of the
+/// fault comes after the colon.
 #[derive(Clone, Copy, Debug, PartialEq, Eq)]
 pub enum Rule {
     /// Not an object where one is due (sections 2, 3.1.8, 3.2 and 3.3): the value.
@@ -127,7 +127,7 @@ impl fmt::Display for Rule {
 /// A rule that is broken, and the place of what breaks it.
 #[derive(Clone, Copy, Debug, PartialEq, Eq)]
 pub struct Fault {
-    /// How many bytes of the text stand before it.
+    /// How many bytes of the text come before it.
     pub place: u64,
     pub rule: Rule,
 }

@@ -5,7 +5,7 @@ ghost use Rattle.gj_coords.specs.Warnings.{kind_number, kinds, index_of};
 
 use std::fmt;
 
-/// The reason for a warning. The section of RFC 7946 stands in brackets. What is at the place of the warning stands
+/// The reason for a warning. The section of RFC 7946 is in brackets. What is at the place of the warning comes
 /// after the colon.
 #[derive(Clone, Copy, Debug, PartialEq, Eq)]
 pub enum Kind {

@@ -27,7 +27,7 @@ fn has_many_digits(digits: &[u8]) -> bool
     has_value(behind_thirty(digits))
 }
 
-/// What stands after thirty digits, among which there may be a point.
+/// What comes after thirty digits, among which there may be a point.
 fn behind_thirty(digits: &[u8]) -> &[u8]
     ensures { result.now ≡ behind_thirty digits.now }
 {
@@ -116,7 +116,7 @@ fn is_in_mantissa(byte: u8) -> bool
     byte.is_ascii_digit() || byte == b'-' || byte == b'.'
 }
 
-/// Whether it may stand before the first digit other than 0.
+/// Whether it is allowed before the first digit other than 0.
 fn is_idle(byte: u8) -> bool
     ensures { result ≡ is_idle byte }
 {

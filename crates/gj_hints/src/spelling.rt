@@ -6,7 +6,7 @@ ghost use Rattle.gj_hints.specs.Spellings.{opens_character, begins_no_character,
 use crate::formats::begins;
 use crate::kind::Hint;
 
-/// What stands at the place of a refused byte.
+/// What is at the place of a refused byte.
 pub fn spelling(before: &[u8], after: &[u8]) -> Option<Hint>
     ensures { result ≡ spelling before.now after.now }
 {

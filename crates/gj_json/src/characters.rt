@@ -1,4 +1,4 @@
-//! Characters of a string that stand whole at the start of a piece (RFC 8259, section 7; RFC 3629, section 4).
+//! Characters of a string that are whole at the start of a piece (RFC 8259, section 7; RFC 3629, section 4).
 
 ghost use Rattle.std.specs.Prelude.{◌≡◌, ◌≤◌, ◌<◌, ◌-◌, is_some, true, length, take, get_or};
 ghost use Rattle.gj_json.specs.Bytes.{backslash};
@@ -129,7 +129,7 @@ fn escapes_run(piece: &[u8]) -> usize
     at
 }
 
-/// How many bytes the characters have that stand whole at the start of the piece, unescaped, the first of several bytes. A
+/// How many bytes the characters have that are whole at the start of the piece, unescaped, the first of several bytes. A
 /// last one that the piece ends soon after may be left out.
 #[inline(always)]
 fn wide_run(piece: &[u8]) -> usize
@@ -195,7 +195,7 @@ fn unescaped_run(piece: &[u8]) -> usize
     near + whole_characters(&piece[near..])
 }
 
-/// How many bytes some characters have that stand whole at the start of the piece, or 0.
+/// How many bytes some characters have that are whole at the start of the piece, or 0.
 #[inline(always)]
 fn some_characters(piece: &[u8]) -> usize
     requires some { 0 < length piece.now }
@@ -214,7 +214,7 @@ fn some_characters(piece: &[u8]) -> usize
     }
 }
 
-/// How many bytes the characters have that stand whole at the start of the piece. A last one that the piece ends soon after may
+/// How many bytes the characters have that are whole at the start of the piece. A last one that the piece ends soon after may
 /// be left out.
 #[inline(never)]
 pub fn characters_run(piece: &[u8]) -> usize

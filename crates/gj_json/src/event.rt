@@ -3,7 +3,7 @@
 use crate::names::{Known, Word};
 use gj_number::Decimal;
 
-/// What stands at a place of a text (RFC 8259, sections 3 to 7).
+/// What is at a place of a text (RFC 8259, sections 3 to 7).
 #[derive(Clone, Copy, Debug, Default, PartialEq, Eq)]
 pub enum What {
     /// `{`.
@@ -36,7 +36,7 @@ pub enum What {
 /// A string and a name are reported at their closing quote, a number at the byte after it or at the end of the text.
 #[derive(Clone, Copy, Debug, Default, PartialEq, Eq)]
 pub struct Event {
-    /// How many bytes of the text stand before it.
+    /// How many bytes of the text come before it.
     pub place: u64,
     pub what: What,
 }

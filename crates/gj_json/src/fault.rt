@@ -7,7 +7,7 @@ use std::fmt;
 /// Why an input is refused. Length comes before the other causes, whatever the byte is.
 #[derive(Clone, Copy, Debug, PartialEq, Eq)]
 pub enum Cause {
-    /// J1: the byte at the place cannot stand there, however deep a text may nest (RFC 8259; RFC 3629 for its UTF-8).
+    /// J1: the byte at the place is not allowed there, however deep a text may nest (RFC 8259; RFC 3629 for its UTF-8).
     Syntax,
     /// J2: the input ends before a text does: the place is its length.
     Truncated,
@@ -44,7 +44,7 @@ impl fmt::Display for Cause {
 /// Where and why an input is refused.
 #[derive(Clone, Copy, Debug, PartialEq, Eq)]
 pub struct JsonFault {
-    /// How many bytes of the input stand before the refused one.
+    /// How many bytes of the input come before the refused one.
     pub place: u64,
     pub cause: Cause,
 }

@@ -9,7 +9,7 @@ use gj_number::Short;
 #[derive(Clone, Copy)]
 pub struct Numbered {
     pub value: Short,
-    /// How many bytes of the text stand before it.
+    /// How many bytes of the text come before it.
     pub place: u64,
 }
 

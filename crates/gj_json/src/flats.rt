@@ -107,7 +107,7 @@ fn drop_third(third: &mut Option<Numbered>)
     }
 }
 
-/// Reads the array of two or three ordinary numbers that stands whole at the start of a piece, which begins at the place
+/// Reads the array of two or three ordinary numbers that is whole at the start of a piece, which begins at the place
 /// `start`: how many bytes it has. Mostly it is a pair.
 #[inline(always)]
 pub fn read_flat(piece: &[u8], start: u64, flat: &mut Flat) -> Option<usize>

@@ -42,7 +42,7 @@ fn is_unescaped_ascii(byte: u8) -> bool
     b' ' <= byte && byte <= 0x7F && byte != b'"' && byte != b'\\'
 }
 
-/// Whether the byte may stand in a string unescaped.
+/// Whether the byte is allowed in a string unescaped.
 fn is_unescaped(byte: u8) -> bool
     ensures { result ≡ is_unescaped byte }
 {
@@ -68,7 +68,7 @@ fn ascii_stops(lanes: u8x16) -> u64
     (quotes | backslashes | controls | beyond).to_bitmask()
 }
 
-/// One bit for each lane that cannot stand in a string unescaped.
+/// One bit for each lane that is not allowed in a string unescaped.
 #[inline(always)]
 fn plain_stops(lanes: u8x16) -> u64
     ensures { result ≡ mask_l (map (λ b. not (is_unescaped b)) lanes) }
@@ -155,7 +155,7 @@ fn long_ascii_run(piece: &[u8]) -> usize
     index * LANES + few_ascii(rest)
 }
 
-/// How many bytes at the start of the piece may stand in a string unescaped: those from 20 (hexadecimal) on but the quote
+/// How many bytes at the start of the piece are allowed in a string unescaped: those from 20 (hexadecimal) on but the quote
 /// and the backslash.
 #[inline]
 pub fn plain_run(piece: &[u8]) -> usize

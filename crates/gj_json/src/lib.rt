@@ -1,7 +1,7 @@
 //! A streaming reader of JSON texts (RFC 8259), a byte or a piece at a time, in fixed memory.
 //!
 //! The events that it reports are those of the text's tree, in order, each with its place; an input that is no admitted
-//! text is refused at the first byte that cannot stand where it does, with the cause. The grammar stands in
+//! text is refused at the first byte that is not allowed where it is, with the cause. The grammar is in
 //! `specs/Grammar.antt`, what is refused in `specs/Refusal.antt`, the events in `specs/Events.antt`. A `Locator` reports the
 //! path to the value at a place, as `specs/Path.antt` says it.
 #![tactic(auto)]

@@ -1,4 +1,4 @@
-//! Tokens that stand whole at the start of a piece: how far they go, and nothing of what they say.
+//! Tokens that are whole at the start of a piece: how far they go, and nothing of what they say.
 
 ghost use Rattle.std.specs.Prelude.{◌≡◌, ◌+◌, ◌-◌, ◌≤◌, ◌<◌, length, take, get_or};
 ghost use Rattle.gj_json.specs.Bytes.{quote};
@@ -13,7 +13,7 @@ use crate::constant::Constant;
 use crate::lanes::{LANES, ascii_run, begins, near_ascii_run};
 use gj_number::unsigned_run;
 
-/// How many bytes the string of plain characters has that stands whole at the start of a piece, or 0.
+/// How many bytes the string of plain characters has that is whole at the start of a piece, or 0.
 #[inline(always)]
 pub fn plain_quoted_run(piece: &[u8]) -> usize
     requires some { 0 < length piece.now }
@@ -39,7 +39,7 @@ fn plain_text_run(piece: &[u8]) -> usize
     ascii_run(piece)
 }
 
-/// The string that the piece starts with, where it stands whole: how many bytes, or 0. Mostly its characters are plain.
+/// The string that the piece starts with, where it is whole: how many bytes, or 0. Mostly its characters are plain.
 #[inline(always)]
 pub fn quoted_run(piece: &[u8]) -> usize
     requires some { 0 < length piece.now }
@@ -78,7 +78,7 @@ pub fn near_quoted_run(piece: &[u8]) -> usize
     }
 }
 
-/// How many bytes the value has that the piece starts with, where it is a string that stands whole with the byte after it, a
+/// How many bytes the value has that the piece starts with, where it is a string that is whole with the byte after it, a
 /// short number with no sign, or a literal name, or 0.
 #[inline(always)]
 pub fn scalar_run(piece: &[u8]) -> usize

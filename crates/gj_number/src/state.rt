@@ -86,7 +86,7 @@ pub(crate) enum State {
 }
 
 impl State {
-    /// The state after a byte of this class, or `None` where no such byte may stand here.
+    /// The state after a byte of this class, or `None` where no such byte is allowed here.
     #[inline]
     pub(crate) fn next(self, class: Class) -> Option<State>
         ensures { result ≡ next_of self class }

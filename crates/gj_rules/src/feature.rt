@@ -7,7 +7,7 @@ use gj_coords::{Fault, Warnings};
 /// What is found in an element of the array `features` of a text's object (RFC 7946, section 3.3).
 #[derive(Clone, Copy, Debug, PartialEq, Eq)]
 pub struct Feature {
-    /// How many elements stand before it.
+    /// How many elements come before it.
     pub index: u64,
     /// Where its first byte stands.
     pub place: u64,
@@ -24,7 +24,7 @@ pub struct Feature {
 /// An element of that array that is an object in which nothing is found, as most are.
 #[derive(Clone, Copy, Debug, PartialEq, Eq)]
 pub struct CleanFeature {
-    /// How many elements stand before it.
+    /// How many elements come before it.
     pub index: u64,
     /// Where its first byte stands.
     pub place: u64,

@@ -1,4 +1,4 @@
-//! The records of an input that comes in pieces, each checked by itself.
+//! The records of an input that comes in pieces, each checked separately.
 ghost use Rattle.std.specs.Prelude.{◌≡◌, ◌↔◌, ℕ, ◌+◌, ◌<◌, ◌≤◌, ◌^◌, ◌++◌, ◌∷◌, [], List, length, take, false, true, None, IsTrue};
 
 mod framing;
@@ -272,7 +272,7 @@ impl Records {
         sink.tell_record(&found);
     }
 
-    /// What the open record is. No text may stand before the first separator of a sequence.
+    /// What the open record is. No text is allowed before the first separator of a sequence.
     fn close(&mut self, ending: RecordEnd, next: u64) -> Verdict
         requires next { next ≤ self.old.limits.bytes }
         requires on { self.old.record.end ≤ next }

@@ -11,7 +11,7 @@ use std::{env, fs, io};
 
 /// What the running program was built from, in whole lines: none where its file does not say it.
 ///
-/// An error is answered where the file cannot be read, or no memory is left. What stands in the file is no part of what is
+/// An error is answered where the file cannot be read, or no memory is left. What is in the file is no part of what is
 /// proved, so no clause says what the lines are.
 pub fn own_build(rt: &HostRuntime) -> io::Result<Vec<u8>> {
     let file = fs::read(rt, env::current_exe(rt)?)?;

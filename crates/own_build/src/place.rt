@@ -5,7 +5,7 @@ ghost use Rattle.own_build.specs.BuildPlaces.{IsBuildPlace, IsWithin, is_text};
 use memchr::memchr;
 use memchr::memmem::rfind;
 
-/// What stands before the text. It stands among the program's constants too, with another of them after it.
+/// What comes before the text. It is among the program's constants too, with another of them after it.
 const MARK: [u8; 14] = *b"geolint-build:";
 
 /// The bytes of a file from one place up to another.

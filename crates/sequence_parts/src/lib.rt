@@ -1,4 +1,4 @@
-//! A text sequence (RFC 8142) or newline-delimited texts, checked in N parts, each by a process of its own, and their verdicts joined.
+//! A text sequence (RFC 8142) or newline-delimited texts, checked in N parts, each by a separate process, and their verdicts joined.
 //!
 //! The records of a part are those that begin in its range of bytes. [`check_part`] finds where a part begins and ends, and
 //! checks its bytes alone. [`join_parts`] makes the verdict of the whole from those of all parts. Where the source tells its

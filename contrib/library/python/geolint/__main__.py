@@ -92,7 +92,7 @@ def _parser() -> argparse.ArgumentParser:
     add("--files-from", metavar="FILE", help="also check the paths in this file, or in standard input for -")
     add("-0", "--null", action=flag, help="each path of --files-from ends with NUL")
     add("--ending", metavar="ENDING", type=_ending, action="append", default=[], help="in a folder, also check files with this ending")
-    add("--allow-empty", action=flag, help="exit with status 0 if there is no file to check")
+    add("--allow-empty", action=flag, help="do not fail if there is no file to check")
     add("--version", action="version", version=str(build()))
     for word in ("--explain", "--split", "--force", "--part", "--join"):
         add(word, nargs="?", action=_NotServed, help=argparse.SUPPRESS)

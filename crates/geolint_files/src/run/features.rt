@@ -480,7 +480,7 @@ fn others(count: u64, told: u64) -> u64
     count.saturating_sub(told)
 }
 
-/// Where a place stands: nothing where a read fails.
+/// Where a place is: nothing where a read fails.
 fn find<S: Rewind>(cursors: &mut Cursors, source: &mut S, note: &Note) -> Option<Mark>
     ensures stand { (framing : Option Framing) → StandBy framing (S.text source.old) cursors.old → StandBy framing (S.text source.old) cursors.new }
     ensures mark { (framing : Option Framing) → StandBy framing (S.text source.old) cursors.old
@@ -493,7 +493,7 @@ fn find<S: Rewind>(cursors: &mut Cursors, source: &mut S, note: &Note) -> Option
     }
 }
 
-/// Where a place stands. Of one at which a record is refused no path is reported, since no text has that byte.
+/// Where a place is. Of one at which a record is refused no path is reported, since no text has that byte.
 fn told_mark(mark: Mark, code: Code) -> Mark
     ensures mark { (framing : Option Framing) (text : Option (List ℕ)) (place : ℕ) → IsMarkBy framing text place mark → IsMarkBy framing text place result }
     ensures none { is_cause code ≡ true → result.path ≡ None }

@@ -11,7 +11,7 @@ use gj_places::Lines;
 use gj_rules::Framing;
 use std::io;
 
-/// Where a place stands.
+/// Where a place is.
 #[derive(Clone, Copy)]
 pub struct Mark {
     pub place: u64,
@@ -90,7 +90,7 @@ impl Cursor {
         }
     }
 
-    /// Where a place stands: none for one that is neither before a byte of the file nor at its end. A place that it has passed makes it begin anew.
+    /// Where a place is: none for one that is neither before a byte of the file nor at its end. A place that it has passed makes it begin anew.
     pub fn go_to<S: Rewind>(&mut self, source: &mut S, place: u64) -> io::Result<Option<Mark>>
         ensures stands { StandsBy (S.text source.old) self.old → StandsBy (S.text source.old) self.new }
         ensures mark { StandsBy (S.text source.old) self.old
@@ -284,7 +284,7 @@ impl Cursors {
         }
     }
 
-    /// Where the place of a note stands.
+    /// Where the place of a note is.
     pub fn go_to<S: Rewind>(&mut self, source: &mut S, note: &Note) -> io::Result<Option<Mark>>
         ensures stand { (framing : Option Framing) → StandBy framing (S.text source.old) self.old → StandBy framing (S.text source.old) self.new }
         ensures mark { (framing : Option Framing) → StandBy framing (S.text source.old) self.old

@@ -13,12 +13,12 @@ use gj_json::JsonFault;
 use gj_rules::{CleanFeature, Feature, FeatureSink, Record, RecordSink, Verdict};
 use std::alloc::{AllocError, Global};
 
-/// A part of a file that is validated by itself.
+/// A part of a file that is validated separately.
 #[derive(Clone, Copy, Debug, PartialEq, Eq)]
 pub enum Item {
     /// A feature of a text.
     Feature {
-        /// How many features stand before it.
+        /// How many features come before it.
         index: u64,
         /// Where the value of its first member `id` begins.
         id: Option<u64>,

@@ -22,7 +22,7 @@ pub trait Follower {
     fn follow(&mut self, piece: &[u8], notes: &[Note])
         ensures { (bytes : List ℕ) → follows self.old bytes → follows self.new (bytes ++ piece.now) };
 
-    /// Where the place of a note stands, which has this index in the list.
+    /// Where the place of a note is, which has this index in the list.
     fn mark_at(&self, index: usize, note: &Note) -> Option<Mark>
         ensures { says self.now note.now result };
 }

@@ -67,7 +67,7 @@ impl Reader {
         is_due(self.mode) && self.levels.len() < self.limits.depth()
     }
 
-    /// Takes the arrays of two or three ordinary numbers that stand whole at the start of the piece, one after another:
+    /// Takes the arrays of two or three ordinary numbers that are whole at the start of the piece, one after another:
     /// how many bytes. Outside an array there is one at the most.
     #[inline(never)]
     pub(super) fn take_flats<S: EventSink>(&mut self, piece: &[u8], sink: &mut S) -> usize

@@ -12,7 +12,7 @@ impl Reader {
     ghost use Rattle.gj_json.specs.Ignored.{Leaves};
     ghost use Rattle.gj_json.specs.Internal.FedReader.{FeedsAll, FeedsAny, FeedsTo, FeedsWithin, FeedsWithinTo};
 
-    /// Takes white space, or tokens that stand whole at the start of the piece: how many bytes.
+    /// Takes white space, or tokens that are whole at the start of the piece: how many bytes.
     #[inline(always)]
     fn pass_token(&mut self, piece: &[u8]) -> usize
         requires some { 0 < length piece.now }

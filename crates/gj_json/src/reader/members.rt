@@ -13,13 +13,13 @@ use crate::mode::Mode;
 use crate::sink::NoEvents;
 use crate::tokens::{near_quoted_run, scalar_run};
 
-/// A piece of fewer bytes has no room for a short name, what stands after it, and what is looked at of the value.
+/// A piece of fewer bytes has no room for a short name, what comes after it, and what is looked at of the value.
 const ROOM: usize = 2 * LANES + 8;
 
 impl Reader {
     ghost use Rattle.gj_json.specs.Internal.FedReader.{FeedsAny};
 
-    /// Takes a value that stands whole with the byte after it, or the bracket that opens one: how many bytes, or 0.
+    /// Takes a value that is whole with the byte after it, or the bracket that opens one: how many bytes, or 0.
     #[inline(never)]
     fn pass_value(&mut self, piece: &[u8]) -> usize
         requires some { 0 < length piece.now }

@@ -49,7 +49,7 @@ fn colon_run(piece: &[u8]) -> usize
     white_end(piece, white + 1)
 }
 
-/// Whether a short piece may end in the number that it starts with, since each of its bytes may stand in one.
+/// Whether a short piece may end in the number that it starts with, since each of its bytes is allowed in one.
 #[inline(always)]
 fn is_cut(piece: &[u8]) -> bool {
     if piece.len() > LONG {
@@ -495,7 +495,7 @@ impl Reader {
         self.take_rows(piece, sink)
     }
 
-    /// Takes a value that stands whole with the byte after it, or the bracket that opens one: how many bytes, or 0.
+    /// Takes a value that is whole with the byte after it, or the bracket that opens one: how many bytes, or 0.
     #[inline(always)]
     pub(super) fn take_value<S: EventSink, const HEARS: bool>(
         &mut self,
@@ -735,7 +735,7 @@ impl Reader {
         }
     }
 
-    /// Takes a token that stands whole at the start of the piece, or the white space there: how many bytes, or 0 where there is
+    /// Takes a token that is whole at the start of the piece, or the white space there: how many bytes, or 0 where there is
     /// none or no event matters to the sink.
     #[inline(always)]
     fn take_token<S: EventSink>(&mut self, piece: &[u8], sink: &mut S) -> usize
@@ -789,7 +789,7 @@ impl Reader {
         }
     }
 
-    /// Takes the tokens that stand whole at the start of the piece, one after another, as far as their events matter to the
+    /// Takes the tokens that are whole at the start of the piece, one after another, as far as their events matter to the
     /// sink: how many bytes.
     #[inline(never)]
     pub(super) fn take_tokens<S: EventSink>(&mut self, piece: &[u8], sink: &mut S) -> usize
@@ -835,7 +835,7 @@ impl Reader {
         }
     }
 
-    /// Takes the tokens that stand whole at the start of the piece, the text's first bracket among them: how many bytes, and
+    /// Takes the tokens that are whole at the start of the piece, the text's first bracket among them: how many bytes, and
     /// at once none where no token is due or the piece is short.
     #[inline(always)]
     pub(super) fn take_if_token<S: EventSink>(&mut self, piece: &[u8], sink: &mut S) -> usize

@@ -38,7 +38,7 @@ struct Digits {
 
 /// The index two bytes after that of a comma.
 ///
-/// It is a function of its own, so that the processor predicts whether a space follows, and does not wait for the byte
+/// It is a separate function, so that the processor predicts whether a space follows, and does not wait for the byte
 /// before it reads on.
 #[inline(never)]
 fn after_space(comma: usize) -> usize

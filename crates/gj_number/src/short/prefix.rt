@@ -220,7 +220,7 @@ fn is_letter(byte: u8) -> bool
     byte == b'e' || byte == b'E'
 }
 
-/// Whether `count` digits, of which this is the first, may stand before a point: no digit follows a first zero.
+/// Whether `count` digits, of which this is the first, are allowed before a point: no digit follows a first zero.
 #[inline(always)]
 fn is_natural(first: u8, count: usize) -> bool
     ensures { IsTrue result ↔ ((0 < count) × (first ≡ zero_digit → count ≡ 1)) }

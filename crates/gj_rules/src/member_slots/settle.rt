@@ -1,4 +1,4 @@
-//! What an object with a role comes to at its close.
+//! What is found of an object with a role at its close.
 ghost use Rattle.std.specs.Prelude.{◌≡◌, IsTrue};
 
 use super::member_rules::{MemberRules, is_among, missing};

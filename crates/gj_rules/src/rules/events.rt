@@ -30,7 +30,7 @@ impl<const FRAMES: usize> FramedRules<FRAMES> {
         self.mode = Mode::Names;
     }
 
-    /// An object with a role opens, and is reported by itself.
+    /// An object with a role opens, and is reported separately.
     #[inline(never)]
     fn push(&mut self, role: Role, place: u64)
         ensures rests { is_feeding 0 self.new.mode ≡ false }

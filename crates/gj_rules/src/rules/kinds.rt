@@ -50,7 +50,7 @@ impl<const FRAMES: usize> FramedRules<FRAMES> {
         }
     }
 
-    /// A name that is reported by itself.
+    /// A name that is reported separately.
     #[inline(never)]
     pub(crate) fn tell_name(&mut self, name: Known, place: u64)
         ensures { (events : List Event) → StandsFor self.old events → StandsFor self.new (events ++ record { place = place; what = W.Name name } ∷ []) }

@@ -38,7 +38,7 @@ impl EventSink for FirstEvents {
     fn pass(&mut self, _left: u16) {}
 }
 
-/// Ignores what stands in an array or an object.
+/// Ignores what is in an array or an object.
 #[derive(Drop)]
 struct Ignoring {
     levels: u16,
@@ -712,7 +712,7 @@ fn starts_a_character(first: u8, second: u8) -> bool {
     }
 }
 
-/// What stands before many digits, the digit, and what stands after them.
+/// What comes before many digits, the digit, and what comes after them.
 static LONG_NUMBERS: [(&[u8], u8, &[u8]); 4] = [
     (b"[[[[1", b'0', b"]]]]"),
     (b"[[[[0.", b'3', b"]]]]"),

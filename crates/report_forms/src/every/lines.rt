@@ -63,7 +63,7 @@ fn part(code: Code) -> Part
     }
 }
 
-/// What stands in parentheses at the end of the line: the feature, its `id`, the offset where the line is not known, and the path.
+/// What is in parentheses at the end of the line: the feature, its `id`, the offset where the line is not known, and the path.
 fn put_details(entry: &Entry<'_>, line: &mut Vec<u8>) -> Result<(), AllocError>
     ensures { OnOk result (Adds line.old line.new (feature_details entry.now)) }
 {

@@ -1,4 +1,4 @@
-//! One JSON object for each file, on a line of its own.
+//! One JSON object for each file, on a separate line.
 ghost use Rattle.std.specs.Prelude.{◌≡◌, ◌&&◌, ◌++◌, ℕ, List, OnOk, IfOk, codes};
 ghost use Rattle.geolint_report.specs.Found.{found_bytes};
 ghost use Rattle.gj_json.specs.Path.{steps_of};
@@ -59,7 +59,7 @@ fn put_fault(report: &Report<'_>, line: &mut Vec<u8>) -> Result<(), AllocError>
     }
 }
 
-/// What stands at the place of the fault, where that is reported.
+/// What is at the place of the fault, where that is reported.
 fn put_found(alloc: Global, found: Option<Found>, line: &mut Vec<u8>) -> Result<(), AllocError>
     ensures { OnOk result ((bytes : List ℕ) × IsJsonFound found bytes × Adds line.old line.new bytes) }
 {

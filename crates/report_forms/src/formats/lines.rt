@@ -103,7 +103,7 @@ fn put_finding(
     }
 }
 
-/// What stands at the place of the fault, where that is reported.
+/// What is at the place of the fault, where that is reported.
 fn put_found(found: Option<Found>, line: &mut Vec<u8>) -> Result<(), AllocError>
     ensures { OnOk result (Adds line.old line.new (lines_found found)) }
 {
@@ -283,7 +283,7 @@ pub fn put_code(code: Code, style: Style, line: &mut Vec<u8>) -> Result<(), Allo
     code.put_text(line)
 }
 
-/// What stands in parentheses at the end of the line: the record, the count, the offset where the line is not known, and
+/// What is in parentheses at the end of the line: the record, the count, the offset where the line is not known, and
 /// the path.
 fn put_details(
     report: &Report<'_>,

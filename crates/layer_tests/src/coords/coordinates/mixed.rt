@@ -9,7 +9,7 @@ use std::process::Abort;
 /// The length of a text: white space makes it up to that.
 const ROOM: usize = 1024;
 
-/// What stands in an array: of the positions some are the same however they are written, some are too precise or out of
+/// What is in an array: of the positions some are the same however they are written, some are too precise or out of
 /// range, and some values are none.
 const VALUES: [&[u8]; 16] = [
     b"[0,0]",

@@ -30,7 +30,7 @@ fn place(bytes: &[u8]) -> Option<u64> {
     }
 }
 
-/// White space of each kind before a byte that cannot stand there.
+/// White space of each kind before a byte that is not allowed there.
 #[test]
 fn white_space_stops_at_each_index(rt: HostRuntime) {
     for white in [b' ', b'\t', b'\n', b'\r'] {

@@ -51,7 +51,7 @@ const MANY: u32 = 5_000;
 
 const BEYOND: Wanted = Broken(Rule::G16, 31);
 
-/// What a number begins with, what stands in it many times, what comes then, the verdict, and what it is.
+/// What a number begins with, what is in it many times, what comes then, the verdict, and what it is.
 static LONG_NUMBERS: [(&[u8], &[u8], &[u8], Wanted, &str); 6] = [
     (b"1.", b"0", b",1]}", Valid(&[]), "1.00.."),
     (b"0.", b"0", b",1]}", Valid(&[]), "0.00.."),
