@@ -1,5 +1,6 @@
 -- Members of objects in which no event matters: a name and its colon, and a value with the byte after it.
-use Rattle.std.proofs.Common.{◌≡◌, ℕ, ◌+◌, ◌-◌, ◌≤◌, ◌<◌, true, false, List, [], ◌∷◌, get_or, length, take, drop, Option, Some, None, refl, sym, ap, subst, ◌∙◌, inl, inr, ◌⊎◌, arith}
+use Rattle.std.proofs.Common.{◌≡◌, ℕ, ◌+◌, ◌-◌, ◌≤◌, ◌<◌, true, false, List, [], ◌∷◌, get_or, length}
+use Rattle.std.proofs.Common.{take, drop, Option, Some, None, refl, sym, ap, subst, ◌∙◌, inl, inr, ◌⊎◌, arith}
 use Rattle.std.proofs.lemmas.List.{get_or-drop, length-drop}
 use Rattle.std.specs.List.{AllByRecursion}
 use Rattle.gj_json.specs.Bytes.{IsWhite, space, colon as colon_byte, close_brace}
@@ -126,7 +127,8 @@ module _ (old new : Reader) (piece : List ℕ) (n : ℕ) (live : old.fault ≡ N
     pub scalar_goes : FeedsAny old new (take (n + 1) piece)
     scalar_goes = elim scalar [
       | text q ↦ goes (text_any q)
-      | digits d ↦ number_token false (λ events. Unit {0}) (λ events. Unit {0}) old new piece n None live due room w d (λ h. cc) next ending made p (λ events h. tt)
+      | digits d ↦
+          number_token false (λ events. Unit {0}) (λ events. Unit {0}) old new piece n None live due room w d (λ h. cc) next ending made p (λ events h. tt)
       | literal which e ↦
           goes (any_constant old mid piece n which live due room (omega arith) (to_mid old n ValueDone done_mode mid_room) e)
     ]
@@ -149,7 +151,8 @@ module _ (old new : Reader) (piece : List ℕ) (n : ℕ) (live : old.fault ≡ N
     pub scalar_closes : FeedsAny old new (take (n + 1) piece)
     scalar_closes = elim scalar [
       | text q ↦ closes (text_any q)
-      | digits d ↦ ended_token false (λ events. Unit {0}) (λ events. Unit {0}) old new piece n None live due room w d (λ h. cc) level made p (λ events h. tt)
+      | digits d ↦
+          ended_token false (λ events. Unit {0}) (λ events. Unit {0}) old new piece n None live due room w d (λ h. cc) level made p (λ events h. tt)
       | literal which e ↦
           closes (any_constant old mid piece n which live due room (omega arith) (to_mid old n ValueDone done_mode mid_room) e)
     ]

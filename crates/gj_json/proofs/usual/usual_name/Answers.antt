@@ -11,7 +11,8 @@ unfolding known_of
 returns-in-116-clause-usual c = λ some.
     let found = c.if_there.ensures in
     rw (found.count some, found.known some)
-    (by_first (λ piece. IsUsualName piece 6 TypeName) 7 c.args.piece.now _ (codes "\"type\":") (sym (found.there some) ∙ c.begins.ensures) refl (record {
+    (by_first (λ piece. IsUsualName piece 6 TypeName) 7 c.args.piece.now _ (codes "\"type\":")
+    (sym (found.there some) ∙ c.begins.ensures) refl (record {
       quoted = record { spelled = refl; reads = plain (codes "type") };
       known_as = refl;
       colon = refl;
@@ -22,7 +23,8 @@ unfolding known_of
 returns-in-103-clause-usual c = λ some.
     let found = c.if_there-in-103.ensures in
     rw (found.count some, found.known some)
-    (by_first (λ piece. IsUsualName piece 10 Geometry) 11 c.args.piece.now _ (codes "\"geometry\":") (sym (found.there some) ∙ c.begins-in-103.ensures) refl (record {
+    (by_first (λ piece. IsUsualName piece 10 Geometry) 11 c.args.piece.now _ (codes "\"geometry\":")
+    (sym (found.there some) ∙ c.begins-in-103.ensures) refl (record {
       quoted = record { spelled = refl; reads = plain (codes "geometry") };
       known_as = refl;
       colon = refl;
@@ -33,7 +35,8 @@ unfolding known_of
 returns-in-99-clause-usual c = λ some.
     let found = c.if_there-in-99.ensures in
     rw (found.count some, found.known some)
-    (by_first (λ piece. IsUsualName piece 13 Coordinates) 14 c.args.piece.now _ (codes "\"coordinates\":") (sym (found.there some) ∙ c.begins-in-99.ensures) refl (record {
+    (by_first (λ piece. IsUsualName piece 13 Coordinates) 14 c.args.piece.now _ (codes "\"coordinates\":")
+    (sym (found.there some) ∙ c.begins-in-99.ensures) refl (record {
       quoted = record { spelled = refl; reads = plain (codes "coordinates") };
       known_as = refl;
       colon = refl;
@@ -44,7 +47,8 @@ unfolding known_of
 returns-in-112-clause-usual c = λ some.
     let found = c.if_there-in-112.ensures in
     rw (found.count some, found.known some)
-    (by_first (λ piece. IsUsualName piece 12 Properties) 13 c.args.piece.now _ (codes "\"properties\":") (sym (found.there some) ∙ c.begins-in-112.ensures) refl (record {
+    (by_first (λ piece. IsUsualName piece 12 Properties) 13 c.args.piece.now _ (codes "\"properties\":")
+    (sym (found.there some) ∙ c.begins-in-112.ensures) refl (record {
       quoted = record { spelled = refl; reads = plain (codes "properties") };
       known_as = refl;
       colon = refl;
@@ -55,7 +59,8 @@ unfolding known_of
 returns-in-105-clause-usual c = λ some.
     let found = c.if_there-in-105.ensures in
     rw (found.count some, found.known some)
-    (by_first (λ piece. IsUsualName piece 4 Id) 5 c.args.piece.now _ (codes "\"id\":") (sym (found.there some) ∙ c.begins-in-105.ensures) refl (record {
+    (by_first (λ piece. IsUsualName piece 4 Id) 5 c.args.piece.now _ (codes "\"id\":")
+    (sym (found.there some) ∙ c.begins-in-105.ensures) refl (record {
       quoted = record { spelled = refl; reads = plain (codes "id") };
       known_as = refl;
       colon = refl;
