@@ -84,7 +84,7 @@ pub fn wrong_cut(
             ),
             name if framing_by(framing_in(given), name).is_some() => None,
             _ => Some(
-                "'--part <I/N>' takes a text sequence, named *.geojsons or read with '--seq', or newline-delimited texts, named *.ndjson or read with '--ndjson'",
+                "'--part <I/N>' takes a text sequence (*.geojsons, or '--seq') or newline-delimited texts (*.ndjson, or '--ndjson')",
             ),
         },
         _ => Some("'--part <I/N>' takes one file"),

@@ -33,24 +33,30 @@ IsPlaced xs n f = placed xs n f ≡ in_lanes (before_point n xs) (after_point n 
 placed_one : (xs : List ℕ) → length xs ≡ 16 → (f : ℕ) → 0 < f → f < 16 → IsPlaced xs 1 f
 placed_one (a ∷ b ∷ c ∷ d ∷ e ∷ f ∷ g ∷ h ∷ p ∷ q ∷ r ∷ s ∷ t ∷ u ∷ v ∷ w ∷ []) len f' some few =
     let xs : List ℕ = a ∷ b ∷ c ∷ d ∷ e ∷ f ∷ g ∷ h ∷ p ∷ q ∷ r ∷ s ∷ t ∷ u ∷ v ∷ w ∷ [] in
+    let eight : Below (λ g. 0 < g → IsPlaced xs 1 g) 8 =
+    ((((((((tt, λ z. absurd (omega arith)), λ _. refl), λ _. refl), λ _. refl), λ _. refl), λ _. refl), λ _. refl), λ _. refl) in
     let all : Below (λ g. 0 < g → IsPlaced xs 1 g) 16 =
-    ((((((((((((((((tt, λ z. absurd (omega arith)), λ _. refl), λ _. refl), λ _. refl), λ _. refl), λ _. refl), λ _. refl), λ _. refl), λ _. refl), λ _. refl), λ _. refl), λ _. refl), λ _. refl), λ _. refl), λ _. refl), λ _. refl) in
+    ((((((((eight, λ _. refl), λ _. refl), λ _. refl), λ _. refl), λ _. refl), λ _. refl), λ _. refl), λ _. refl) in
     below_at (λ g. 0 < g → IsPlaced xs 1 g) 16 f' all few some
 placed_one _ len f' some few = absurd (omega arith)
 
 placed_two : (xs : List ℕ) → length xs ≡ 16 → (f : ℕ) → 0 < f → f < 16 → IsPlaced xs 2 f
 placed_two (a ∷ b ∷ c ∷ d ∷ e ∷ f ∷ g ∷ h ∷ p ∷ q ∷ r ∷ s ∷ t ∷ u ∷ v ∷ w ∷ []) len f' some few =
     let xs : List ℕ = a ∷ b ∷ c ∷ d ∷ e ∷ f ∷ g ∷ h ∷ p ∷ q ∷ r ∷ s ∷ t ∷ u ∷ v ∷ w ∷ [] in
+    let eight : Below (λ g. 0 < g → IsPlaced xs 2 g) 8 =
+    ((((((((tt, λ z. absurd (omega arith)), λ _. refl), λ _. refl), λ _. refl), λ _. refl), λ _. refl), λ _. refl), λ _. refl) in
     let all : Below (λ g. 0 < g → IsPlaced xs 2 g) 16 =
-    ((((((((((((((((tt, λ z. absurd (omega arith)), λ _. refl), λ _. refl), λ _. refl), λ _. refl), λ _. refl), λ _. refl), λ _. refl), λ _. refl), λ _. refl), λ _. refl), λ _. refl), λ _. refl), λ _. refl), λ _. refl), λ _. refl) in
+    ((((((((eight, λ _. refl), λ _. refl), λ _. refl), λ _. refl), λ _. refl), λ _. refl), λ _. refl), λ _. refl) in
     below_at (λ g. 0 < g → IsPlaced xs 2 g) 16 f' all few some
 placed_two _ len f' some few = absurd (omega arith)
 
 placed_three : (xs : List ℕ) → length xs ≡ 16 → (f : ℕ) → 0 < f → f < 16 → IsPlaced xs 3 f
 placed_three (a ∷ b ∷ c ∷ d ∷ e ∷ f ∷ g ∷ h ∷ p ∷ q ∷ r ∷ s ∷ t ∷ u ∷ v ∷ w ∷ []) len f' some few =
     let xs : List ℕ = a ∷ b ∷ c ∷ d ∷ e ∷ f ∷ g ∷ h ∷ p ∷ q ∷ r ∷ s ∷ t ∷ u ∷ v ∷ w ∷ [] in
+    let eight : Below (λ g. 0 < g → IsPlaced xs 3 g) 8 =
+    ((((((((tt, λ z. absurd (omega arith)), λ _. refl), λ _. refl), λ _. refl), λ _. refl), λ _. refl), λ _. refl), λ _. refl) in
     let all : Below (λ g. 0 < g → IsPlaced xs 3 g) 16 =
-    ((((((((((((((((tt, λ z. absurd (omega arith)), λ _. refl), λ _. refl), λ _. refl), λ _. refl), λ _. refl), λ _. refl), λ _. refl), λ _. refl), λ _. refl), λ _. refl), λ _. refl), λ _. refl), λ _. refl), λ _. refl), λ _. refl) in
+    ((((((((eight, λ _. refl), λ _. refl), λ _. refl), λ _. refl), λ _. refl), λ _. refl), λ _. refl), λ _. refl) in
     below_at (λ g. 0 < g → IsPlaced xs 3 g) 16 f' all few some
 placed_three _ len f' some few = absurd (omega arith)
 

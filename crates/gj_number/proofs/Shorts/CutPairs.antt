@@ -38,7 +38,8 @@ pub point_of : (piece : List ℕ) (at : ℕ) (negative : Bool) (first n f end be
 point_of piece at negative first n f end behind s = ap (λ xs. get_or xs n 0) (take_rest piece first) ∙ get_or-drop first piece n 0 ∙ s.point
 
 module _ (piece : List ℕ) (fits : (k : ℕ) → Fits w8 (get_or piece k 0)) (at : ℕ) (negative : Bool) (first n f end behind : ℕ)
-    (s : IsSpan piece at negative first n f end behind) (some : 0 < n) (some_after : 0 < f) (room : at ≤ 32) (long : 64 ≤ length piece) (other : class_of behind ≡ Other)
+    (s : IsSpan piece at negative first n f end behind) (some : 0 < n) (some_after : 0 < f)
+    (room : at ≤ 32) (long : 64 ≤ length piece) (other : class_of behind ≡ Other)
     (lanes : List ℕ)
     (placed : lanes ≡ in_lanes (before_point n (map lane_of (take 16 (take (length piece - first) (drop first piece)))))
     (after_point n f (map lane_of (take 16 (take (length piece - first) (drop first piece))))))

@@ -1,5 +1,6 @@
 -- Where two usual numbers have their marks, and that they are found.
-use Rattle.std.proofs.Common.{zero, suc, ◌≡◌, ℕ, ◌+◌, ◌-◌, ◌%◌, ◌<◌, ◌≤◌, ◌==◌, ◌++◌, Bool, true, false, List, [], ◌∷◌, length, map, take, drop, get_or, All, Fits}
+use Rattle.std.proofs.Common.{zero, suc, ◌≡◌, ℕ, ◌+◌, ◌-◌, ◌%◌, ◌<◌, ◌≤◌, ◌==◌, ◌++◌, Bool, true, false, List, [], ◌∷◌}
+use Rattle.std.proofs.Common.{length, map, take, drop, get_or, All, Fits}
 use Rattle.std.proofs.Common.{replicate, refl, inl, inr, sym, ◌∙◌, ap, subst, arith, append_assoc, length-drop, length-append, w8}
 use mir.Val.{bool_byte}
 use lib.Lanes.{Each1}
@@ -210,7 +211,8 @@ module _ (piece : List ℕ) (at point end n behind : ℕ) (u : StartsUsual (drop
         let size : 19 ≤ length digit_bytes = omega (arith, length-drop first piece) in
         let is : lanes ≡ in_lanes (before_point natural (map lane_of (take 16 digit_bytes)))
         (after_point natural fraction (map lane_of (take 16 digit_bytes))) =
-        placed natural_some fraction_some ∙ ap (λ ys. in_lanes (before_point natural (map lane_of (take 16 ys))) (after_point natural fraction (map lane_of (take 16 ys))))
+        placed natural_some fraction_some
+        ∙ ap (λ ys. in_lanes (before_point natural (map lane_of (take 16 ys))) (after_point natural fraction (map lane_of (take 16 ys))))
         (take_rest piece first) in
         subst P (sym is) (lanes_small digit_bytes fits_on natural fraction natural_some s.few s.few_after size front back)
 

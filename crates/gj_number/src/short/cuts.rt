@@ -78,7 +78,8 @@ fn first_marks(piece: &[u8]) -> Marks
     ensures comma { result.comma ≤ 64 }
     ensures other_point { result.other_point ≤ 64 }
     ensures next { result.next ≤ 64 }
-    ensures first { (a b c d : ℕ) → AreMarks (map is_mark (take 48 piece.now)) a b c d → HasMarks result.point result.comma result.other_point result.next a b c d }
+    ensures first { (a b c d : ℕ) → AreMarks (map is_mark (take 48 piece.now)) a b c d
+        → HasMarks result.point result.comma result.other_point result.next a b c d }
 {
     let marks = marks_at(piece, 0) | (marks_at(piece, 16) << 16) | (marks_at(piece, 32) << 32);
     let from_comma = without_lowest(marks);

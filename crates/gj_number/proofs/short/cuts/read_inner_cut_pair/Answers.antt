@@ -34,7 +34,8 @@ returns-clause-numbers c =
     let first = number_is piece fits 0 one.negative one.first one.natural one.fraction marks.comma 44 s some.0 some.1 (omega arith) c.requires comma_other
     c.placed_digits-first.result (c.placed_digits-first.ensures.digits some.0 some.1) small rests.0
     (c.are_whole.ensures.first c.if-not-are_whole.false) told.first_some told.first_none in
-    let second = number_is piece fits (marks.comma + 1) other.negative other.first other.natural other.fraction end 93 t others.0 others.1 (omega arith) c.requires
+    let second = number_is piece fits (marks.comma + 1) other.negative other.first other.natural other.fraction end 93 t
+    others.0 others.1 (omega arith) c.requires
     bracket_other c.placed_digits-second.result (c.placed_digits-second.ensures.digits others.0 others.1) more_small rests.1
     (c.are_whole.ensures.second c.if-not-are_whole.false) told.second_some told.second_none in
     let fits_one : SFits w64 c.with_sign.result = search rules in
@@ -82,9 +83,11 @@ returns-then-not-are_digits-clause-taken c = λ u tight follows.
     let marks = c.first_marks-marks.result in
     let h = c.first_marks-marks.ensures.first _ _ _ _ (pair_marks piece u tight follows (omega (arith, c.requires))) in
     let few = c.first_marks-marks.ensures.next in
-    let first = one_small piece u tight follows _ _ _ _ (end_before marks.next) h (λ _. refl) few c.type_inv.piece one.negative one.first one.natural one.fraction c.requires c.placed_digits-first.result
+    let first = one_small piece u tight follows _ _ _ _ (end_before marks.next) h (λ _. refl) few c.type_inv.piece
+    one.negative one.first one.natural one.fraction c.requires c.placed_digits-first.result
     c.placed_digits-first.ensures.digits c.in-Some.ensures.span c.in-Some.ensures.point in
-    let second = other_small piece u tight follows _ _ _ _ _ h (λ _. refl) few c.type_inv.piece other.negative other.first other.natural other.fraction c.requires
+    let second = other_small piece u tight follows _ _ _ _ _ h (λ _. refl) few c.type_inv.piece
+    other.negative other.first other.natural other.fraction c.requires
     c.placed_digits-second.result c.placed_digits-second.ensures.digits c.in-Some-span_between.ensures.span c.in-Some-span_between.ensures.point
     (second_few piece u tight follows _ _ _ _ (end_before marks.next) h (λ _. refl) few) in
     let yes = c.are_digits.ensures.taken first.0 second.0 in
@@ -99,9 +102,11 @@ returns-then-not-are_whole-clause-taken c = λ u tight follows.
     let marks = c.first_marks-marks.result in
     let h = c.first_marks-marks.ensures.first _ _ _ _ (pair_marks piece u tight follows (omega (arith, c.requires))) in
     let few = c.first_marks-marks.ensures.next in
-    let first = one_small piece u tight follows _ _ _ _ (end_before marks.next) h (λ _. refl) few c.type_inv.piece one.negative one.first one.natural one.fraction c.requires c.placed_digits-first.result
+    let first = one_small piece u tight follows _ _ _ _ (end_before marks.next) h (λ _. refl) few c.type_inv.piece
+    one.negative one.first one.natural one.fraction c.requires c.placed_digits-first.result
     c.placed_digits-first.ensures.digits c.in-Some.ensures.span c.in-Some.ensures.point in
-    let second = other_small piece u tight follows _ _ _ _ _ h (λ _. refl) few c.type_inv.piece other.negative other.first other.natural other.fraction c.requires
+    let second = other_small piece u tight follows _ _ _ _ _ h (λ _. refl) few c.type_inv.piece
+    other.negative other.first other.natural other.fraction c.requires
     c.placed_digits-second.result c.placed_digits-second.ensures.digits c.in-Some-span_between.ensures.span c.in-Some-span_between.ensures.point
     (second_few piece u tight follows _ _ _ _ (end_before marks.next) h (λ _. refl) few) in
     let yes = c.are_whole.ensures.taken first.1 second.1 in
