@@ -36,8 +36,8 @@ fn read_position(piece: &[u8], start: u64) -> Option<CutPosition>
     })
 }
 
-/// Reads, in place of others, the positions that the piece starts with, each with a comma and another array after it, as far
-/// as there is room: how many.
+/// Writes to `positions` those that the piece starts with, each with a comma and another array after it, as far as there is
+/// room, and returns how many.
 #[inline(never)]
 pub fn read_positions(
     piece: &[u8],

@@ -34,7 +34,7 @@ const NO_TEXT: UsualText = UsualText {
     word: Word::Other,
 };
 
-/// This name, or none.
+/// The name, where its bytes were found, or `NO_NAME`.
 #[inline(always)]
 fn if_there(is_there: bool, count: usize, known: Known) -> UsualName
     ensures there { 0 < result.count → IsTrue is_there }

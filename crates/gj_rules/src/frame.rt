@@ -59,7 +59,7 @@ impl Frame {
 
     /// Takes a name, and returns as the first member of which name its value is to be checked:
     /// `Other` where it is not.
-    // Where the name is known, little is left of it.
+    // Callers mostly pass a constant, so that the compiler keeps one arm.
     #[inline(always)]
     pub fn name(&mut self, name: Known, place: u64) -> Known
         ensures frame { frame_in self.new ≡ named name place (frame_in self.old) }

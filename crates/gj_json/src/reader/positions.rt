@@ -11,7 +11,7 @@ use crate::mode::Mode;
 use crate::positions::{MOST_POSITIONS, read_positions};
 use crate::sink::EventSink;
 
-/// After so many arrays, one after another, positions are sought.
+/// After so many arrays, one after another, positions are sought, and sought again after a run that was found.
 pub(super) const FEW: u8 = 8;
 
 /// After so many more they are sought again where none was found.

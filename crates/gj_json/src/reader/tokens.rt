@@ -716,7 +716,7 @@ impl Reader {
         opened + self.pass_ignored(&piece[opened..], sink)
     }
 
-    /// As `take_value`. The usual kinds are told apart here, since that is a call.
+    /// As `take_value`, which is not inlined: here the usual kinds of value are told apart before that call.
     #[inline(always)]
     fn take_usual_value<S: EventSink>(&mut self, piece: &[u8], sink: &mut S) -> usize
         requires some { 0 < length piece.now }

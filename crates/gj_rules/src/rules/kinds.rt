@@ -218,6 +218,7 @@ impl<const FRAMES: usize> FramedRules<FRAMES> {
         self.tell_what(What::CloseArray, place);
     }
 
+    /// A null, as `geometry` and `properties` often are.
     #[inline(never)]
     fn tell_null(&mut self, place: u64)
         ensures { (events : List Event) → StandsFor self.old events → StandsFor self.new (events ++ record { place = place; what = W.Null } ∷ []) }
@@ -225,7 +226,7 @@ impl<const FRAMES: usize> FramedRules<FRAMES> {
         self.tell_what(What::Null, place);
     }
 
-    /// A number, or an event of another kind that is told whole.
+    /// A number, a null, or another event.
     #[inline(always)]
     pub(super) fn tell_rest(&mut self, event: Event)
         ensures { (events : List Event) → StandsFor self.old events → StandsFor self.new (events ++ event ∷ []) }

@@ -1,6 +1,6 @@
 //! Arrays of numbers that come as one `Flat`, beside their bytes in turn, in texts of positions and in changed ones.
 
-use super::{FirstEvents, no_events};
+use super::{FirstEvents, Ignoring, no_events};
 use gj_json::{EventSink, JsonFault, Limits, Reader};
 use std::process::Abort;
 
@@ -18,6 +18,17 @@ fn by_piece(limits: Limits, piece: &[u8], sink: &mut FirstEvents) -> Option<Json
         Ok(()) => None,
         Err(fault) => Some(fault),
     }
+}
+
+/// The fault of a piece where the sink ignores what it can, and whether it knows at the end how many levels are open.
+fn by_ignoring(limits: Limits, piece: &[u8]) -> (Option<JsonFault>, bool) {
+    let mut reader = Reader::new(limits);
+    let mut sink = Ignoring { levels: 0 };
+    let fault = match reader.feed(piece, &mut sink) {
+        Ok(()) => None,
+        Err(fault) => Some(fault),
+    };
+    (fault, sink.levels == reader.levels())
 }
 
 fn by_bytes(limits: Limits, piece: &[u8], sink: &mut FirstEvents) -> Option<JsonFault> {
@@ -49,7 +60,8 @@ fn is_same(one: &FirstEvents, other: &FirstEvents) -> bool {
     true
 }
 
-/// Tests that a piece is told at once as its bytes are in turn. It is a text that has this byte at the index.
+/// Tests that a piece is reported at once as its bytes are in turn, and refused at the same byte where its events are
+/// ignored. It is a text that has this byte at the index.
 pub(super) fn expect_same(
     rt: &impl Abort,
     limits: Limits,
@@ -62,8 +74,10 @@ pub(super) fn expect_same(
     let mut in_turn = no_events();
     let fault = by_piece(limits, piece, &mut at_once);
     let other = by_bytes(limits, piece, &mut in_turn);
+    let (ignored, knows) = by_ignoring(limits, piece);
     let same = fault == other && is_same(&at_once, &in_turn);
-    assert!(rt; same, "{text} with {byte} at {index}");
+    let likewise = ignored == other && (ignored.is_some() || knows);
+    assert!(rt; same && likewise, "{text} with {byte} at {index}");
 }
 
 fn expect_each(rt: &impl Abort, limits: Limits, text: &str) {

@@ -38,13 +38,14 @@ fn expect_some(rt: &impl Abort, limits: Limits, text: &str) {
     }
 }
 
-static TEXTS: [&str; 6] = [
+static TEXTS: [&str; 7] = [
     "{\"type\":\"Feature\",\"id\":17,\"properties\":{\"a\":null,\"b\" : true},\"geometry\":false}",
     "[\"x\\u0041y\",{\"bbox\":[1,2,3,4]},\"\",0.5 ,-7]",
     "{\"name\" :\n\"k\\\"q\",\"tipe\":\"Poimt\",\"crs\":{},\"bbox\":[]}",
     "[true,false,null,[[]],{\"\":{\"\":[1]}},1e5,12345678901234567890]",
     "{\n  \"features\": [\n    {\n      \"x\": \"zé\",\n      \"y\": 1\n    }\n  ]\n}",
     "{\"é東\":\"東京 naïve 東京 à la हिन्दी 한국어 \\u00e9\\n🚲 é東京é\"}",
+    "{\"p\":{\"a\":\"x\",\"n\":12.5,\"t\": true,\"z\":null,\"f\":false,\"sixteen letters and more\":1,\"e\":1e5,\"l\":\"y\"},\"q\":[0]}",
 ];
 
 #[test]
