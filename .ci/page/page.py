@@ -138,7 +138,7 @@ def reports(browser):
     wants("the rule's chapter is there", "does not write the last position" in browser.value(
         "[...document.querySelectorAll('.card')].find((it) => it.textContent.includes('open-ring')).querySelector('details').textContent"))
     hints = browser.value("JSON.stringify([...document.querySelectorAll('.hint')].map((it) => it.textContent))")
-    wants("hints", all(it in hints for it in ("decimal point", "single quotes", "comma too many")), hints)
+    wants("hints", all(it in hints for it in ("decimal separator", "single quotes", "comma too many")), hints)
     is_open_to_all(browser, "reports")
     browser.value("(() => { const it = document.getElementById('language'); it.value = 'de'; it.dispatchEvent(new Event('change')); })()")
     wants("German", browser.value("document.documentElement.lang") == "de" and "Ein Ring endet nicht dort, wo er beginnt." in browser.value("document.body.textContent"))
@@ -169,7 +169,7 @@ def dropped(browser):
         browser.drop([f"{ROOT}/examples"])
         browser.wait(DONE.format(len(EXAMPLES) + 2))
         wants("a dropped folder", browser.value("[...document.querySelectorAll('h3')].some((it) => it.textContent === 'examples/faulty/open-ring.geojson')"))
-        wants("what was passed over is reported", "passed over" in browser.value("document.getElementById('notice').textContent"))
+        wants("what was skipped is reported", "skipped" in browser.value("document.getElementById('notice').textContent"))
 
 
 def stopped(browser):
@@ -221,11 +221,11 @@ def known_early(browser):
         browser.choose("#files", [str(room / path)])
         browser.wait(BEGUN, 60)
         known, bar = browser.value("[document.getElementById('run-known').textContent, document.getElementById('bar').value]")
-        wants(f"what is known of {path} at {bar:.2f}", bar < 1 and known == ("Not valid. Reading on, to list all that is found." if is_known else ""), known)
+        wants(f"what is known of {path} at {bar:.2f}", bar < 1 and known == ("Not valid. Still reading, to list everything." if is_known else ""), known)
         if path == "early-feature.geojson":
             browser.shot(shots / f"{name}-early.png")
         aloud = browser.value("aloud")
-        wants(f"{path}: that is read aloud once", sum("Not valid. Reading on" in it for it in aloud) == is_known, aloud)
+        wants(f"{path}: that is read aloud once", sum("Not valid. Still reading" in it for it in aloud) == is_known, aloud)
         browser.value("document.getElementById('stop').click()")
         browser.wait("document.getElementById('run').hidden")
 
@@ -261,7 +261,7 @@ def by_keyboard(browser):
     browser.press("Tab")
     browser.press("Enter")
     browser.wait(DONE.format(1))
-    wants("a pasted text", browser.value(SENTENCE) == "Valid GeoJSON, with one thing that often goes wrong in use.", browser.value(SENTENCE))
+    wants("a pasted text", browser.value(SENTENCE) == "Valid GeoJSON, with one thing that often causes problems.", browser.value(SENTENCE))
     wants("its warning", "A position is out of range." in browser.value("document.querySelector('.findings').textContent"))
     for _ in range(12):
         if browser.value("document.activeElement.className") == "toggle":
@@ -294,7 +294,7 @@ def listed(browser):
     opened(browser)
     browser.choose("#files", [str(room / "many.geojson")])
     browser.wait(DONE.format(1), 120)
-    browser.wait(f"{DETAIL}.includes('How to mend it')")
+    browser.wait(f"{DETAIL}.includes('How to fix it')")
     told = browser.value("document.querySelector('.summary').textContent")
     wants("how many are broken", told == "10,000 of 12,000 features have a fault.", told)
     wants("few rows are made", 0 < browser.value(ROWS) < 40, browser.value(ROWS))
@@ -334,13 +334,13 @@ def listed(browser):
     browser.value("document.querySelector('.save-valid').click()")
     saved = browser.downloaded("many.valid.geojsons")
     wants("the valid features are saved unchanged", saved == "".join(f"\x1e{it}\n" for i, it in enumerate(features) if i % 6 == 5), saved[:200])
-    wants("that is reported", browser.value("document.getElementById('status').textContent") == "2,000 valid ones of many.geojson are saved as a text sequence.",
+    wants("that is reported", browser.value("document.getElementById('status').textContent") == "2,000 valid features or texts of many.geojson were saved as a text sequence.",
           browser.value("document.getElementById('status').textContent"))
     (room / "saved.geojsons").write_text(saved)
     (room / "broken.ndjson").write_text(f'{POINT % 1}\r\n\n{RING % (2, 2, 2)}\n{POINT % 300}\n')
     browser.choose("#files", [str(room / "saved.geojsons"), str(room / "broken.ndjson")])
     browser.wait(DONE.format(3))
-    browser.wait("document.querySelectorAll('.chosen')[1].textContent.includes('How to mend it')")
+    browser.wait("document.querySelectorAll('.chosen')[1].textContent.includes('How to fix it')")
     wants("what was saved is valid", browser.value("document.querySelectorAll('.verdict')[1].textContent") == "Valid: each of its 2,000 texts is GeoJSON.")
     wants("newline-delimited texts", browser.value(SENTENCE) == "Not valid. Text 2: A ring does not end where it begins.", browser.value(SENTENCE))
     last = browser.value("document.querySelector('.card:last-child').textContent")
@@ -367,7 +367,7 @@ def refused():
     browser.wait(READY)
     browser.choose("#files", [f"{ROOT}/examples/cafes.geojson"])
     browser.wait(DONE.format(1))
-    wants("a trap", "fault of its own" in browser.value(SENTENCE), browser.value(SENTENCE))
+    wants("a trap", "internal error" in browser.value(SENTENCE), browser.value(SENTENCE))
     browser.wait("document.getElementById('run').hidden")
     browser.shot(shots / f"{name}-trap.png")
     browser.close()
@@ -419,7 +419,7 @@ def in_the_dark():
     browser.wait(DONE.format(4))
     browser.choose("#files", [str(room / "many.geojson")])
     browser.wait(DONE.format(5), 120)
-    browser.wait(f"{DETAIL}.includes('How to mend it')")
+    browser.wait(f"{DETAIL}.includes('How to fix it')")
     is_open_to_all(browser, "list in the dark")
     browser.shot(shots / f"{name}-dark.png")
     wants("an empty console in the dark", not browser.console(), browser.console()[:3])
