@@ -21,20 +21,20 @@ fn text_of(hint: Hint) -> &'static [u8]
 {
     match hint {
         Hint::Gzip => b"the file is compressed by gzip: gzip -dc < IN > OUT.geojson\0",
-        Hint::Zip => b"the file is a zip archive: unzip IN, and then look at what was in it\0",
+        Hint::Zip => b"the file is a zip archive: unzip IN, and see what is in it\0",
         Hint::Shapefile => b"the file is a shapefile: ogr2ogr -f GeoJSON OUT.geojson IN.shp\0",
         Hint::GeoPackage =>
-            b"the file is an SQLite database, as a GeoPackage is: ogr2ogr -f GeoJSON OUT.geojson IN.gpkg LAYER\0",
+            b"the file is an SQLite database, such as a GeoPackage: ogr2ogr -f GeoJSON OUT.geojson IN.gpkg LAYER\0",
         Hint::FlatGeobuf => b"the file is a FlatGeobuf: ogr2ogr -f GeoJSON OUT.geojson IN.fgb\0",
         Hint::Parquet => b"the file is a Parquet file: ogr2ogr -f GeoJSON OUT.geojson IN.parquet\0",
         Hint::Pdf =>
-            b"the file is a PDF document: ask for the data themselves; ogr2ogr -f GeoJSON OUT.geojson IN.pdf reads one that holds them\0",
+            b"the file is a PDF document: ask for the data; ogr2ogr -f GeoJSON OUT.geojson IN.pdf reads a PDF with map layers\0",
         Hint::Kml => b"the file is KML: ogr2ogr -f GeoJSON OUT.geojson IN.kml\0",
         Hint::Gml => b"the file is GML: ogr2ogr -f GeoJSON OUT.geojson IN.gml\0",
         Hint::Html =>
             b"the file is a web page, mostly one that shows an error or asks to log in: curl -fL -o OUT.geojson URL\0",
         Hint::Xml =>
-            b"the file is XML: ogr2ogr -f GeoJSON OUT.geojson IN.xml, where its format is one of maps\0",
+            b"the file is XML: ogr2ogr -f GeoJSON OUT.geojson IN.xml, if it is a map format\0",
         Hint::Utf16 => b"the file is in UTF-16: iconv -f UTF-16 -t UTF-8 IN > OUT.geojson\0",
         Hint::Latin1 =>
             b"these letters are not in UTF-8: iconv -f WINDOWS-1252 -t UTF-8 IN > OUT.geojson\0",
@@ -43,7 +43,7 @@ fn text_of(hint: Hint) -> &'static [u8]
         Hint::Infinity =>
             b"JSON has no Infinity; null says that there is no number: npx json5 -o OUT.geojson IN\0",
         Hint::SingleQuotes =>
-            b"JSON has no single quotes: npx json5 -o OUT.geojson IN, or json.dumps where Python wrote it\0",
+            b"JSON has no single quotes: npx json5 -o OUT.geojson IN, or json.dumps if Python wrote it\0",
         Hint::Comment => b"JSON has no comments: npx json5 -o OUT.geojson IN\0",
         Hint::ExtraComma => b"there is a comma too many: npx json5 -o OUT.geojson IN\0",
         Hint::SecondText =>
@@ -54,11 +54,11 @@ fn text_of(hint: Hint) -> &'static [u8]
         Hint::EsriJson =>
             b"the file is Esri JSON: ogr2ogr -f GeoJSON OUT.geojson IN.json, or ask the server with f=geojson\0",
         Hint::TextInString =>
-            b"a text stands inside a string: jq fromjson IN > OUT.geojson, where it is the whole file\0",
+            b"the text is inside a string: jq fromjson IN > OUT.geojson, if that is the whole file\0",
         Hint::SwappedAxes => b"latitude and longitude look swapped; the longitude comes first: \
               jq '(.. | objects | .coordinates? // empty | .. | arrays | select(.[0] | numbers)) |= [.[1], .[0]] + .[2:]' IN > OUT.geojson\0",
         Hint::ManyDigits =>
-            b"the number has more than 30 digits; 17 give every number of a computer back, and 7 decimal places are a centimetre\0",
+            b"the number has more than 30 digits; 17 are enough for any double, and 7 decimal places are a centimetre\0",
         Hint::LargeNumber => b"the number is too large, above 10 to the power of 400\0",
         Hint::SmallNumber => b"the number is nearly zero, below 10 to the power of -400: write 0\0",
     }

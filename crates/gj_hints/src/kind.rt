@@ -51,21 +51,21 @@ impl Hint {
     {
         match self {
             Hint::Gzip => "the file is compressed by gzip: gzip -dc < IN > OUT.geojson",
-            Hint::Zip => "the file is a zip archive: unzip IN, and then look at what was in it",
+            Hint::Zip => "the file is a zip archive: unzip IN, and see what is in it",
             Hint::Shapefile => "the file is a shapefile: ogr2ogr -f GeoJSON OUT.geojson IN.shp",
             Hint::GeoPackage =>
-                "the file is an SQLite database, as a GeoPackage is: ogr2ogr -f GeoJSON OUT.geojson IN.gpkg LAYER",
+                "the file is an SQLite database, such as a GeoPackage: ogr2ogr -f GeoJSON OUT.geojson IN.gpkg LAYER",
             Hint::FlatGeobuf => "the file is a FlatGeobuf: ogr2ogr -f GeoJSON OUT.geojson IN.fgb",
             Hint::Parquet =>
                 "the file is a Parquet file: ogr2ogr -f GeoJSON OUT.geojson IN.parquet",
             Hint::Pdf =>
-                "the file is a PDF document: ask for the data themselves; ogr2ogr -f GeoJSON OUT.geojson IN.pdf reads one that holds them",
+                "the file is a PDF document: ask for the data; ogr2ogr -f GeoJSON OUT.geojson IN.pdf reads a PDF with map layers",
             Hint::Kml => "the file is KML: ogr2ogr -f GeoJSON OUT.geojson IN.kml",
             Hint::Gml => "the file is GML: ogr2ogr -f GeoJSON OUT.geojson IN.gml",
             Hint::Html =>
                 "the file is a web page, mostly one that shows an error or asks to log in: curl -fL -o OUT.geojson URL",
             Hint::Xml =>
-                "the file is XML: ogr2ogr -f GeoJSON OUT.geojson IN.xml, where its format is one of maps",
+                "the file is XML: ogr2ogr -f GeoJSON OUT.geojson IN.xml, if it is a map format",
             Hint::Utf16 => "the file is in UTF-16: iconv -f UTF-16 -t UTF-8 IN > OUT.geojson",
             Hint::Latin1 =>
                 "these letters are not in UTF-8: iconv -f WINDOWS-1252 -t UTF-8 IN > OUT.geojson",
@@ -74,7 +74,7 @@ impl Hint {
             Hint::Infinity =>
                 "JSON has no Infinity; null says that there is no number: npx json5 -o OUT.geojson IN",
             Hint::SingleQuotes =>
-                "JSON has no single quotes: npx json5 -o OUT.geojson IN, or json.dumps where Python wrote it",
+                "JSON has no single quotes: npx json5 -o OUT.geojson IN, or json.dumps if Python wrote it",
             Hint::Comment => "JSON has no comments: npx json5 -o OUT.geojson IN",
             Hint::ExtraComma => "there is a comma too many: npx json5 -o OUT.geojson IN",
             Hint::SecondText =>
@@ -85,11 +85,11 @@ impl Hint {
             Hint::EsriJson =>
                 "the file is Esri JSON: ogr2ogr -f GeoJSON OUT.geojson IN.json, or ask the server with f=geojson",
             Hint::TextInString =>
-                "a text stands inside a string: jq fromjson IN > OUT.geojson, where it is the whole file",
+                "the text is inside a string: jq fromjson IN > OUT.geojson, if that is the whole file",
             Hint::SwappedAxes => "latitude and longitude look swapped; the longitude comes first: \
                  jq '(.. | objects | .coordinates? // empty | .. | arrays | select(.[0] | numbers)) |= [.[1], .[0]] + .[2:]' IN > OUT.geojson",
             Hint::ManyDigits => {
-                "the number has more than 30 digits; 17 give every number of a computer back, and 7 decimal places are a centimetre"
+                "the number has more than 30 digits; 17 are enough for any double, and 7 decimal places are a centimetre"
             }
             Hint::LargeNumber => "the number is too large, above 10 to the power of 400",
             Hint::SmallNumber =>
