@@ -18,3 +18,4 @@ pub mod CutPairs
 pub mod UsualMarks
 pub mod PointedNumbers
 pub mod LastDigits
+pub mod UnsignedNumbers

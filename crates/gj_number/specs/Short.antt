@@ -1,7 +1,7 @@
 -- Ordinary numbers: which bytes are one, which decimal one is, and what it says of a piece that it starts with one.
-use Rattle.std.specs.Prelude.{◌≡◌, ℕ, ◌+◌, ◌-◌, ◌<◌, ◌≤◌, ◌⊎◌, Bool, ◌==◌, if◌then◌else◌, pos, ◌-ℤ◌, Some, List, ◌++◌, length, take, drop, get_or}
-use Rattle.gj_number.specs.Bytes.{comma, space, close_bracket, IsNumberByte}
-use Rattle.gj_number.specs.Grammar.{IsNumber, IsNatural, BeginsNumber}
+use Rattle.std.specs.Prelude.{◌≡◌, ℕ, ◌+◌, ◌-◌, ◌<◌, ◌≤◌, ◌⊎◌, Bool, ◌==◌, if◌then◌else◌, pos, ◌-ℤ◌, Some, List, [], ◌++◌, length, take, drop, get_or}
+use Rattle.gj_number.specs.Bytes.{comma, space, close_bracket, decimal_point, IsDigit, IsNumberByte}
+use Rattle.gj_number.specs.Grammar.{IsNumber, IsNatural, IsFraction, BeginsNumber}
 use Rattle.gj_number.specs.Exact.{Exact, zero_exact}
 use Rattle.gj_number.specs.Value.{value_of, stripped, tens_in}
 use Rattle.gj_number.specs.Denotation.{Denotes, SpellsSign, SpellsFraction}
@@ -50,6 +50,18 @@ pub record StartsUsualPair (piece : List ℕ) : Type 0 where
   pub one : StartsUsual piece comma_at comma
   pub between : (second_at ≡ comma_at + 1) ⊎ ((second_at ≡ comma_at + 2) × (get_or piece (comma_at + 1) 0 ≡ space))
   pub other : StartsUsual (drop second_at piece) length_other close_bracket
+
+-- The piece starts with a number of n bytes that has no sign, up to its exponent: no digit stands after it, and no point
+-- where it has none.
+pub record StartsUnsigned (piece : List ℕ) (n : ℕ) : Type 0 where
+  pub within : n < length piece
+  pub natural : List ℕ
+  pub fraction : List ℕ
+  pub joined : take n piece ≡ natural ++ fraction
+  pub is_natural : IsNatural natural
+  pub is_fraction : IsFraction fraction
+  pub no_digit : IsDigit (get_or piece n 0) → ⊥
+  pub no_point : fraction ≡ [] → get_or piece n 0 ≡ decimal_point → ⊥
 
 -- ---- the decimal
 

@@ -24,10 +24,10 @@ pub record IsLaid (piece : List ℕ) (first natural fraction : ℕ) : Type 0 whe
       × (IsNumberByte (get_or (drop (natural + 1) (drop first piece)) fraction 0) → ⊥))
   pub point : 0 < fraction → get_or (drop first piece) natural 0 ≡ decimal_point
 
-after_all : (xs ys : List ℕ) → get_or (xs ++ ys) (length xs) 0 ≡ get_or ys 0 0
+pub after_all : (xs ys : List ℕ) → get_or (xs ++ ys) (length xs) 0 ≡ get_or ys 0 0
 after_all xs ys = let z : length xs ≡ length xs + 0 = omega arith in ap (λ k. get_or (xs ++ ys) k 0) z ∙ get_or-append-add xs ys 0 0
 
-run_of : (xs ys : List ℕ) → All IsDigit xs → 0 < length ys → (IsDigit (get_or ys 0 0) → ⊥) → IsRun (xs ++ ys) (length xs)
+pub run_of : (xs ys : List ℕ) → All IsDigit xs → 0 < length ys → (IsDigit (get_or ys 0 0) → ⊥) → IsRun (xs ++ ys) (length xs)
 run_of xs ys all some none = record {
   within = omega (arith, length-append xs ys);
   digits = (let P : List ℕ → Type 0 = λ zs. All IsDigit zs in subst P (sym (take-append_seam xs ys)) all);
@@ -42,14 +42,14 @@ some_digit : (natural : List ℕ) → IsNatural natural → 0 < length natural
 some_digit [] h = absurd h
 some_digit (b ∷ xs) h = omega arith
 
-some_digits : (digits : List ℕ) → IsDigits digits → 0 < length digits
+pub some_digits : (digits : List ℕ) → IsDigits digits → 0 < length digits
 some_digits [] h = absurd h
 some_digits (b ∷ xs) h = omega arith
 
 no_digit : (b : ℕ) → (IsNumberByte b → ⊥) → IsDigit b → ⊥
 no_digit b n d = n (inl d)
 
-point_no_digit : (b : ℕ) → b ≡ decimal_point → IsDigit b → ⊥
+pub point_no_digit : (b : ℕ) → b ≡ decimal_point → IsDigit b → ⊥
 point_no_digit b e d = let l = d.0 in omega arith
 
 -- the bytes after the sign

@@ -3,8 +3,8 @@
 //! Nearly all are read as sixteen bytes in lanes ([`short_number`]). A longer one, or one before an unusual byte, is
 //! read by its runs of digits ([`long_number`]), so that each ordinary number is read. An exponent moves the point of
 //! the digits before it, so a number with a small exponent is read as the ordinary number that it is equal to.
-ghost use Rattle.std.specs.Prelude.{◌≡◌, ◌↔◌, ℕ, ◌+◌, ◌-◌, ◌*◌, ◌^◌, ◌<◌, ◌≤◌, ◌∷◌, [], length, take, get_or, IsTrue};
-ghost use Rattle.gj_number.specs.Bytes.{zero_digit, IsDigit, IsExponentLetter, IsNumberByte};
+ghost use Rattle.std.specs.Prelude.{◌≡◌, ◌↔◌, ℕ, ◌+◌, ◌-◌, ◌*◌, ◌^◌, ◌<◌, ◌≤◌, ◌⊎◌, ◌∷◌, [], length, take, get_or, IsTrue};
+ghost use Rattle.gj_number.specs.Bytes.{zero_digit, IsDigit, IsFirstDigit, IsExponentLetter, IsNumberByte};
 ghost use Rattle.gj_number.specs.Short.{exact_of, StartsWithNumber, StartsOrdinary};
 ghost use Rattle.gj_number.specs.Internal.DigitRuns.{IsRun, SpellsOn, StartsSigned};
 ghost use Rattle.gj_number.specs.Internal.MovedPoint.{SpellsPlain};
@@ -233,6 +233,7 @@ fn is_natural(first: u8, count: usize) -> bool
 pub(crate) fn leads(first: u8, count: usize) -> bool
     ensures some { IsTrue result → count ≡ 0 → IsDigit first }
     ensures one { IsTrue result → first ≡ zero_digit → count ≡ 1 }
+    ensures taken { (count ≡ 1) ⊎ IsFirstDigit first → IsTrue result }
 {
     count == 1 || matches!(first, b'1'..=b'9')
 }

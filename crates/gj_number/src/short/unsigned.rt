@@ -1,18 +1,20 @@
 //! How many bytes a number has, where its value does not matter.
 
-ghost use Rattle.std.specs.Prelude.{◌<◌, ◌≤◌, length, take};
+ghost use Rattle.std.specs.Prelude.{◌≡◌, ℕ, ◌<◌, ◌≤◌, length, take};
 ghost use Rattle.gj_number.specs.Grammar.{IsNumber};
+ghost use Rattle.gj_number.specs.Short.{StartsUnsigned};
 
 use super::prefix::leads;
 use crate::lanes::{from_ten, lanes_of};
 
-/// How many bytes the number has that the piece starts with, where it has no sign and ends among the first sixteen bytes, or
-/// 0. Its exponent is not looked at: the number may go on in one.
+/// How many bytes a number at the start of the piece has, up to its exponent, where it has no sign and these are fewer than
+/// sixteen; or 0.
 #[inline(always)]
 pub fn unsigned_run(piece: &[u8]) -> usize
     requires room { 17 ≤ length piece.now }
     ensures few { result < 16 }
     ensures number { 0 < result → IsNumber (take result piece.now) }
+    ensures taken { (n : ℕ) → n < 16 → StartsUnsigned piece.now n → result ≡ n }
 {
     let others = from_ten(lanes_of(piece));
     if others == 0 {

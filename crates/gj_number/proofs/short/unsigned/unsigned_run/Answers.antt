@@ -1,5 +1,5 @@
 -- The runs are found by the bits of the lanes that are no digits.
-use Rattle.std.proofs.Common.{◌≡◌, ◌<◌, ◌≤◌, ◌+◌, ℕ, zero, suc, false, List, [], take, get_or, length, refl, inl, arith, subst, append-nil, zero-add, ◌∙◌}
+use Rattle.std.proofs.Common.{◌≡◌, ◌<◌, ◌≤◌, ◌+◌, ℕ, zero, suc, true, false, sym, List, [], take, get_or, length, refl, inl, arith, subst, append-nil, zero-add, ◌∙◌}
 use Rattle.std.specs.Prelude.{pos}
 use Rattle.gj_number.specs.Grammar.{IsNumber}
 use Rattle.gj_number.specs.Bytes.{zero_digit, IsDigit}
@@ -9,7 +9,9 @@ use Rattle.gj_number.specs.Internal.MovedPoint.{SpellsPlain}
 use Rattle.gj_number.proofs.Grammar.SpelledParts.{number_from}
 use Rattle.gj_number.proofs.Shorts.NumberPrefixes.{short_plain}
 use Rattle.gj_number.proofs.Shorts.SixteenLanes.{natural_few, natural_ends, natural_spell, both_few, both_spell}
+use Rattle.gj_number.proofs.Shorts.UnsignedNumbers.{some_other, first_allowed, whole_is, rest_some, after_some, both_is}
 use Rattle.gj_number.proofs.short.unsigned.unsigned_run.Goals as goal
+use Rattle.gj_number.proofs.short.unsigned.unsigned_run.Goals.{then-rest-eq0-via-then-rest-eq0, then-rest-eq0-via-else-rest-eq0+then-fraction-eq0}
 
 plain_number : (piece : List ℕ) (digits places n : ℕ) → SpellsPlain piece false digits places n → IsNumber (take n piece)
 plain_number piece digits places n p =
@@ -72,3 +74,37 @@ returns-clause-number c = λ some.
     (both_spell c.args.piece.now _ (omega arith) c.type_inv.piece c.lanes_of.ensures _ c.from_ten-others.ensures c.if-others-eq0.false c.if-rest-eq0.false _
     refl c.if-piece-natural-ne46.false c.if-fraction-eq0.false)
     (some_digit c.args.piece.now _ ends (c.leads.ensures.some c.if-not-leads.false)) (c.leads.ensures.one c.if-not-leads.false) (omega arith) (omega arith)
+
+true_not_false : true ≡ false → ⊥
+true_not_false e = cc
+
+pub returns-then-others-eq0-clause-taken : goal.returns-then-others-eq0-clause-taken
+returns-then-others-eq0-clause-taken c = λ n few u.
+    absurd (some_other c.args.piece.now _ (omega arith) c.type_inv.piece c.lanes_of.ensures _ c.from_ten-others.ensures n few u c.if-others-eq0.true)
+
+pub returns-then-not-leads-clause-taken : goal.returns-then-not-leads-clause-taken
+returns-then-not-leads-clause-taken c = λ n few u.
+    let first = first_allowed c.args.piece.now _ (omega arith) c.type_inv.piece c.lanes_of.ensures _ c.from_ten-others.ensures n few u c.if-others-eq0.false in
+    let t = c.leads.ensures.taken first in
+    let f = c.if-not-leads.true in
+    absurd (true_not_false (sym t ∙ f))
+
+pub returns-then-piece-natural-ne46-clause-taken : goal.returns-then-piece-natural-ne46-clause-taken
+returns-then-piece-natural-ne46-clause-taken c = λ n few u.
+    whole_is c.args.piece.now _ (omega arith) c.type_inv.piece c.lanes_of.ensures _ c.from_ten-others.ensures n few u c.if-others-eq0.false
+    c.if-piece-natural-ne46.true
+
+pub returns-then-rest-eq0-clause-taken : goal.returns-then-rest-eq0-clause-taken
+returns-then-rest-eq0-clause-taken c = λ n few u. elim c.then-rest-eq0.branch [
+  | then-rest-eq0-via-then-rest-eq0 w ↦ absurd
+      (rest_some c.args.piece.now _ (omega arith) c.type_inv.piece c.lanes_of.ensures _ c.from_ten-others.ensures n few u c.if-others-eq0.false
+      c.if-piece-natural-ne46.false w.if-rest-eq0.true)
+  | then-rest-eq0-via-else-rest-eq0+then-fraction-eq0 w ↦ absurd
+      (after_some c.args.piece.now _ (omega arith) c.type_inv.piece c.lanes_of.ensures _ c.from_ten-others.ensures n few u c.if-others-eq0.false
+      c.if-piece-natural-ne46.false w.if-rest-eq0.false w.if-fraction-eq0.true)
+]
+
+pub returns-clause-taken : goal.returns-clause-taken
+returns-clause-taken c = λ n few u.
+    both_is c.args.piece.now _ (omega arith) c.type_inv.piece c.lanes_of.ensures _ c.from_ten-others.ensures n few u c.if-others-eq0.false
+    c.if-piece-natural-ne46.false c.if-rest-eq0.false
