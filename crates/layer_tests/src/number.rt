@@ -4,3 +4,4 @@ mod literal;
 mod pair;
 mod prefix;
 mod short;
+mod unsigned;
