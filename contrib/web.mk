@@ -54,10 +54,11 @@ $(WEB_BUILD)/geolint_64.wasm: $(WEB_BUILD)/libgeolint_c.a
 # The calls of geolint.h that no script makes. They are left out of the module, of which geolint_check alone is a seventh.
 web_unused := check|levels|offset|features_offset|records_offset|features_begin_again|records_begin_again|hint_around|lines_begin
 # Not every browser has memories with 64-bit addresses, so they are lowered to 32 bits.
+# LLVM has put into their callers the functions that are worth it. More of it by binaryen makes the page 2 kB larger, and not faster.
 $(WEB_BUILD)/geolint.wasm: $(WEB_BUILD)/geolint_64.wasm $(WEB)/plain-loads
 	@$(call needs,wasm-opt,binaryen)
 	wasm-dis --all-features $< | grep -vE '^ *\(export "geolint_($(web_unused))"' | $(WEB)/plain-loads >$(WEB_BUILD)/plain.wat
-	wasm-opt --all-features $(WEB_BUILD)/plain.wat --memory64-lowering -O3 --converge -o $@
+	wasm-opt --all-features $(WEB_BUILD)/plain.wat --memory64-lowering -O3 --converge --one-caller-inline-max-function-size 200 -o $@
 
 $(WEB_OUT)/index.html: $(WEB_BUILD)/geolint.wasm $(wildcard $(WEB)/*) $(top)/docs/rules.md
 	@$(call needs,terser,terser)
