@@ -28,7 +28,7 @@ pub use decimal::Decimal;
 pub use literal::{Literal, Step};
 pub use prefix::read_decimal;
 pub use short::Short;
-pub use short::cuts::{Cut, CutPair, read_inner_cut_pair};
+pub use short::cuts::{Cut, CutPair, Signs, read_inner_cut_pair};
 pub use short::pair::{Pair, read_last_pair, read_pair};
 pub use short::prefix::read_short;
 pub use short::unsigned::unsigned_run;

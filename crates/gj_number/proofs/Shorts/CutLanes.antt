@@ -5,6 +5,7 @@ use Rattle.std.proofs.Common.{append-nil, refl, sym, ◌∙◌, ap, subst, arith
 use mir.Val.{zeroes}
 use lib.Lanes.{zip2, sel_l, fold_l, top, Each1, chunk, products, pair_sums, dots, all_below}
 use lib.Bits.{bit_and, bit_or}
+use Rattle.std.specs.Int.Bits.{and_zero_r}
 use Rattle.std.proofs.lemmas.Nat.{and_mask, le_or_l, le_or_r}
 use Rattle.std.proofs.lemmas.Bool.Decides.{nat_tests}
 use Rattle.std.proofs.lemmas.Bool.{cases_lt}
@@ -353,3 +354,53 @@ rests_off (a ∷ b ∷ c ∷ d ∷ e ∷ f ∷ g ∷ h ∷ p ∷ q ∷ r ∷ s �
   ),
 )
 rests_off _ len fits z = absurd (omega arith)
+
+zero_kept : (x : ℕ) → x ≡ 0 → bit_and x 255 ≡ 0
+zero_kept x e = ap (λ y. bit_and y 255) e
+
+pub rests_masked : (xs : List ℕ) → length xs ≡ 16 → Each1 (λ x. x ≡ 0) (rests_in xs)
+    → Each1 (λ x. x ≡ 0) (zip2 (λ a b. bit_and a b) xs rest_lanes)
+rests_masked (a ∷ b ∷ c ∷ d ∷ e ∷ f ∷ g ∷ h ∷ p ∷ q ∷ r ∷ s ∷ t ∷ u ∷ v ∷ w ∷ []) len z = (
+  and_zero_r a,
+  (
+    and_zero_r b,
+    (
+      and_zero_r c,
+      (
+        zero_kept d z.0,
+        (
+          and_zero_r e,
+          (
+            and_zero_r f,
+            (
+              and_zero_r g,
+              (
+                zero_kept h z.1.0,
+                (
+                  and_zero_r p,
+                  (
+                    and_zero_r q,
+                    (
+                      and_zero_r r,
+                      (
+                        zero_kept s z.1.1.0,
+                        (
+                          and_zero_r t,
+                          (
+                            zero_kept u z.1.1.1.0,
+                            (zero_kept v z.1.1.1.1.0, (zero_kept w z.1.1.1.1.1.0, tt)),
+                          ),
+                        ),
+                      ),
+                    ),
+                  ),
+                ),
+              ),
+            ),
+          ),
+        ),
+      ),
+    ),
+  ),
+)
+rests_masked _ len z = absurd (omega arith)

@@ -7,7 +7,8 @@ use lib.Lanes.{Each1}
 use Rattle.std.specs.List.{AllByRecursion}
 use Rattle.std.proofs.Math.Seq.{drop-cons}
 use Rattle.std.proofs.lemmas.Bool.Decides.{nat_tests}
-use Rattle.std.proofs.lemmas.List.{drop-drop, get_or-drop, map-append, replicate-append-replicate, take-append-drop, take-map, take_rest}
+use Rattle.std.proofs.lemmas.List.Elements.{All-get_or}
+use Rattle.std.proofs.lemmas.List.{drop-drop, get_or-drop, get_or-take, length-take-le, map-append, replicate-append-replicate, take-append-drop, take-map, take_rest}
 use Rattle.gj_number.specs.Bytes.{comma, minus_sign, decimal_point, close_bracket, IsDigit}
 use Rattle.gj_number.specs.Denotation.{SpellsSign}
 use Rattle.gj_number.specs.Short.{StartsUsual, StartsUsualPair}
@@ -162,6 +163,15 @@ module _ (piece : List ℕ) (at point end n behind : ℕ) (u : StartsUsual (drop
             ∙ sym (get_or-drop at piece (sign + before (drop at piece) n behind u) 0)
             ∙ sym (get_or-drop sign (drop at piece) (before (drop at piece) n behind u) 0) ∙ d.point;
         ends = ap (λ i. get_or piece i 0) {x = end} {y = at + n} (omega arith) ∙ sym (get_or-drop at piece n 0) ∙ u.ends;
+        lead =
+            let P : ℕ → Type 0 = λ x. IsDigit x in
+            let natural : ℕ = before (drop at piece) n behind u in
+            let some : 0 < length (take natural (drop sign (drop at piece))) =
+            (let w = d.digits.within in let p = d.some in omega (arith, length-take-le natural (drop sign (drop at piece)) (omega arith))) in
+            let at_first : get_or (take natural (drop sign (drop at piece))) 0 0 ≡ get_or piece (at + bool_byte (get_or piece at 0 == minus_sign)) 0 =
+            get_or-take natural (drop sign (drop at piece)) 0 0 d.some ∙ get_or-drop sign (drop at piece) 0 0 ∙ get_or-drop at piece (sign + 0) 0
+            ∙ ap (λ i. get_or piece i 0) {x = at + (sign + 0)} {y = at + bool_byte (get_or piece at 0 == minus_sign)} (omega arith) in
+            (subst P at_first (All-get_or IsDigit _ 0 0 some d.digits.digits)).0;
         one =
             λ z. (laid (drop at piece) (negative (drop at piece) n behind u) n refl u.number).one
             (get_or-drop sign (drop at piece) 0 0 ∙ get_or-drop at piece (sign + 0) 0
@@ -281,7 +291,7 @@ module _ (piece : List ℕ) (u : StartsUsualPair piece) (tight : u.second_at ≡
 
   module _ (point comma_is other_point next end_is : ℕ) (h : HasMarks point comma_is other_point next point_at places other_point_at (other_places + 1))
       (before_next : next ≤ 64 → end_is ≡ (next + 18446744073709551615) % 18446744073709551616) (few_next : next ≤ 64) where
-    second_there : u.second_at ≡ comma_is + 1
+    pub second_there : u.second_at ≡ comma_is + 1
     second_there = let a = h.comma_is in let l = length_is piece u.comma_at comma u.one in omega arith
 
     one_point : point ≡ 0 + bool_byte (negative piece u.comma_at comma u.one) + before piece u.comma_at comma u.one

@@ -83,4 +83,5 @@ pub record IsMarkedSpan (piece : List ℕ) (at point end behind : ℕ) : Type 0 
   pub end_is : end ≡ point + 1 + fraction
   pub point_there : get_or piece point 0 ≡ decimal_point
   pub ends : get_or piece end 0 ≡ behind
+  pub lead : zero_digit ≤ get_or piece (at + bool_byte (get_or piece at 0 == minus_sign)) 0
   pub one : get_or piece (at + bool_byte (get_or piece at 0 == minus_sign)) 0 ≡ zero_digit → natural ≡ 1

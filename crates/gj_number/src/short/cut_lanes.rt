@@ -152,29 +152,17 @@ pub(crate) fn cuts_of(first: u8x16, second: u8x16) -> (u64, u64)
     (value, other)
 }
 
-/// Whether a digit after the seventh after the point is in these lanes that is not 0.
-#[inline(always)]
-fn has_rest(digits: u8x16) -> bool
-    ensures some { result ≡ true → Each1 (λ digit. digit ≡ 0) (rests_in digits) → ⊥ }
-    ensures none { result ≡ false → Each1 (λ digit. digit ≡ 0) (rests_in digits) }
-{
-    let most = u8x16::from_array([
-        255, 255, 255, 0, 255, 255, 255, 0, 255, 255, 255, 0, 255, 0, 0, 0,
-    ]);
-    digits.simd_gt(most).to_bitmask() != 0
-}
-
-/// Whether no such digit is in these lanes, by one comparison.
+/// Whether no digit after the seventh after the point is in these lanes, or each that is is 0.
 #[inline(always)]
 fn has_no_rest(digits: u8x16) -> bool
-    ensures { IsTrue result → Each1 (λ digit. digit ≡ 0) (rests_in digits) }
+    ensures { IsTrue result ↔ Each1 (λ digit. digit ≡ 0) (rests_in digits) }
 {
     are_zero(
         digits & u8x16::from_array([0, 0, 0, 255, 0, 0, 0, 255, 0, 0, 0, 255, 0, 255, 255, 255]),
     )
 }
 
-/// Whether each of two numbers has such a digit. Mostly none has, which one look at the greater of each two lanes says.
+/// Whether each of two numbers has such a digit that is not 0. Mostly none has, which one look at the greater of each two lanes says.
 #[inline(always)]
 pub(crate) fn rests_of(first: u8x16, second: u8x16) -> (bool, bool)
     ensures first_some { result.0 ≡ true → Each1 (λ digit. digit ≡ 0) (rests_in first) → ⊥ }
@@ -185,6 +173,6 @@ pub(crate) fn rests_of(first: u8x16, second: u8x16) -> (bool, bool)
     if has_no_rest(first.simd_max(second)) {
         (false, false)
     } else {
-        (has_rest(first), has_rest(second))
+        (!has_no_rest(first), !has_no_rest(second))
     }
 }

@@ -3,12 +3,13 @@
 //! A bit for each byte that is a comma or a point says where the parts of two numbers end, if two numbers stand there.
 //! What does stand there is checked after that.
 ghost use mir.Val.{bool_byte};
-ghost use Rattle.std.specs.Prelude.{◌≡◌, ◌==◌, ℕ, ◌+◌, ◌*◌, ◌^◌, ◌<◌, ◌≤◌, ◌↔◌, true, get_or, length, map, take, drop, IsTrue, IfSome};
+ghost use Rattle.std.specs.Prelude.{◌≡◌, ◌==◌, ℕ, ◌+◌, ◌*◌, ◌^◌, ◌<◌, ◌≤◌, ◌↔◌, ◌⊎◌, true, get_or, length, map, take, drop, IsTrue, IfSome};
 ghost use Rattle.std.specs.Simd.Lanes.{mask_l};
 ghost use Rattle.std.specs.Option.{IsSome};
-ghost use Rattle.gj_number.specs.Bytes.{comma, open_bracket};
+ghost use Rattle.gj_number.specs.Bytes.{comma, open_bracket, zero_digit};
 ghost use Rattle.gj_number.specs.Cuts.{StartsWithCutPair, BeginsNext};
 ghost use Rattle.gj_number.specs.Short.{StartsUsualPair};
+ghost use Rattle.gj_number.specs.Internal.DigitRuns.{StartsSigned};
 ghost use Rattle.gj_number.specs.Internal.CutLanes.{is_mark, AreMarks, HasMarks, IsMarkedSpan, IsSpan, IsWhole};
 
 use super::cut_lanes::{are_digits, are_last_digits, cuts_of, placed_digits, rests_of};
@@ -31,10 +32,16 @@ pub struct CutPair {
     pub end: usize,
 }
 
-/// A number's sign, the index of its first digit, and how many bytes stand before its point and after it.
+/// Which of two numbers have a minus sign.
+#[derive(Clone, Copy)]
+pub struct Signs {
+    pub first: bool,
+    pub second: bool,
+}
+
+/// The index of a number's first digit, and how many bytes stand before its point and after it.
 #[derive(Clone, Copy)]
 struct Span {
-    negative: bool,
     first: usize,
     natural: usize,
     fraction: usize,
@@ -92,18 +99,36 @@ fn first_marks(piece: &[u8]) -> Marks
     }
 }
 
-/// The number that begins at an index, has its point at another and ends before a third, where this byte stands. There may
-/// be no digit before the point, or none after it.
+/// Whether the first digit of a number may be this byte, where so many bytes stand before its point: a zero is alone there
+/// (RFC 8259, section 6). Mostly it is another digit. What is greater than a digit is for the caller to tell.
 #[inline(always)]
-fn span_between(piece: &[u8], at: usize, point: usize, end: usize, behind: u8) -> Option<Span>
+fn may_lead(byte: u8, natural: usize) -> bool
+    ensures { IsTrue result ↔ ((zero_digit < byte) ⊎ ((byte ≡ zero_digit) × (natural ≡ 1))) }
+{
+    byte > b'0' || (byte == b'0' && natural == 1)
+}
+
+/// The number that begins at an index, with a minus sign if it is to be negative and else without, has its point at another
+/// index and ends before a third, where this byte stands. There may be no digit before the point, or none after it.
+#[inline(always)]
+fn span_between(
+    piece: &[u8],
+    at: usize,
+    negative: bool,
+    point: usize,
+    end: usize,
+    behind: u8,
+) -> Option<Span>
     requires room { 64 ≤ length piece.now }
     requires at { at ≤ 32 }
     requires point { point ≤ 64 }
     ensures point { IfSome result (λ span. point ≡ span.first + span.natural) }
-    ensures span { IfSome result (λ span. IsSpan piece.now at span.negative span.first span.natural span.fraction end behind) }
-    ensures taken { IsMarkedSpan piece.now at point end behind → IsSome result }
+    ensures span { IfSome result (λ span. IsSpan piece.now at negative span.first span.natural span.fraction end behind) }
+    ensures taken { IsMarkedSpan piece.now at point end behind → StartsSigned (drop at piece.now) negative → IsSome result }
 {
-    let negative = piece[at] == b'-';
+    if negative && piece[at] != b'-' {
+        return None;
+    }
     let first = at + negative as usize;
     let natural = point.wrapping_sub(first);
     let fraction = end.wrapping_sub(point + 1);
@@ -113,11 +138,10 @@ fn span_between(piece: &[u8], at: usize, point: usize, end: usize, behind: u8) -
     if piece[point] != b'.' || piece[end] != behind {
         return None;
     }
-    if piece[first] == b'0' && natural != 1 {
+    if !may_lead(piece[first], natural) {
         return None;
     }
     Some(Span {
-        negative,
         first,
         natural,
         fraction,
@@ -173,23 +197,26 @@ fn are_whole(
 
 /// Reads two numbers from the start of a piece as their cut values, with a comma between them and no space, a closing
 /// bracket after the second, and then a comma and another array, where one to three digits stand before the point of each
-/// and eleven at most after it. Of others, `None` says that another reader is to read them.
+/// and eleven at most after it. Each has a minus sign where `signs` says so, and else none.
+/// Of others, `None` says that another reader is to read them.
 #[inline(always)]
-pub fn read_inner_cut_pair(piece: &[u8]) -> Option<CutPair>
+pub fn read_inner_cut_pair(piece: &[u8], signs: Signs) -> Option<CutPair>
     requires { 64 ≤ length piece.now }
     ensures numbers { IfSome result (λ pair. StartsWithCutPair piece.now pair) }
     ensures within { IfSome result (λ pair. pair.end + 3 ≤ length piece.now) }
+    ensures near { IfSome result (λ pair. pair.end < 64) }
     ensures next { IfSome result (λ pair. BeginsNext piece.now pair.end) }
     ensures taken { (usual : StartsUsualPair piece.now) → usual.second_at ≡ usual.comma_at + 1
-        → BeginsNext piece.now (usual.second_at + usual.length_other) → IsSome result }
+        → BeginsNext piece.now (usual.second_at + usual.length_other) → StartsSigned piece.now signs.first
+        → StartsSigned (drop usual.second_at piece.now) signs.second → IsSome result }
 {
     let marks = first_marks(piece);
-    let Some(one) = span_between(piece, 0, marks.point, marks.comma, b',') else {
+    let Some(one) = span_between(piece, 0, signs.first, marks.point, marks.comma, b',') else {
         return None;
     };
     let at = marks.comma + 1;
     let end = marks.next.wrapping_sub(1);
-    let Some(other) = span_between(piece, at, marks.other_point, end, b']') else {
+    let Some(other) = span_between(piece, at, signs.second, marks.other_point, end, b']') else {
         return None;
     };
     if !begins_next(piece, end + 1) {
@@ -207,11 +234,11 @@ pub fn read_inner_cut_pair(piece: &[u8]) -> Option<CutPair>
     }
     Some(CutPair {
         first: Cut {
-            value: with_sign(one.negative, value),
+            value: with_sign(signs.first, value),
             precise,
         },
         second: Cut {
-            value: with_sign(other.negative, other_value),
+            value: with_sign(signs.second, other_value),
             precise: other_precise,
         },
         comma: marks.comma,

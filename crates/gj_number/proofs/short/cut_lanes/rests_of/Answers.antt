@@ -8,10 +8,10 @@ pub returns-then-has_no_rest-clause-first_none : goal.returns-then-has_no_rest-c
 returns-then-has_no_rest-clause-first_none c t =
     let P : List ℕ → Type 0 = λ xs. Each1 (λ x. x ≡ 0) (rests_in xs) in
     (rests_in_both c.args.first c.args.second c.fits-first.0 c.fits-second.0
-    (subst P (greater_is c.args.first c.args.second) (c.has_no_rest.ensures c.if-has_no_rest.true))).0
+    (subst P (greater_is c.args.first c.args.second) (c.has_no_rest.ensures.0 c.if-has_no_rest.true))).0
 
 pub returns-then-has_no_rest-clause-second_none : goal.returns-then-has_no_rest-clause-second_none
 returns-then-has_no_rest-clause-second_none c t =
     let P : List ℕ → Type 0 = λ xs. Each1 (λ x. x ≡ 0) (rests_in xs) in
     (rests_in_both c.args.first c.args.second c.fits-first.0 c.fits-second.0
-    (subst P (greater_is c.args.first c.args.second) (c.has_no_rest.ensures c.if-has_no_rest.true))).1
+    (subst P (greater_is c.args.first c.args.second) (c.has_no_rest.ensures.0 c.if-has_no_rest.true))).1

@@ -1,11 +1,12 @@
-use Rattle.std.proofs.Common.{◌+◌, ◌%◌, ◌∙◌, ◌≤◌, ℕ, get_or, refl, sym, ap, rules, w64, arith}
+use Rattle.std.proofs.Common.{◌+◌, ◌%◌, ◌∙◌, ◌≤◌, ℕ, get_or, drop, refl, sym, ap, subst, rules, w64, arith}
 use mir.Val.{SFits}
 use Rattle.std.proofs.lemmas.Int.{to_z-of_z}
 use Rattle.gj_number.specs.Exact.{signed}
+use Rattle.gj_number.specs.Internal.DigitRuns.{StartsSigned}
 use Rattle.gj_number.proofs.Shorts.CutPairs.{number_is, pair_is, point_of}
 use Rattle.gj_number.proofs.Shorts.NumberPairs.{comma_other, bracket_other}
 use Rattle.gj_number.proofs.Shorts.NumberPrefixes.{sign_length}
-use Rattle.gj_number.proofs.Shorts.UsualMarks.{pair_marks, one_span, other_span, one_small, other_small, second_few, end_there}
+use Rattle.gj_number.proofs.Shorts.UsualMarks.{pair_marks, one_span, other_span, one_small, other_small, second_few, second_there, end_there}
 use Rattle.gj_number.proofs.short.cuts.read_inner_cut_pair.Goals as goal
 
 abbrev end_before : ℕ → ℕ
@@ -23,46 +24,48 @@ returns-clause-numbers c =
     let rests = c.rests_of-precise.result in
     let told = c.rests_of-precise.ensures in
     let comma_few : marks.comma ≤ 31 =
-    (let a = s.end_is in let b = s.first_is in let d = s.few in let e = s.few_after in omega (arith, sign_length one.negative)) in
+    (let a = s.end_is in let b = s.first_is in let d = s.few in let e = s.few_after in omega (arith, sign_length c.args.signs.first)) in
     let end = end_before marks.next in
     let ordered : marks.comma + 1 ≤ end = (let a = t.end_is in let b = t.first_is in omega arith) in
     let small = c.are_digits.ensures.first c.if-not-are_digits.false in
     let more_small = c.are_digits.ensures.second c.if-not-are_digits.false in
-    let some = c.placed_digits-first.ensures.some (point_of piece 0 one.negative one.first one.natural one.fraction marks.comma 44 s) small in
-    let others = c.placed_digits-second.ensures.some (point_of piece (marks.comma + 1) other.negative other.first other.natural other.fraction end 93 t)
+    let some = c.placed_digits-first.ensures.some (point_of piece 0 c.args.signs.first one.first one.natural one.fraction marks.comma 44 s) small in
+    let others = c.placed_digits-second.ensures.some (point_of piece (marks.comma + 1) c.args.signs.second other.first other.natural other.fraction end 93 t)
     more_small in
-    let first = number_is piece fits 0 one.negative one.first one.natural one.fraction marks.comma 44 s some.0 some.1 (omega arith) c.requires comma_other
+    let first = number_is piece fits 0 c.args.signs.first one.first one.natural one.fraction marks.comma 44 s some.0 some.1 (omega arith) c.requires comma_other
     c.placed_digits-first.result (c.placed_digits-first.ensures.digits some.0 some.1) small rests.0
     (c.are_whole.ensures.first c.if-not-are_whole.false) told.first_some told.first_none in
-    let second = number_is piece fits (marks.comma + 1) other.negative other.first other.natural other.fraction end 93 t
+    let second = number_is piece fits (marks.comma + 1) c.args.signs.second other.first other.natural other.fraction end 93 t
     others.0 others.1 (omega arith) c.requires
     bracket_other c.placed_digits-second.result (c.placed_digits-second.ensures.digits others.0 others.1) more_small rests.1
     (c.are_whole.ensures.second c.if-not-are_whole.false) told.second_some told.second_none in
     let fits_one : SFits w64 c.with_sign.result = search rules in
     let fits_other : SFits w64 c.with_sign-2.result = search rules in
-    let value = ap (signed one.negative) (sym c.cuts_of-value.ensures.first) ∙ sym c.with_sign.ensures ∙ sym (to_z-of_z w64 c.with_sign.result fits_one) in
-    let more = ap (signed other.negative) (sym c.cuts_of-value.ensures.second) ∙ sym c.with_sign-2.ensures
+    let value = ap (signed c.args.signs.first) (sym c.cuts_of-value.ensures.first) ∙ sym c.with_sign.ensures ∙ sym (to_z-of_z w64 c.with_sign.result fits_one) in
+    let more = ap (signed c.args.signs.second) (sym c.cuts_of-value.ensures.second) ∙ sym c.with_sign-2.ensures
     ∙ sym (to_z-of_z w64 c.with_sign-2.result fits_other) in
-    pair_is piece marks.comma end one.negative other.negative _ _ rests.0 rests.1 first second _ _ value more s.ends t.ends ordered
+    pair_is piece marks.comma end c.args.signs.first c.args.signs.second _ _ rests.0 rests.1 first second _ _ value more s.ends t.ends ordered
 
 pub returns-in_default-clause-taken : goal.returns-in_default-clause-taken
-returns-in_default-clause-taken c = λ u tight follows.
+returns-in_default-clause-taken c = λ u tight follows sign other_sign.
     let piece = c.args.piece.now in
     let marks = c.first_marks-marks.result in
     let h = c.first_marks-marks.ensures.first _ _ _ _ (pair_marks piece u tight follows (omega (arith, c.requires))) in
     let few = c.first_marks-marks.ensures.next in
-    c.in_default.ensures.taken (one_span piece u tight follows _ _ _ _ (end_before marks.next) h (λ _. refl) few)
+    c.in_default.ensures.taken (one_span piece u tight follows _ _ _ _ (end_before marks.next) h (λ _. refl) few) sign
 
 pub returns-in_default-span_between-clause-taken : goal.returns-in_default-span_between-clause-taken
-returns-in_default-span_between-clause-taken c = λ u tight follows.
+returns-in_default-span_between-clause-taken c = λ u tight follows sign other_sign.
     let piece = c.args.piece.now in
     let marks = c.first_marks-marks.result in
     let h = c.first_marks-marks.ensures.first _ _ _ _ (pair_marks piece u tight follows (omega (arith, c.requires))) in
     let few = c.first_marks-marks.ensures.next in
     c.in_default-span_between.ensures.taken (other_span piece u tight follows _ _ _ _ _ h (λ _. refl) few)
+    (let P : ℕ → Type 0 = λ k. StartsSigned (drop k piece) c.args.signs.second in
+    subst P (second_there piece u tight follows _ _ _ _ (end_before marks.next) h (λ _. refl) few) other_sign)
 
 pub returns-then-not-begins_next-clause-taken : goal.returns-then-not-begins_next-clause-taken
-returns-then-not-begins_next-clause-taken c = λ u tight follows.
+returns-then-not-begins_next-clause-taken c = λ u tight follows sign other_sign.
     let piece = c.args.piece.now in
     let marks = c.first_marks-marks.result in
     let h = c.first_marks-marks.ensures.first _ _ _ _ (pair_marks piece u tight follows (omega (arith, c.requires))) in
@@ -76,7 +79,7 @@ returns-then-not-begins_next-clause-taken c = λ u tight follows.
     cc
 
 pub returns-then-not-are_digits-clause-taken : goal.returns-then-not-are_digits-clause-taken
-returns-then-not-are_digits-clause-taken c = λ u tight follows.
+returns-then-not-are_digits-clause-taken c = λ u tight follows sign other_sign.
     let piece = c.args.piece.now in
     let one = c.in-Some.one in
     let other = c.in-Some-span_between.other in
@@ -84,10 +87,10 @@ returns-then-not-are_digits-clause-taken c = λ u tight follows.
     let h = c.first_marks-marks.ensures.first _ _ _ _ (pair_marks piece u tight follows (omega (arith, c.requires))) in
     let few = c.first_marks-marks.ensures.next in
     let first = one_small piece u tight follows _ _ _ _ (end_before marks.next) h (λ _. refl) few c.type_inv.piece
-    one.negative one.first one.natural one.fraction c.requires c.placed_digits-first.result
+    c.args.signs.first one.first one.natural one.fraction c.requires c.placed_digits-first.result
     c.placed_digits-first.ensures.digits c.in-Some.ensures.span c.in-Some.ensures.point in
     let second = other_small piece u tight follows _ _ _ _ _ h (λ _. refl) few c.type_inv.piece
-    other.negative other.first other.natural other.fraction c.requires
+    c.args.signs.second other.first other.natural other.fraction c.requires
     c.placed_digits-second.result c.placed_digits-second.ensures.digits c.in-Some-span_between.ensures.span c.in-Some-span_between.ensures.point
     (second_few piece u tight follows _ _ _ _ (end_before marks.next) h (λ _. refl) few) in
     let yes = c.are_digits.ensures.taken first.0 second.0 in
@@ -95,7 +98,7 @@ returns-then-not-are_digits-clause-taken c = λ u tight follows.
     cc
 
 pub returns-then-not-are_whole-clause-taken : goal.returns-then-not-are_whole-clause-taken
-returns-then-not-are_whole-clause-taken c = λ u tight follows.
+returns-then-not-are_whole-clause-taken c = λ u tight follows sign other_sign.
     let piece = c.args.piece.now in
     let one = c.in-Some.one in
     let other = c.in-Some-span_between.other in
@@ -103,10 +106,10 @@ returns-then-not-are_whole-clause-taken c = λ u tight follows.
     let h = c.first_marks-marks.ensures.first _ _ _ _ (pair_marks piece u tight follows (omega (arith, c.requires))) in
     let few = c.first_marks-marks.ensures.next in
     let first = one_small piece u tight follows _ _ _ _ (end_before marks.next) h (λ _. refl) few c.type_inv.piece
-    one.negative one.first one.natural one.fraction c.requires c.placed_digits-first.result
+    c.args.signs.first one.first one.natural one.fraction c.requires c.placed_digits-first.result
     c.placed_digits-first.ensures.digits c.in-Some.ensures.span c.in-Some.ensures.point in
     let second = other_small piece u tight follows _ _ _ _ _ h (λ _. refl) few c.type_inv.piece
-    other.negative other.first other.natural other.fraction c.requires
+    c.args.signs.second other.first other.natural other.fraction c.requires
     c.placed_digits-second.result c.placed_digits-second.ensures.digits c.in-Some-span_between.ensures.span c.in-Some-span_between.ensures.point
     (second_few piece u tight follows _ _ _ _ (end_before marks.next) h (λ _. refl) few) in
     let yes = c.are_whole.ensures.taken first.1 second.1 in
