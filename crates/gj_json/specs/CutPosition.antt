@@ -1,5 +1,5 @@
 -- Positions that are reported as their cut values: which arrays of numbers they stand for, and the events of those.
-use Rattle.std.specs.Prelude.{◌≡◌, ◌<◌, ℕ, List, [], ◌∷◌, ◌++◌, None}
+use Rattle.std.specs.Prelude.{◌≡◌, ◌+◌, ◌<◌, ℕ, List, [], ◌∷◌, ◌++◌, None}
 use Rattle.gj_number.specs.Cuts.{IsCut}
 use Rattle.gj_json.specs.declared.event.Event.{Event}
 use Rattle.gj_json.specs.declared.flat.Flat.{Flat}
@@ -9,12 +9,12 @@ use Rattle.gj_json.specs.Flat.{flat_events}
 -- the array has two numbers with these cut values, at these places
 pub record IsCutPosition (position : CutPosition) (flat : Flat) : Type 0 where
   pub place : flat.place ≡ position.place
-  pub first_place : flat.first.place ≡ position.first_place
-  pub second_place : flat.second.place ≡ position.second_place
-  pub close : flat.close ≡ position.close
+  pub first_place : flat.first.place ≡ position.place + 1
+  pub second_place : flat.second.place ≡ position.place + position.second_at
+  pub close : flat.close ≡ position.place + position.close_at
   pub third : flat.third ≡ None
-  pub first : IsCut flat.first.value position.first
-  pub second : IsCut flat.second.value position.second
+  pub first : IsCut flat.first.value (record { value = position.first; precise = position.first_precise })
+  pub second : IsCut flat.second.value (record { value = position.second; precise = position.second_precise })
 
 -- as many arrays, each with the cut values of one
 abbrev pub AreCutPositions : List CutPosition → List Flat → Type 0

@@ -8,7 +8,7 @@ use Rattle.gj_json.specs.Internal.SpelledNumbers.{IsFlat}
 
 -- the place of the array after the comma
 abbrev pub place_after : CutPosition → ℕ
-place_after position = position.close + 2
+place_after position = position.place + position.close_at + 2
 
 -- the piece, which begins at the place `start`, starts with the array, a comma and a bracket
 pub record SpellsPosition (position : CutPosition) (start : ℕ) (piece : List ℕ) : Type 0 where
@@ -17,7 +17,7 @@ pub record SpellsPosition (position : CutPosition) (start : ℕ) (piece : List �
   pub is : IsCutPosition position flat
   pub at : position.place ≡ start
   pub spelled : IsFlat flat start (take count piece)
-  pub close : position.close + 1 ≡ start + count
+  pub close : position.place + position.close_at + 1 ≡ start + count
   pub within : count + 1 < length piece
   pub comma : get_or piece count 0 ≡ comma
   pub bracket : get_or piece (count + 1) 0 ≡ open_bracket

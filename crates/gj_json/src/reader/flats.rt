@@ -13,6 +13,7 @@ use crate::flats::{comma_run, read_flat};
 use crate::levels::Level;
 use crate::mode::Mode;
 use crate::sink::EventSink;
+use gj_number::Signs;
 
 /// Whether an array may begin here, in a text that has begun.
 #[inline(always)]
@@ -33,6 +34,15 @@ fn begins_next(piece: &[u8]) -> bool
     ensures bracket { IsTrue result → get_or piece.now 1 0 ≡ open_bracket }
 {
     piece.len() > 1 && piece[0] == b',' && piece[1] == b'['
+}
+
+/// The signs of its first two numbers.
+#[inline(always)]
+fn signs_of(flat: &Flat) -> Signs {
+    Signs {
+        first: flat.first.value.negative,
+        second: flat.second.value.negative,
+    }
 }
 
 /// Whether an opening bracket follows.
@@ -133,7 +143,7 @@ impl Reader {
                 if left > 0 {
                     left -= 1;
                 } else {
-                    let many = self.take_positions(rest, sink);
+                    let many = self.take_positions(rest, signs_of(&flat), sink);
                     rest = &rest[many..];
                     left = arrays_before_next(many);
                 }

@@ -10,9 +10,10 @@ use crate::cut_position::CutPosition;
 use crate::mode::Mode;
 use crate::positions::{MOST_POSITIONS, read_positions};
 use crate::sink::EventSink;
+use gj_number::Signs;
 
 /// After so many arrays, one after another, positions are sought, and sought again after a run that was found.
-pub(super) const FEW: u8 = 8;
+pub(super) const FEW: u8 = 5;
 
 /// After so many more they are sought again where none was found.
 const MANY: u8 = 32;
@@ -26,10 +27,15 @@ pub(super) fn arrays_before_next(count: usize) -> u8 {
 impl Reader {
     ghost use Rattle.gj_json.specs.Internal.FedReader.{FeedsAll};
 
-    /// Takes the positions at the start of the piece, each with a comma and another array after it, as long as the sink takes
-    /// them by their cut values: how many bytes.
+    /// Takes the positions at the start of the piece whose numbers have these signs, each with a comma and another array after
+    /// it, as long as the sink takes them by their cut values: how many bytes.
     #[inline(never)]
-    pub(super) fn take_positions<S: EventSink>(&mut self, piece: &[u8], sink: &mut S) -> usize
+    pub(super) fn take_positions<S: EventSink>(
+        &mut self,
+        piece: &[u8],
+        signs: Signs,
+        sink: &mut S,
+    ) -> usize
         requires next { IsDueAt self.old.mode piece.now }
         requires live { self.old.fault ≡ None }
         requires deep { length (levels_in self.old.levels) < self.old.limits.depth }
@@ -41,16 +47,17 @@ impl Reader {
         ensures levels { self.new.levels ≡ self.old.levels }
         ensures feeds { FeedsAll (S.heard sink.old) (S.heard sink.new) self.old self.new (take result piece.now) }
     {
-        let mut positions = [CutPosition::default(); MOST_POSITIONS];
+        let mut positions = [CutPosition::blank(); MOST_POSITIONS];
         let mut rest = piece;
         let mut taken = MOST_POSITIONS;
         while taken == MOST_POSITIONS {
-            let found = read_positions(rest, self.offset, &mut positions);
+            let found = read_positions(rest, signs, self.offset, &mut positions);
             taken = sink.tell_positions(&positions[..found]);
             if taken == 0 {
                 return piece.len() - rest.len();
             }
-            let count = (positions[taken - 1].close + 2 - self.offset) as usize;
+            let last = positions[taken - 1];
+            let count = (last.place + last.close_at as u64 + 2 - self.offset) as usize;
             self.skip(count, Mode::ValueDue);
             rest = &rest[count..];
         }

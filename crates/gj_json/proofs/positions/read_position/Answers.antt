@@ -1,6 +1,8 @@
-use Rattle.std.proofs.Common.{◌≡◌, ◌∙◌, ◌+◌, List, ℕ, get_or, length, drop, length-drop, None, refl, sym, ap, subst, arith}
+use Rattle.std.proofs.Common.{◌≡◌, ◌∙◌, ◌+◌, List, ℕ, get_or, length, drop, length-drop, None, refl, sym, ap, subst, arith, rules, w64}
+use mir.Val.{SFits}
+use Rattle.std.proofs.lemmas.Int.{to_z-of_z}
 use Rattle.std.proofs.lemmas.List.{get_or-drop}
-use Rattle.gj_number.specs.Cuts.{StartsWithCutPair, BeginsNext}
+use Rattle.gj_number.specs.Cuts.{IsCut, StartsWithCutPair, BeginsNext}
 use Rattle.gj_json.specs.declared.flat.Flat.{Flat}
 use Rattle.gj_json.specs.declared.flat.Numbered.{Numbered}
 use Rattle.gj_json.proofs.Grammar.SpelledPairs.{pair_spelled}
@@ -30,6 +32,8 @@ returns c =
       second_on = omega arith;
       third_on = omega arith;
     } in
+    let one_fits : SFits w64 pair.first.value = search rules in
+    let other_fits : SFits w64 pair.second.value = search rules in
     record {
       flat = flat;
       count = pair.end + 2;
@@ -37,10 +41,10 @@ returns c =
         place = refl;
         first_place = refl;
         second_place = omega arith;
-        close = refl;
+        close = omega arith;
         third = refl;
-        first = found.first;
-        second = found.second;
+        first = subst (λ v. IsCut found.one (record { value = v; precise = pair.first.precise })) (sym (to_z-of_z w64 pair.first.value one_fits)) found.first;
+        second = subst (λ v. IsCut found.other (record { value = v; precise = pair.second.precise })) (sym (to_z-of_z w64 pair.second.value other_fits)) found.second;
       };
       at = refl;
       spelled = pair_spelled piece start first second pair.comma (pair.comma + 1) pair.end c.requires.bracket refl refl found.starts;

@@ -1,5 +1,5 @@
 -- The positions that the sink takes, as their arrays in turn.
-use Rattle.std.proofs.Common.{◌≡◌, ◌∙◌, [], ◌-◌, ◌<◌, ◌≤◌, List, ℕ, append-nil, get_or, length, take, length-drop, pos, false, sym, ap, subst, arith}
+use Rattle.std.proofs.Common.{lit<, ◌≡◌, ◌∙◌, [], ◌-◌, ◌<◌, ◌≤◌, List, ℕ, append-nil, get_or, length, take, length-drop, pos, false, sym, ap, subst, arith}
 use Rattle.std.proofs.lemmas.List.{get_or-drop, get_or-take, length-take}
 use Rattle.gj_json.specs.Bytes.{open_bracket}
 use Rattle.gj_json.specs.declared.cut_position.CutPosition.{CutPosition}
@@ -15,16 +15,6 @@ use Rattle.gj_json.proofs.Pieces.ReadPositions.{rising, end_is, end_begins}
 use Rattle.gj_json.proofs.Pieces.TakenPositions.{Then, heard_less, first_taken}
 use Rattle.gj_json.proofs.reader.Reader.take_positions.Goals as goal
 
-abbrev blank : CutPosition
-blank = record {
-  first = record { value = pos 0; precise = false };
-  second = record { value = pos 0; precise = false };
-  place = 0;
-  first_place = 0;
-  second_place = 0;
-  close = 0;
-}
-
 -- where those end that the sink takes
 record Ends (told : List CutPosition) (k offset : ℕ) (rest : List ℕ) (last : ℕ) : Type 0 where
   spelled : SpellsPositions told offset rest
@@ -34,17 +24,17 @@ record Ends (told : List CutPosition) (k offset : ℕ) (rest : List ℕ) (last :
   within : last - offset < length rest
   bracket : get_or rest (last - offset) 0 ≡ open_bracket
 
-ends : (all : List CutPosition) (found k offset : ℕ) (rest : List ℕ) → (k ≡ 0 → ⊥) → k ≤ length (take found all)
-    → SpellsPositions (take found all) offset rest → Ends (take found all) k offset rest (place_after (get_or all (k - 1) blank))
-ends all found k offset rest some few s =
+ends : (all : List CutPosition) (d : CutPosition) (found k offset : ℕ) (rest : List ℕ) → (k ≡ 0 → ⊥) → k ≤ length (take found all)
+    → SpellsPositions (take found all) offset rest → Ends (take found all) k offset rest (place_after (get_or all (k - 1) d))
+ends all d found k offset rest some few s =
     let told = take found all in
     let positive : 0 < k = omega (arith, some) in
-    let b = end_begins told blank k offset rest positive few s in
+    let b = end_begins told d k offset rest positive few s in
     let P : CutPosition → Type 0 = λ p. Ends told k offset rest (place_after p) in
-    subst P (get_or-take found all (k - 1) blank (omega (arith, length-take found all, positive))) (record {
+    subst P (get_or-take found all (k - 1) d (omega (arith, length-take found all, positive))) (record {
       spelled = s;
       some = positive;
-      end = end_is told blank k offset rest positive few s;
+      end = end_is told d k offset rest positive few s;
       on = b.0;
       within = b.1;
       bracket = b.2;
@@ -68,19 +58,19 @@ returns-then-taken-eq0-clause-feeds g c =
     heard_less c.args.self.now c.loop-taken.self (take (length piece - length c.loop-taken.rest.now) piece) i.fed
     (λ events h. subst (g.S.EventSink.heard c.tell_positions-taken.new.self) (append-nil events) (c.tell_positions-taken.ensures.heard [] none events h))
 
-pub overflow_add-count : goal.overflow_add-count
-overflow_add-count g c =
+pub overflow_add-count-in-loop-taken : goal.overflow_add-count-in-loop-taken
+overflow_add-count-in-loop-taken g c =
     let i = c.loop-taken.invariant in
-    let e = ends c.read_positions-found.new.positions c.read_positions-found.result _ c.loop-taken.self.offset c.loop-taken.rest.now c.if-taken-eq0.false
+    let e = ends c.read_positions-found.new.positions c.index-positions-taken.result c.read_positions-found.result _ c.loop-taken.self.offset c.loop-taken.rest.now c.if-taken-eq0.false
     c.tell_positions-taken.ensures.few c.read_positions-found.ensures.spelled in
     let less = e.within in
     let limits = ap (λ l. l.bytes) i.fed.feeds.limits in
     let room = room_left c.args.self.now c.loop-taken.self c.args.piece.now c.loop-taken.rest.now i.within i.fed c.requires.room in
     omega arith
 
-pub overflow_sub-count-in-loop-taken : goal.overflow_sub-count-in-loop-taken
-overflow_sub-count-in-loop-taken g c =
-    let e = ends c.read_positions-found.new.positions c.read_positions-found.result _ c.loop-taken.self.offset c.loop-taken.rest.now c.if-taken-eq0.false
+pub overflow_sub-count : goal.overflow_sub-count
+overflow_sub-count g c =
+    let e = ends c.read_positions-found.new.positions c.index-positions-taken.result c.read_positions-found.result _ c.loop-taken.self.offset c.loop-taken.rest.now c.if-taken-eq0.false
     c.tell_positions-taken.ensures.few c.read_positions-found.ensures.spelled in
     let on = e.on in
     omega arith
@@ -88,7 +78,7 @@ overflow_sub-count-in-loop-taken g c =
 pub skip-requires-clause-room : goal.skip-requires-clause-room
 skip-requires-clause-room g c =
     let i = c.loop-taken.invariant in
-    let e = ends c.read_positions-found.new.positions c.read_positions-found.result _ c.loop-taken.self.offset c.loop-taken.rest.now c.if-taken-eq0.false
+    let e = ends c.read_positions-found.new.positions c.index-positions-taken.result c.read_positions-found.result _ c.loop-taken.self.offset c.loop-taken.rest.now c.if-taken-eq0.false
     c.tell_positions-taken.ensures.few c.read_positions-found.ensures.spelled in
     let less = e.within in
     let room = room_left c.args.self.now c.loop-taken.self c.args.piece.now c.loop-taken.rest.now i.within i.fed c.requires.room in
@@ -96,14 +86,14 @@ skip-requires-clause-room g c =
 
 pub slice_bounds-rest-count : goal.slice_bounds-rest-count
 slice_bounds-rest-count g c =
-    let e = ends c.read_positions-found.new.positions c.read_positions-found.result _ c.loop-taken.self.offset c.loop-taken.rest.now c.if-taken-eq0.false
+    let e = ends c.read_positions-found.new.positions c.index-positions-taken.result c.read_positions-found.result _ c.loop-taken.self.offset c.loop-taken.rest.now c.if-taken-eq0.false
     c.tell_positions-taken.ensures.few c.read_positions-found.ensures.spelled in
     let less = e.within in
     omega arith
 
 pub slice_bounds-rest-start : goal.slice_bounds-rest-start
 slice_bounds-rest-start g c =
-    let e = ends c.read_positions-found.new.positions c.read_positions-found.result _ c.loop-taken.self.offset c.loop-taken.rest.now c.if-taken-eq0.false
+    let e = ends c.read_positions-found.new.positions c.index-positions-taken.result c.read_positions-found.result _ c.loop-taken.self.offset c.loop-taken.rest.now c.if-taken-eq0.false
     c.tell_positions-taken.ensures.few c.read_positions-found.ensures.spelled in
     let less = e.within in
     omega arith
@@ -111,9 +101,9 @@ slice_bounds-rest-start g c =
 pub loop-taken-smaller : goal.loop-taken-smaller
 loop-taken-smaller g c =
     let rest = c.loop-taken.rest.now in
-    let e = ends c.read_positions-found.new.positions c.read_positions-found.result _ c.loop-taken.self.offset rest c.if-taken-eq0.false
+    let e = ends c.read_positions-found.new.positions c.index-positions-taken.result c.read_positions-found.result _ c.loop-taken.self.offset rest c.if-taken-eq0.false
     c.tell_positions-taken.ensures.few c.read_positions-found.ensures.spelled in
-    let n = place_after (get_or c.read_positions-found.new.positions (c.tell_positions-taken.result - 1) blank) - c.loop-taken.self.offset in
+    let n = place_after (get_or c.read_positions-found.new.positions (c.tell_positions-taken.result - 1) c.index-positions-taken.result) - c.loop-taken.self.offset in
     let on = e.on in
     let less = e.within in
     omega (arith, ap length (rest_of rest n), length-drop n rest)
@@ -126,9 +116,9 @@ loop-taken-preserved g c =
     let rest = c.loop-taken.rest.now in
     let told = take c.read_positions-found.result c.read_positions-found.new.positions in
     let k = c.tell_positions-taken.result in
-    let last = place_after (get_or c.read_positions-found.new.positions (k - 1) blank) in
+    let last = place_after (get_or c.read_positions-found.new.positions (k - 1) c.index-positions-taken.result) in
     let n = last - old.offset in
-    let e = ends c.read_positions-found.new.positions c.read_positions-found.result _ old.offset rest c.if-taken-eq0.false
+    let e = ends c.read_positions-found.new.positions c.index-positions-taken.result c.read_positions-found.result _ old.offset rest c.if-taken-eq0.false
     c.tell_positions-taken.ensures.few c.read_positions-found.ensures.spelled in
     let on = e.on in
     let less = e.within in

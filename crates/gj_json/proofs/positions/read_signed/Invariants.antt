@@ -1,10 +1,10 @@
 use Rattle.std.proofs.Common.{◌≡◌, ◌+◌, ◌-◌, ◌≤◌, get_or, length, take, drop}
 use Rattle.gj_json.specs.Bytes.{open_bracket}
 use Rattle.gj_json.specs.Internal.SpelledPositions.{place_after_all, SpellsPositions}
-use Rattle.gj_json.proofs.positions.read_positions.Given as goal
+use Rattle.gj_json.proofs.positions.read_signed.Given as goal
 
 abbrev pub invariant-loop-count : goal.invariant-loop-count
-invariant-loop-count l = record {
+invariant-loop-count g l = record {
   few : l.count ≤ 24;
   size : length l.positions ≡ 24;
   within : length l.rest ≤ length l.piece;
@@ -15,4 +15,4 @@ invariant-loop-count l = record {
 }
 
 abbrev pub decreases-loop-count : goal.decreases-loop-count
-decreases-loop-count l = length l.rest
+decreases-loop-count g l = length l.rest

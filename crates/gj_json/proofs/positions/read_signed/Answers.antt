@@ -2,13 +2,13 @@
 use Rattle.std.proofs.Common.{◌≡◌, ◌∙◌, ◌+◌, ◌-◌, List, ℕ, get_or, length, take, drop, length-drop, sym, ap, subst, arith, rules}
 use Rattle.std.proofs.lemmas.List.{take_more_set}
 use Rattle.gj_json.specs.declared.cut_position.CutPosition.{CutPosition}
-use Rattle.gj_json.specs.Internal.SpelledPositions.{place_after_all, SpellsPosition, SpellsPositions}
+use Rattle.gj_json.specs.Internal.SpelledPositions.{place_after, place_after_all, SpellsPosition, SpellsPositions}
 use Rattle.gj_json.proofs.Pieces.PieceRests.{rest_of}
 use Rattle.gj_json.proofs.Pieces.ReadPositions.{one_on, one_more, after_more, in_two, left_begins}
-use Rattle.gj_json.proofs.positions.read_positions.Goals as goal
+use Rattle.gj_json.proofs.positions.read_signed.Goals as goal
 
 pub loop-count-preserved : goal.loop-count-preserved
-loop-count-preserved c =
+loop-count-preserved g c =
     let i = c.loop-count.invariant in
     let piece = c.args.piece.now in
     let start = c.args.start in
@@ -16,7 +16,9 @@ loop-count-preserved c =
     let place : ℕ = start + length piece - length rest in
     let p = c.in-Some.position in
     let s = c.in-Some.ensures in
-    let n = p.close + 2 - place in
+    let n = p.close_at + 2 in
+    let at = s.at in
+    let bytes : n ≡ place_after p - place = omega arith in
     let within = i.within in
     let on = one_on p place rest s in
     let b = left_begins p place rest s in
@@ -37,11 +39,11 @@ loop-count-preserved c =
       size = search rules;
       within = omega arith;
       place_is =
-          (let e : start + length piece - length (take (length rest - n) (drop n rest)) ≡ p.close + 2 = omega arith in
+          (let e : start + length piece - length (take (length rest - n) (drop n rest)) ≡ p.place + p.close_at + 2 = omega arith in
           e ∙ sym (after_more before p start) ∙ ap (λ ps. place_after_all ps start) (sym more));
       rest_is =
-          same ∙ ap (drop n) here ∙ in_two piece start place (p.close + 2) (omega arith) (omega arith)
-          ∙ ap (λ k. drop k piece) {x = p.close + 2 - start} {y = length piece - length (take (length rest - n) (drop n rest))} (omega arith);
-      bracket = ap (λ xs. get_or xs 0 0) same ∙ b.1;
+          same ∙ ap (drop n) here ∙ ap (λ k. drop k (drop (place - start) piece)) bytes ∙ in_two piece start place (p.place + p.close_at + 2) (omega arith) (omega arith)
+          ∙ ap (λ k. drop k piece) {x = p.place + p.close_at + 2 - start} {y = length piece - length (take (length rest - n) (drop n rest))} (omega arith);
+      bracket = ap (λ xs. get_or xs 0 0) same ∙ ap (λ k. get_or (drop k rest) 0 0) bytes ∙ b.1;
       spelled = subst P (sym more) (one_more before p start piece i.spelled there);
     }
