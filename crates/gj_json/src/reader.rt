@@ -199,5 +199,6 @@ mod members;
 mod pieces;
 mod place;
 mod positions;
+mod rows;
 mod runs;
 mod tokens;

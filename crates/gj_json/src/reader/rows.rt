@@ -1,0 +1,181 @@
+//! Arrays of numbers that are not reported at once: of one number or of four and more, or of unusual ones.
+
+ghost use Rattle.std.specs.Prelude.{◌≡◌, ◌+◌, ◌^◌, ◌≤◌, ◌<◌, true, length, take, get_or, None, Some, IsTrue};
+ghost use Rattle.gj_json.specs.Bytes.{open_bracket};
+ghost use Rattle.gj_json.specs.Internal.FlatParts.{awaits};
+ghost use Rattle.gj_json.specs.Internal.OpenLevels.{levels_in, inner_of};
+ghost use Rattle.gj_json.specs.declared.levels.Level.TheVariants.{Array};
+
+use super::Reader;
+use super::tokens::LONG;
+use crate::event::{Event, What};
+use crate::levels::Level;
+use crate::mode::Mode;
+use crate::sink::EventSink;
+use gj_number::{Short, read_decimal};
+
+/// How many numbers an array has at the least that is not reported at once.
+const MANY: u8 = 4;
+
+/// How many numbers an array has with one more, of `count` bytes. One that is not reported at once counts as many.
+#[inline(always)]
+fn numbers_with(count: usize, numbers: u8) -> u8 {
+    if count > LONG || numbers >= MANY {
+        MANY
+    } else {
+        numbers + 1
+    }
+}
+
+/// Whether a number stands at the start of the piece, by its first byte.
+#[inline(always)]
+fn begins_number(piece: &[u8]) -> bool {
+    !piece.is_empty() && matches!(piece[0], b'0'..=b'9' | b'-')
+}
+
+/// What was taken of an array of numbers: how many bytes, and whether it has closed and is none that is reported at once.
+#[derive(Clone, Copy)]
+struct Row {
+    count: usize,
+    goes_on: bool,
+}
+
+impl Reader {
+    ghost use Rattle.gj_json.specs.Internal.FedReader.{FeedsAll};
+
+    /// Takes the numbers of an array that has just been opened, and its closing bracket.
+    #[inline(always)]
+    fn take_numbers<S: EventSink>(&mut self, piece: &[u8], sink: &mut S) -> Row
+        requires live { self.old.fault ≡ None }
+        requires due { awaits self.old.mode ≡ true }
+        requires inner { inner_of (levels_in self.old.levels) ≡ Some Array }
+        requires room { self.old.offset + length piece.now ≤ self.old.limits.bytes }
+        requires small { self.old.limits.bytes ≤ 2 ^ 60 }
+        ensures within { result.count ≤ length piece.now }
+        ensures feeds { FeedsAll (S.heard sink.old) (S.heard sink.new) self.old self.new (take result.count piece.now) }
+    {
+        let mut at = 0;
+        let mut numbers = 0;
+        let mut value = Short::zero().decimal();
+        while at < piece.len() {
+            let count = read_decimal(&piece[at..], &mut value);
+            if count == 0 {
+                return Row {
+                    count: at,
+                    goes_on: false,
+                };
+            }
+            let end = piece[at + count];
+            if end != b',' && end != b']' {
+                return Row {
+                    count: at,
+                    goes_on: false,
+                };
+            }
+            numbers = numbers_with(count, numbers);
+            sink.tell(Event {
+                place: self.offset,
+                what: What::Number(Some(value)),
+            });
+            if end == b']' {
+                return Row {
+                    count: at + self.take_close(Level::Array, count + 1, sink),
+                    goes_on: numbers >= MANY,
+                };
+            }
+            at += self.skip(count + 1, Mode::ValueDue);
+        }
+        Row {
+            count: at,
+            goes_on: false,
+        }
+    }
+
+    /// Takes an array of numbers.
+    #[inline(always)]
+    fn take_row<S: EventSink>(&mut self, piece: &[u8], sink: &mut S) -> Row
+        requires some { 0 < length piece.now }
+        requires begins { get_or piece.now 0 0 ≡ open_bracket }
+        requires live { self.old.fault ≡ None }
+        requires due { awaits self.old.mode ≡ true }
+        requires room { self.old.offset + length piece.now ≤ self.old.limits.bytes }
+        requires small { self.old.limits.bytes ≤ 2 ^ 60 }
+        ensures within { result.count ≤ length piece.now }
+        ensures feeds { FeedsAll (S.heard sink.old) (S.heard sink.new) self.old self.new (take result.count piece.now) }
+    {
+        let opened = self.take_open(Level::Array, piece, sink);
+        if opened == 0 || !begins_number(&piece[opened..]) {
+            return Row {
+                count: opened,
+                goes_on: false,
+            };
+        }
+        if self.is_ignored(sink) || self.may_be_missed(sink) {
+            return Row {
+                count: opened,
+                goes_on: false,
+            };
+        }
+        let row = self.take_numbers(&piece[opened..], sink);
+        Row {
+            count: opened + row.count,
+            goes_on: row.goes_on,
+        }
+    }
+
+    /// Takes the byte after a value, where the piece begins with it: 1, or 0.
+    #[inline(always)]
+    fn take_next_end<S: EventSink>(&mut self, piece: &[u8], sink: &mut S) -> usize
+        requires live { self.old.fault ≡ None }
+        requires room { self.old.offset + length piece.now ≤ self.old.limits.bytes }
+        requires small { self.old.limits.bytes ≤ 2 ^ 60 }
+        ensures within { result ≤ length piece.now }
+        ensures feeds { FeedsAll (S.heard sink.old) (S.heard sink.new) self.old self.new (take result piece.now) }
+    {
+        if piece.is_empty() {
+            return 0;
+        }
+        match self.mode {
+            Mode::ValueDone => self.take_end(piece, sink),
+            _ => 0,
+        }
+    }
+
+    /// Whether an array begins here.
+    #[inline(always)]
+    fn begins_row(&self, piece: &[u8]) -> bool
+        ensures some { IsTrue result → 0 < length piece.now }
+        ensures begins { IsTrue result → get_or piece.now 0 0 ≡ open_bracket }
+        ensures due { IsTrue result → awaits self.now.mode ≡ true }
+    {
+        if piece.is_empty() || piece[0] != b'[' {
+            return false;
+        }
+        match self.mode {
+            Mode::ValueDue | Mode::ArrayOpened => true,
+            _ => false,
+        }
+    }
+
+    /// Takes an array of numbers: how many bytes. Where it is not such as is reported at once, the arrays after it are taken
+    /// so too, since they mostly are alike.
+    #[inline(never)]
+    pub(super) fn take_rows<S: EventSink>(&mut self, piece: &[u8], sink: &mut S) -> usize
+        requires live { self.old.fault ≡ None }
+        requires room { self.old.offset + length piece.now ≤ self.old.limits.bytes }
+        requires small { self.old.limits.bytes ≤ 2 ^ 60 }
+        ensures within { result ≤ length piece.now }
+        ensures feeds { FeedsAll (S.heard sink.old) (S.heard sink.new) self.old self.new (take result piece.now) }
+    {
+        let mut at = 0;
+        while self.begins_row(&piece[at..]) {
+            let row = self.take_row(&piece[at..], sink);
+            at += row.count;
+            if row.count == 0 || !row.goes_on {
+                return at;
+            }
+            at += self.take_next_end(&piece[at..], sink);
+        }
+        at
+    }
+}
