@@ -36,4 +36,5 @@ pub mod PositionWarnings
 pub mod WindingLaws
 pub mod RingWarnings
 pub mod BoxGather
+pub mod CutPositionGather
 pub mod AddedPositions

@@ -119,13 +119,7 @@ fn precise_with(noted: KindWarnings, number: &Numbered) -> KindWarnings
 
 /// Notes those of two numbers that are too precise, by their places.
 #[inline(always)]
-pub fn warn_pair(
-    first: bool,
-    first_place: u64,
-    second: bool,
-    second_place: u64,
-    warned: &mut Warned,
-)
+fn warn_pair(first: bool, first_place: u64, second: bool, second_place: u64, warned: &mut Warned)
     ensures { warned.new ≡ precise_noted warned.old (precise_with second second_place (precise_with first first_place nothing_noted)) }
 {
     match (first, second) {

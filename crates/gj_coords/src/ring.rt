@@ -2,7 +2,7 @@
 ghost use Rattle.std.specs.Prelude.{◌≡◌};
 ghost use Rattle.gj_coords.specs.Internal.PositionsGather.{role_behind, runs_wrong};
 
-use crate::cuts;
+use crate::cuts::{self, AddedCuts, PreciseNumbers};
 use crate::fault::{Fault, Rule, join_fault, lesser_fault};
 use crate::flat::{self, JudgedPair};
 use crate::kind::Kind;
@@ -208,7 +208,7 @@ impl Positions {
     }
 
     /// Adds positions that come as their cut values, up to the first that is out of range or may have the values of the first
-    /// of all: how many.
+    /// of all: how many. It adds none where no position before them is in range.
     pub fn add_cuts(&mut self, positions: &[CutPosition]) -> usize
         ensures few { result ≤ length positions.now }
         ensures added { (flats : List Flat) → AreCutPositions (take result positions.now) flats → self.new ≡ positions_added self.old flats }
@@ -219,34 +219,25 @@ impl Positions {
         let Some(first) = &self.first else {
             return 0;
         };
-        let start = first.corner();
+        let Some(sum) = self.winding.running_sum() else {
+            return 0;
+        };
+        let start = cuts::longitude_of(&first.corner());
+        let most = cuts::at_once(positions);
+        let mut added = AddedCuts {
+            sum,
+            precise: PreciseNumbers::none(),
+        };
         let mut at = 0;
-        while at < positions.len() && self.adds_cut(&positions[at], &start) {
+        while at < most && added.adds(&positions[at], start) {
             at += 1;
         }
-        at
-    }
-
-    /// Adds a position after others without a fault, where it is in range and its values are not those of the first, which
-    /// has the corner `start`, as its corner shows: whether it did.
-    #[inline(always)]
-    fn adds_cut(&mut self, position: &CutPosition, start: &Option<Corner>) -> bool
-        ensures same { result ≡ false → self.new ≡ self.old }
-        ensures first { self.new.first ≡ self.old.first }
-        ensures fault { self.new.fault ≡ self.old.fault }
-        ensures added { IsTrue result → (flat : Flat) (first : Values) → IsCutPosition position.now flat → self.old.fault ≡ None → self.old.first ≡ Some first
-            → start.now ≡ corner_in first → self.new ≡ position_added self.old (flat_position flat) }
-    {
-        let Some(corner) = cuts::corner(position) else {
-            return false;
-        };
-        if cuts::may_be(start, &corner) {
-            return false;
+        if at > 0 {
+            self.closes = false;
+            self.winding.set_running_sum(&added.sum);
+            added.precise.note(&mut self.warned);
         }
-        cuts::warn(position, &mut self.warned);
-        self.closes = false;
-        self.winding.add_next(&corner);
-        true
+        at
     }
 
     /// Adds a value that is no array.

@@ -51,6 +51,13 @@ pub struct Winding {
     unjudged: bool,
 }
 
+/// The sum of the terms so far, in 128 bits, and the last corner, while a loop adds corners to these two alone.
+#[derive(Clone, Copy)]
+pub struct RunningSum {
+    area: i128,
+    last: Corner,
+}
+
 impl Corner {
     ghost use Rattle.std.specs.Prelude.{◌≡◌, Some};
     ghost use Rattle.gj_number.specs.Short.{exact_of};
@@ -195,11 +202,25 @@ impl Turn {
     }
 }
 
+impl RunningSum {
+    ghost use Rattle.std.specs.Prelude.{◌≡◌};
+    ghost use Rattle.gj_coords.specs.Internal.WindingGather.{sum_added};
+
+    /// Adds a corner.
+    #[inline(always)]
+    pub fn add(&mut self, corner: &Corner)
+        ensures { self.new ≡ sum_added self.old corner.now }
+    {
+        self.area = wrapped_sum(self.area, self.last.cross(corner));
+        self.last = *corner;
+    }
+}
+
 impl Winding {
     ghost use Rattle.std.specs.Prelude.{◌≡◌, ◌++◌, ◌∷◌, ◌<◌, ◌^◌, List, [], Option, length};
     ghost use Rattle.gj_coords.specs.declared.winding.Corner.{Corner};
     ghost use Rattle.gj_coords.specs.Internal.AllCorners.{turn_of, all_corners};
-    ghost use Rattle.gj_coords.specs.Internal.WindingGather.{StandsFor, no_winding, term_of, corner_added, winding_added, turn_in};
+    ghost use Rattle.gj_coords.specs.Internal.WindingGather.{StandsFor, no_winding, term_of, corner_added, winding_added, turn_in, sum_in, with_sum};
 
     /// No position has come.
     pub fn none() -> Winding
@@ -246,6 +267,29 @@ impl Winding {
             }
             None => self.add_corner(corner),
         }
+    }
+
+    /// Its sum and its last corner, where there is one.
+    #[inline(always)]
+    pub fn running_sum(&self) -> Option<RunningSum>
+        ensures { result ≡ sum_in self.now }
+    {
+        match &self.last {
+            Some(last) => Some(RunningSum {
+                area: self.area,
+                last: *last,
+            }),
+            None => None,
+        }
+    }
+
+    /// Takes a sum and a last corner for its own.
+    #[inline(always)]
+    pub fn set_running_sum(&mut self, sum: &RunningSum)
+        ensures { self.new ≡ with_sum self.old sum.now }
+    {
+        self.area = sum.area;
+        self.last = Some(sum.last);
     }
 
     /// The term of the area for the edge from the last corner to this one.

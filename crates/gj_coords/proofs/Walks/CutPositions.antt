@@ -1,5 +1,5 @@
 -- Positions that come as their cut values are added as their arrays of numbers are.
-use Rattle.std.proofs.Common.{◌≡◌, ◌∙◌, ℕ, zero, suc, ◌<◌, ◌≤◌, List, [], ◌∷◌, ◌++◌, length, take, slice_index_or, Bool, true, false}
+use Rattle.std.proofs.Common.{◌≡◌, ◌∙◌, ℕ, zero, suc, ◌<◌, ◌≤◌, List, [], ◌∷◌, ◌++◌, length, take, slice_index_or, Bool, true, false, ℤ, Option}
 use Rattle.std.proofs.Common.{Some, None, refl, sym, ap, arith}
 use Rattle.std.proofs.lemmas.Bool.Decides.{Decides-eqb, Decides-and}
 use Rattle.gj_json.specs.declared.cut_position.CutPosition.{CutPosition}
@@ -14,11 +14,14 @@ use Rattle.gj_coords.specs.declared.winding.Corner.{Corner}
 use Rattle.gj_coords.specs.declared.winding.Winding.{Winding}
 use Rattle.gj_coords.specs.Winding.{corner_of}
 use Rattle.gj_coords.specs.Internal.AddedPositions.{positions_added, all_noted, all_steady, all_first, AllAfter}
-use Rattle.gj_coords.specs.Internal.FlatPosition.{flat_position, flat_values}
+use Rattle.gj_coords.specs.declared.cuts.AddedCuts.{AddedCuts}
+use Rattle.gj_coords.specs.declared.winding.RunningSum.{RunningSum}
+use Rattle.gj_coords.specs.Internal.CutPositionGather.{none_counted, counted_noted, IsAdded}
+use Rattle.gj_coords.specs.Internal.FlatPosition.{flat_position, flat_values, precise_noted}
 use Rattle.gj_coords.specs.Internal.PositionGather.{corner_in, same_values, sound_noted, array_counted}
 use Rattle.gj_coords.specs.Internal.PositionsGather.{position_added}
 use Rattle.gj_coords.specs.Internal.SteadyWalk.{second_steady, first_steady}
-use Rattle.gj_coords.specs.Internal.WindingGather.{winding_added}
+use Rattle.gj_coords.specs.Internal.WindingGather.{winding_added, sum_from, sum_in, with_sum}
 use Rattle.gj_coords.proofs.Readers.AgreeingPositions.{option_decides}
 
 -- the same values have the same corner
@@ -49,6 +52,45 @@ cut_added s flat first corner winding warned sound begun at other runs notes =
       fault = None;
       closes = sym apart i;
     })
+
+-- ---- what a loop has added
+
+abbrev pub closes_after : ℕ → Bool → Bool
+closes_after zero closes = closes
+closes_after (suc n) closes = false
+
+-- to these positions, by how many it has taken
+abbrev pub with_cuts : Positions → ℕ → AddedCuts → Positions
+with_cuts s at added = record s {
+  winding = with_sum s.winding added.sum;
+  warned = precise_noted s.warned (counted_noted added.precise);
+  closes = closes_after at s.closes;
+}
+
+pub none_added : (s : Positions) (sum : RunningSum) → sum_in s.winding ≡ Some sum → with_cuts s 0 (record { sum = sum; precise = none_counted }) ≡ s
+none_added s sum is = go s.winding.last refl is
+  where
+    go : (last : Option Corner) → s.winding.last ≡ last → sum_from s.winding.area last ≡ Some sum
+        → with_cuts s 0 (record { sum = sum; precise = none_counted }) ≡ s
+    go None here is = cc
+    go (Some last) here is =
+        let same : sum ≡ record { area = s.winding.area; last = last } = cc in
+        (λ i. record s { winding = record s.winding { area = (same i).area; last = (ap (λ x. Some x.last) same ∙ sym here) i } })
+
+pub cut_more : (s : Positions) (at : ℕ) (flat : Flat) (first : Values) (start : ℤ) (old new : AddedCuts) → s.fault ≡ None → s.first ≡ Some first
+    → ((corner : Corner) → corner_in first ≡ Some corner → start ≡ corner.x) → IsAdded flat start old new
+    → with_cuts s (suc at) new ≡ position_added (with_cuts s at old) (flat_position flat)
+cut_more s at flat first start old new sound begun longitude is =
+    cut_added (with_cuts s at old) flat first is.corner (with_sum s.winding new.sum) (precise_noted s.warned (counted_noted new.precise)) sound begun is.in_range
+    (λ e. is.apart (longitude is.corner e)) (ap (with_sum s.winding) is.sum) (is.counted s.warned)
+
+-- what is written back is that
+pub cuts_written : (s : Positions) (at : ℕ) (added : AddedCuts) (winding : Winding) (warned : Warned) → 0 < at → winding ≡ with_sum s.winding added.sum
+    → warned ≡ precise_noted s.warned (counted_noted added.precise)
+    → record { first = s.first; winding = winding; warned = warned; fault = s.fault; closes = false } ≡ with_cuts s at added
+cuts_written s zero added winding warned some runs notes = absurd (omega (arith, some))
+cuts_written s (suc n) added winding warned some runs notes =
+    (λ i. record { first = s.first; winding = runs i; warned = notes i; fault = s.fault; closes = false })
 
 -- ---- one more
 

@@ -1,19 +1,30 @@
 -- What is known of a number's places by how it is written, and of a position's.
-use Rattle.std.proofs.Common.{◌≡◌, ℕ, ◌≤◌, ◌==◌, suc, Bool, if◌then◌else◌, true, false, nat_lt, Option, Some, None, IfSome, ℤ, pos, negsuc}
+use Rattle.std.proofs.Common.{◌≡◌, ◌∙◌, ◌↔◌, ℕ, ◌<◌, ◌≤◌, ◌==◌, suc, IsTrue, is_none, ap, Bool, if◌then◌else◌, true, false, nat_lt, Option, Some, None, IfSome, ℤ, pos, negsuc}
 use Rattle.std.proofs.Common.{◌-ℤ◌, refl, sym, arith}
 use Rattle.std.proofs.lemmas.Int.{ints}
 use Rattle.std.proofs.lemmas.Bool.Decides.{nat_tests}
 use Rattle.gj_number.specs.Exact.{below_zero, zero_exact}
-use Rattle.gj_number.specs.Short.{short_value}
+use Rattle.gj_number.specs.Short.{short_value, exact_of}
+use Rattle.gj_number.specs.Cuts.{IsCut}
+use Rattle.gj_number.specs.declared.short.Short.{Short}
+use Rattle.gj_number.specs.declared.short.cuts.Cut.{Cut}
+use Rattle.gj_json.specs.CutPosition.{IsCutPosition}
+use Rattle.gj_json.specs.declared.cut_position.CutPosition.{CutPosition}
 use Rattle.gj_json.specs.declared.flat.Flat.{Flat}
 use Rattle.gj_json.specs.declared.flat.Numbered.{Numbered}
 use Rattle.gj_coords.specs.declared.kind_warnings.KindWarnings.{KindWarnings}
 use Rattle.gj_coords.specs.declared.warned.Warned.{Warned}
 use Rattle.gj_coords.specs.declared.winding.Corner.{Corner}
 use Rattle.gj_coords.specs.CoordinateWarnings.{is_precise}
-use Rattle.gj_coords.specs.Internal.KeptWarnings.{nothing_noted}
-use Rattle.gj_coords.specs.Internal.PositionGather.{corner_in, position_noted}
-use Rattle.gj_coords.specs.Internal.FlatPosition.{flat_count, flat_values, flat_precise, IsPlain}
+use Rattle.gj_coords.specs.declared.cuts.PreciseNumbers.{PreciseNumbers}
+use Rattle.gj_coords.specs.declared.kind.Kind.TheVariants.{W3, W4, W5}
+use Rattle.gj_coords.specs.Internal.CutPositionGather.{counted_noted, pair_with, HasCounted}
+use Rattle.gj_coords.specs.Internal.GatheredWarnings.{noted_when, some_noted}
+use Rattle.gj_coords.specs.Internal.GatheredWarningLaws.{some_noted_twice}
+use Rattle.gj_coords.specs.Internal.KeptWarnings.{noted_as, nothing_noted, is_nothing, joined_noted}
+use Rattle.gj_coords.specs.Internal.KeptWarningLaws.{joined_noted_none, joined_noted_assoc}
+use Rattle.gj_coords.specs.Internal.PositionGather.{corner_in, position_noted, precise_with, sound_noted}
+use Rattle.gj_coords.specs.Internal.FlatPosition.{flat_count, flat_position, flat_values, flat_precise, third_precise, precise_noted, IsPlain}
 
 -- ---- there are no more places than are written
 
@@ -42,3 +53,41 @@ pub plain_if : (f : Flat) (result : Option Corner) → flat_precise f ≡ nothin
     → IfSome result (λ corner. IsPlain f corner)
 plain_if f None e k = tt
 plain_if f (Some c) e k = record { in_range = sym k; quiet = λ w. quiet_by w f.place f.third (corner_in (flat_values f)) c (flat_precise f) e (sym k) }
+
+-- ---- numbers that are counted and noted at once
+
+flag_is : (short : Short) (cut : Cut) → IsCut short cut → is_precise (Some (exact_of short)) ≡ cut.precise
+flag_is short cut is = go cut.precise (below_zero (exact_of short).power) is.precise
+  where
+    go : (flag : Bool) (places : ℕ) → IsTrue flag ↔ (7 < places) → nat_lt 7 places ≡ flag
+    go true places h = let more : 7 < places = h.0 refl in grind (arith, nat_tests)
+    go false places h = grind (arith, nat_tests, h)
+
+pair_precise : (p : CutPosition) (f : Flat) → IsCutPosition p f → flat_precise f ≡ pair_with p nothing_noted
+pair_precise p f is =
+    let first = flag_is f.first.value p.first is.first in
+    let second = flag_is f.second.value p.second is.second in
+    (λ i. third_precise (is.third i) (precise_with (second i) (is.second_place i) (precise_with (first i) (is.first_place i) nothing_noted)))
+
+pair_noted_is : (p : CutPosition) (f : Flat) (w : Warned) → IsCutPosition p f → is_none (corner_in (flat_values f)) ≡ false
+    → sound_noted w (flat_position f) ≡ precise_noted w (pair_with p nothing_noted)
+pair_noted_is p f w is at =
+    let e = pair_precise p f is in
+    (λ i. some_noted (is_nothing (e i)) (noted_when (at i) (noted_when (nat_lt 3 (flat_count (is.third i))) w W3 f.place) W5 f.place) W4 (e i))
+
+joined_with : (precise : Bool) (place : ℕ) (a b : KindWarnings) → joined_noted a (precise_with precise place b) ≡ precise_with precise place (joined_noted a b)
+joined_with true place a b = sym (joined_noted_assoc a b (noted_as 1 place))
+joined_with false place a b = refl
+
+joined_pair : (p : CutPosition) (noted : KindWarnings) → joined_noted noted (pair_with p nothing_noted) ≡ pair_with p noted
+joined_pair p noted =
+    let first = joined_with p.first.precise p.first_place noted nothing_noted in
+    let alone = joined_noted_none noted in
+    joined_with p.second.precise p.second_place noted (precise_with p.first.precise p.first_place nothing_noted)
+    ∙ ap (precise_with p.second.precise p.second_place) (first ∙ ap (precise_with p.first.precise p.first_place) alone)
+
+pub counted_more : (p : CutPosition) (f : Flat) (old new : PreciseNumbers) → IsCutPosition p f → is_none (corner_in (flat_values f)) ≡ false
+    → counted_noted new ≡ pair_with p (counted_noted old) → HasCounted f old new
+counted_more p f old new is at e = λ w.
+    ap (precise_noted w) (e ∙ sym (joined_pair p (counted_noted old))) ∙ sym (some_noted_twice w (counted_noted old) (pair_with p nothing_noted))
+    ∙ sym (pair_noted_is p f (precise_noted w (counted_noted old)) is at)

@@ -9,7 +9,7 @@ use Rattle.gj_coords.specs.declared.warnings.Warnings.{Warnings}
 use Rattle.gj_coords.specs.Warnings.{same_kind}
 use Rattle.gj_coords.specs.Internal.KeptWarnings.{noted_as, nothing_noted, is_nothing, joined_noted, kept, warnings_of, joined, added, replaced, with_noted}
 use Rattle.gj_coords.specs.CoordinateWarnings.{warned_if}
-use Rattle.gj_coords.specs.Internal.KeptWarningLaws.{nothing_at_zero, joined_noted_none, joined_noted_assoc}
+use Rattle.gj_coords.specs.Internal.KeptWarningLaws.{nothing_at_zero, joined_something, joined_noted_none, joined_noted_assoc}
 use Rattle.gj_coords.specs.Internal.ByKind.{one_kind}
 use Rattle.gj_coords.specs.Internal.WarningLaws.{by_kind_alike, kept_by_kind, joined_none_last, warnings_of_none, added_is}
 use Rattle.gj_coords.specs.Internal.GatheredWarnings.{warnings_in, all_in, noted_when, some_noted, taken_some, taken}
@@ -81,3 +81,16 @@ pub some_noted_is : (none : Bool) (w : Warned) (noted : KindWarnings) → is_not
     → all_in (some_noted none w W4 noted) ≡ with_noted (all_in w) W4 noted
 some_noted_is true w noted h = sym (ap (with_noted (all_in w) W4) (sym (nothing_at_zero noted h)) ∙ with_nothing (all_in w))
 some_noted_is false w noted h = refl
+
+-- twice some warnings are both at once
+pub some_noted_twice : (w : Warned) (a b : KindWarnings) → some_noted (is_nothing b) (some_noted (is_nothing a) w W4 a) W4 b
+    ≡ some_noted (is_nothing (joined_noted a b)) w W4 (joined_noted a b)
+some_noted_twice w a b = by_test (is_nothing a) (is_nothing b) refl refl
+  where
+    by_test : (ta tb : Bool) → is_nothing a ≡ ta → is_nothing b ≡ tb → some_noted (is_nothing b) (some_noted (is_nothing a) w W4 a) W4 b
+        ≡ some_noted (is_nothing (joined_noted a b)) w W4 (joined_noted a b)
+    by_test true tb x y = simp x
+    by_test false true x y = simp (x, y)
+    by_test false false x y =
+        (λ i. some_noted (y i) (some_noted (x i) w W4 a) W4 b) ∙ (λ i. record { warnings = Some (sym (with_both (all_in w) a b) i) })
+        ∙ (λ i. some_noted (sym (joined_something a b x y) i) w W4 (joined_noted a b))

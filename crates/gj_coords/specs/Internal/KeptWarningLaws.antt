@@ -20,6 +20,9 @@ least_nonzero limit m n p q l h k = grind (arith, nat_tests)
 both_something : (a b : KindWarnings) → is_nothing a ≡ false → is_nothing b ≡ false → is_nothing (both a b) ≡ false
 both_something a b h k = least_nonzero greatest_count a.count b.count a.first b.first (omega arith) h k
 
+pub joined_something : (a b : KindWarnings) → is_nothing a ≡ false → is_nothing b ≡ false → is_nothing (joined_noted a b) ≡ false
+joined_something a b h k = simp (h, k) (both_something a b h k)
+
 counts_group : (limit m n p : ℕ) → min (min (m + n) limit + p) limit ≡ min (m + min (n + p) limit) limit
 counts_group limit m n p = omega arith
 

@@ -3,6 +3,7 @@ use Rattle.std.specs.Prelude.{◌≡◌, ◌*◌, ◌^◌, ◌≤◌, List, [], 
 use Rattle.std.specs.Prelude.{FitsSigned}
 use Rattle.std.specs.Int.{int_wrap, w32, w128}
 use Rattle.gj_coords.specs.declared.winding.Corner.{Corner}
+use Rattle.gj_coords.specs.declared.winding.RunningSum.{RunningSum}
 use Rattle.gj_coords.specs.declared.winding.Turn.{Turn}
 use Rattle.gj_coords.specs.declared.winding.Turn.TheVariants.{Unjudged}
 use Rattle.gj_coords.specs.declared.winding.Winding.{Winding}
@@ -20,6 +21,21 @@ term_of (Some last) corner = cross last corner
 -- the sum is held in 128 bits
 abbrev pub corner_added : Winding → Corner → Winding
 corner_added winding corner = record winding { area = int_wrap w128 (winding.area +ℤ term_of winding.last corner); last = Some corner }
+
+-- its sum and its last corner, where there is one
+abbrev pub sum_from : ℤ → Option Corner → Option RunningSum
+sum_from area None = None
+sum_from area (Some last) = Some (record { area = area; last = last })
+
+abbrev pub sum_in : Winding → Option RunningSum
+sum_in winding = sum_from winding.area winding.last
+
+abbrev pub with_sum : Winding → RunningSum → Winding
+with_sum winding sum = record winding { area = sum.area; last = Some sum.last }
+
+-- with a corner more
+abbrev pub sum_added : RunningSum → Corner → RunningSum
+sum_added sum corner = record { area = int_wrap w128 (sum.area +ℤ cross sum.last corner); last = corner }
 
 abbrev pub winding_added : Winding → Option Corner → Winding
 winding_added winding (Some corner) = corner_added winding corner
