@@ -64,12 +64,12 @@ impl PreciseNumbers {
         ensures few { result.count ≤ self.count + 2 }
         ensures noted { counted_noted result ≡ pair_with position.now (counted_noted self) }
     {
-        if position.first.precise {
-            let first = self.first.min(position.first_place);
-            if position.second.precise {
+        if position.first_precise {
+            let first = self.first.min(position.first_place());
+            if position.second_precise {
                 PreciseNumbers {
                     count: self.count + 2,
-                    first: first.min(position.second_place),
+                    first: first.min(position.second_place()),
                 }
             } else {
                 PreciseNumbers {
@@ -77,10 +77,10 @@ impl PreciseNumbers {
                     first,
                 }
             }
-        } else if position.second.precise {
+        } else if position.second_precise {
             PreciseNumbers {
                 count: self.count + 1,
-                first: self.first.min(position.second_place),
+                first: self.first.min(position.second_place()),
             }
         } else {
             self
@@ -154,7 +154,7 @@ pub fn longitude_of(start: &Option<Corner>) -> i64
 fn corner(position: &CutPosition) -> Option<Corner>
     ensures { (flat : Flat) → IsCutPosition position.now flat → result ≡ corner_in (flat_values flat) }
 {
-    Corner::of_cuts(position.first.value, position.second.value)
+    Corner::of_cuts(position.first, position.second)
 }
 
 /// Counts those numbers of a position that are too precise, where the position is in range: whether it is.

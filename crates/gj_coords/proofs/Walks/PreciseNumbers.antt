@@ -1,5 +1,5 @@
 -- What is known of a number's places by how it is written, and of a position's.
-use Rattle.std.proofs.Common.{◌≡◌, ◌∙◌, ◌↔◌, ℕ, ◌<◌, ◌≤◌, ◌==◌, suc, IsTrue, is_none, ap, Bool, if◌then◌else◌, true, false, nat_lt, Option, Some, None, IfSome, ℤ, pos, negsuc}
+use Rattle.std.proofs.Common.{◌≡◌, ◌∙◌, ◌↔◌, ℕ, ◌+◌, ◌<◌, ◌≤◌, ◌==◌, suc, IsTrue, is_none, ap, Bool, if◌then◌else◌, true, false, nat_lt, Option, Some, None, IfSome, ℤ, pos, negsuc}
 use Rattle.std.proofs.Common.{◌-ℤ◌, refl, sym, arith}
 use Rattle.std.proofs.lemmas.Int.{ints}
 use Rattle.std.proofs.lemmas.Bool.Decides.{nat_tests}
@@ -65,8 +65,8 @@ flag_is short cut is = go cut.precise (below_zero (exact_of short).power) is.pre
 
 pair_precise : (p : CutPosition) (f : Flat) → IsCutPosition p f → flat_precise f ≡ pair_with p nothing_noted
 pair_precise p f is =
-    let first = flag_is f.first.value p.first is.first in
-    let second = flag_is f.second.value p.second is.second in
+    let first = flag_is f.first.value (record { value = p.first; precise = p.first_precise }) is.first in
+    let second = flag_is f.second.value (record { value = p.second; precise = p.second_precise }) is.second in
     (λ i. third_precise (is.third i) (precise_with (second i) (is.second_place i) (precise_with (first i) (is.first_place i) nothing_noted)))
 
 pair_noted_is : (p : CutPosition) (f : Flat) (w : Warned) → IsCutPosition p f → is_none (corner_in (flat_values f)) ≡ false
@@ -81,10 +81,10 @@ joined_with false place a b = refl
 
 joined_pair : (p : CutPosition) (noted : KindWarnings) → joined_noted noted (pair_with p nothing_noted) ≡ pair_with p noted
 joined_pair p noted =
-    let first = joined_with p.first.precise p.first_place noted nothing_noted in
+    let first = joined_with p.first_precise (p.place + 1) noted nothing_noted in
     let alone = joined_noted_none noted in
-    joined_with p.second.precise p.second_place noted (precise_with p.first.precise p.first_place nothing_noted)
-    ∙ ap (precise_with p.second.precise p.second_place) (first ∙ ap (precise_with p.first.precise p.first_place) alone)
+    joined_with p.second_precise (p.place + p.second_at) noted (precise_with p.first_precise (p.place + 1) nothing_noted)
+    ∙ ap (precise_with p.second_precise (p.place + p.second_at)) (first ∙ ap (precise_with p.first_precise (p.place + 1)) alone)
 
 pub counted_more : (p : CutPosition) (f : Flat) (old new : PreciseNumbers) → IsCutPosition p f → is_none (corner_in (flat_values f)) ≡ false
     → counted_noted new ≡ pair_with p (counted_noted old) → HasCounted f old new

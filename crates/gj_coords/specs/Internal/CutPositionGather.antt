@@ -1,5 +1,5 @@
 -- What a loop over positions that come as their cut values gathers of them.
-use Rattle.std.specs.Prelude.{◌≡◌, ◌≢◌, ◌==◌, ◌^◌, ◌-◌, ℕ, ℤ, if◌then◌else◌, Some}
+use Rattle.std.specs.Prelude.{◌≡◌, ◌≢◌, ◌==◌, ◌+◌, ◌^◌, ◌-◌, ℕ, ℤ, if◌then◌else◌, Some}
 use Rattle.gj_json.specs.declared.cut_position.CutPosition.{CutPosition}
 use Rattle.gj_json.specs.declared.flat.Flat.{Flat}
 use Rattle.gj_coords.specs.declared.cuts.AddedCuts.{AddedCuts}
@@ -34,7 +34,8 @@ counted_noted numbers = if numbers.count == 0 then nothing_noted else noted_as n
 
 -- with those of a position
 abbrev pub pair_with : CutPosition → KindWarnings → KindWarnings
-pair_with position noted = precise_with position.second.precise position.second_place (precise_with position.first.precise position.first_place noted)
+pair_with position noted = precise_with position.second_precise (position.place + position.second_at)
+    (precise_with position.first_precise (position.place + 1) noted)
 
 -- as many more as a position in range has, whatever they are noted with
 abbrev pub HasCounted : Flat → PreciseNumbers → PreciseNumbers → Type 0

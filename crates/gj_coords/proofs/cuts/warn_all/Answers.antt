@@ -1,6 +1,6 @@
 -- One position more.
 use Rattle.std.proofs.Common.{◌≡◌, ◌∙◌, ℕ, ◌+◌, ◌<◌, suc, length, take, sym, ap, subst, arith}
-use Rattle.gj_json.specs.CutPosition.{AreCutPositions}
+use Rattle.gj_json.specs.CutPosition.{AreCutPositions, IsCutPosition}
 use Rattle.gj_coords.specs.Internal.AddedPositions.{all_noted}
 use Rattle.gj_coords.specs.Internal.FlatPosition.{flat_position}
 use Rattle.gj_coords.specs.Internal.PositionGather.{sound_noted}
@@ -21,7 +21,8 @@ loop-at-preserved c =
       few = omega (arith, c.counts.ensures.few, i.few);
       noted = λ flats are.
           let P : ℕ → Type 0 = λ n. AreCutPositions (take n ps) flats in
-          let m = more_of ps _ at flats less (subst P e are) in
-          c.counts.ensures.counted c.if-counts.true m.last m.is w ∙ ap (λ v. sound_noted v (flat_position m.last)) (i.noted m.before m.are)
+          let m = more_of ps c.index-positions-at.result at flats less (subst P e are) in
+          let is = subst (λ p. IsCutPosition p m.last) (sym c.index-positions-at.is) m.is in
+          c.counts.ensures.counted c.if-counts.true m.last is w ∙ ap (λ v. sound_noted v (flat_position m.last)) (i.noted m.before m.are)
           ∙ sym (noted_more m.before m.last w) ∙ ap (all_noted w) (sym m.joined);
     }

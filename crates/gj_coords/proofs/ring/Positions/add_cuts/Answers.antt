@@ -2,7 +2,7 @@
 use Rattle.std.proofs.Common.{◌≡◌, ◌∙◌, ℕ, ◌+◌, ◌<◌, suc, length, take, None, rules, sym, ap, subst, arith, FitsSigned}
 use Rattle.std.specs.Int.{w64}
 use Rattle.std.proofs.lemmas.Int.{to_z-of_z}
-use Rattle.gj_json.specs.CutPosition.{AreCutPositions}
+use Rattle.gj_json.specs.CutPosition.{AreCutPositions, IsCutPosition}
 use Rattle.gj_coords.specs.Internal.AddedPositions.{positions_added}
 use Rattle.gj_coords.specs.Internal.CutPositionGather.{IsAdded}
 use Rattle.gj_coords.specs.Internal.FlatPosition.{flat_position}
@@ -29,10 +29,11 @@ loop-at-preserved c =
       few = omega (arith, one.few, i.few);
       added = λ flats are.
           let P : ℕ → Type 0 = λ n. AreCutPositions (take n ps) flats in
-          let m = more_of ps _ at flats less (subst P e are) in
+          let m = more_of ps c.index-positions-at.result at flats less (subst P e are) in
+          let is = subst (λ p. IsCutPosition p m.last) (sym c.index-positions-at.is) m.is in
           ap (λ n. with_cuts s n c.adds.new.self) e
           ∙ cut_more s at m.last c.in-Some.first c.longitude_of-start.result c.loop-at.added c.adds.new.self none c.in-Some.is
-          (λ corner is. c.longitude_of-start.ensures corner (c.corner.ensures ∙ is)) (subst (λ x. IsAdded m.last x c.loop-at.added c.adds.new.self) start (one.added c.if-adds.true m.last m.is))
+          (λ corner is. c.longitude_of-start.ensures corner (c.corner.ensures ∙ is)) (subst (λ x. IsAdded m.last x c.loop-at.added c.adds.new.self) start (one.added c.if-adds.true m.last is))
           ∙ ap (λ x. position_added x (flat_position m.last)) (i.added m.before m.are) ∙ sym (added_more m.before m.last s)
           ∙ ap (positions_added s) (sym m.joined);
     }
