@@ -19,9 +19,6 @@ const MOST_AT_ONCE: usize = 1 << 30;
 /// The greatest place: every number stands there or before.
 const NOWHERE: u64 = u64::MAX;
 
-/// A longitude that is out of range, as a cut number.
-const NO_LONGITUDE: i64 = i64::MAX;
-
 /// The numbers of some positions that are too precise, while a loop over the positions counts them. They stand for the
 /// [`KindWarnings`] with this count and this place, or for nothing where there are none. So one more costs an addition and
 /// a comparison.
@@ -69,7 +66,7 @@ impl PreciseNumbers {
             if position.second_precise {
                 PreciseNumbers {
                     count: self.count + 2,
-                    first: first.min(position.second_place()),
+                    first,
                 }
             } else {
                 PreciseNumbers {
@@ -136,17 +133,6 @@ pub fn at_once(positions: &[CutPosition]) -> usize
     ensures most { result ≤ most_at_once }
 {
     positions.len().min(MOST_AT_ONCE)
-}
-
-/// The longitude of a corner, or one that no corner has.
-#[inline(always)]
-pub fn longitude_of(start: &Option<Corner>) -> i64
-    ensures { (corner : Corner) → start.now ≡ Some corner → result ≡ corner.x }
-{
-    match start {
-        Some(corner) => i64::from(corner.x),
-        None => NO_LONGITUDE,
-    }
 }
 
 /// The corner of a position, where it is in range.

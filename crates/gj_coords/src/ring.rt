@@ -9,7 +9,7 @@ use crate::kind::Kind;
 use crate::position::{Numbers, Values, misshapen};
 use crate::tally::Tally;
 use crate::warned::Warned;
-use crate::winding::{Corner, Turn, Winding};
+use crate::winding::{Corner, Turn, Winding, longitude_of};
 use gj_json::{CutPosition, Flat};
 
 /// The least number of positions of a linear ring.
@@ -222,7 +222,7 @@ impl Positions {
         let Some(sum) = self.winding.running_sum() else {
             return 0;
         };
-        let start = cuts::longitude_of(&first.corner());
+        let start = longitude_of(&first.first);
         let most = cuts::at_once(positions);
         let mut added = AddedCuts {
             sum,

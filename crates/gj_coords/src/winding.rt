@@ -1,11 +1,11 @@
 //! How a linear ring runs (RFC 7946, section 3.1.6).
 
-ghost use Rattle.std.specs.Prelude.{◌≡◌, ◌*◌, ◌^◌, ◌≤◌, pos, ◌+ℤ◌, ◌*ℤ◌, Some, IfSome, option_map};
+ghost use Rattle.std.specs.Prelude.{◌≡◌, ◌*◌, ◌^◌, ◌≤◌, ℤ, pos, ◌+ℤ◌, ◌*ℤ◌, Some, IfSome, option_map};
 ghost use Rattle.gj_number.specs.Exact.{cut_places};
 ghost use Rattle.std.specs.Int.{int_wrap, w128};
 ghost use Rattle.gj_number.specs.Short.{exact_of};
 ghost use Rattle.gj_coords.specs.CoordinateWarnings.{is_precise};
-ghost use Rattle.gj_coords.specs.Winding.{bounded, bounded_cut, cut_value, both, sign_of};
+ghost use Rattle.gj_coords.specs.Winding.{bounded, bounded_cut, cut_value, most_longitude, both, sign_of};
 
 use gj_number::{Decimal, Short};
 
@@ -133,6 +133,16 @@ fn bounded_cut(number: &Option<Decimal>, most: i32) -> Option<i32>
             None => None,
         },
         None => None,
+    }
+}
+
+/// The cut number of a longitude that is in range, or one that no longitude in range has.
+pub fn longitude_of(longitude: &Option<Decimal>) -> i64
+    ensures { (x : ℤ) → bounded_cut most_longitude (cut_value longitude.now) ≡ Some x → result ≡ x }
+{
+    match bounded_cut(longitude, MOST_LONGITUDE) {
+        Some(x) => i64::from(x),
+        None => i64::MAX,
     }
 }
 

@@ -1,10 +1,12 @@
 -- Positions that come as their cut values are added as their arrays of numbers are.
-use Rattle.std.proofs.Common.{◌≡◌, ◌∙◌, ℕ, zero, suc, ◌<◌, ◌≤◌, List, [], ◌∷◌, ◌++◌, length, take, slice_index_or, Bool, true, false, ℤ, Option}
-use Rattle.std.proofs.Common.{Some, None, refl, sym, ap, arith}
+use Rattle.std.proofs.Common.{◌≡◌, ◌∙◌, ℕ, zero, suc, ◌+◌, ◌<◌, ◌≤◌, ℤ, List, [], ◌∷◌, ◌++◌, length, take, slice_index_or, Bool, true, false}
+use Rattle.std.proofs.Common.{Option, Some, None, option_map, refl, sym, ap, subst, arith}
 use Rattle.std.proofs.lemmas.Bool.Decides.{Decides-eqb, Decides-and}
 use Rattle.gj_json.specs.declared.cut_position.CutPosition.{CutPosition}
 use Rattle.gj_json.specs.declared.flat.Flat.{Flat}
 use Rattle.gj_json.specs.CutPosition.{IsCutPosition, AreCutPositions, RiseAfter, Rise}
+use Rattle.gj_coords.specs.declared.cuts.AddedCuts.{AddedCuts}
+use Rattle.gj_coords.specs.declared.cuts.PreciseNumbers.{PreciseNumbers}
 use Rattle.gj_coords.specs.declared.position.Values.{Values}
 use Rattle.gj_coords.specs.declared.ring.Positions.{Positions}
 use Rattle.gj_coords.specs.declared.walk.level.Level.{Level}
@@ -12,16 +14,14 @@ use Rattle.gj_coords.specs.declared.walk.outermost.Outermost.{Outermost}
 use Rattle.gj_coords.specs.declared.warned.Warned.{Warned}
 use Rattle.gj_coords.specs.declared.winding.Corner.{Corner}
 use Rattle.gj_coords.specs.declared.winding.Winding.{Winding}
-use Rattle.gj_coords.specs.Winding.{corner_of}
+use Rattle.gj_coords.specs.Winding.{corner_of, both}
 use Rattle.gj_coords.specs.Internal.AddedPositions.{positions_added, all_noted, all_steady, all_first, AllAfter}
-use Rattle.gj_coords.specs.declared.cuts.AddedCuts.{AddedCuts}
-use Rattle.gj_coords.specs.declared.winding.RunningSum.{RunningSum}
-use Rattle.gj_coords.specs.Internal.CutPositionGather.{none_counted, counted_noted, IsAdded}
+use Rattle.gj_coords.specs.Internal.CutPositionGather.{counted_noted, HasCounted, IsAdded}
 use Rattle.gj_coords.specs.Internal.FlatPosition.{flat_position, flat_values, precise_noted}
 use Rattle.gj_coords.specs.Internal.PositionGather.{corner_in, same_values, sound_noted, array_counted}
 use Rattle.gj_coords.specs.Internal.PositionsGather.{position_added}
 use Rattle.gj_coords.specs.Internal.SteadyWalk.{second_steady, first_steady}
-use Rattle.gj_coords.specs.Internal.WindingGather.{winding_added, sum_from, sum_in, with_sum}
+use Rattle.gj_coords.specs.Internal.WindingGather.{winding_added, with_sum}
 use Rattle.gj_coords.proofs.Readers.AgreeingPositions.{option_decides}
 
 -- the same values have the same corner
@@ -38,6 +38,12 @@ differ a b other = go (same_values a b) refl
     go : (same : Bool) → same_values a b ≡ same → same ≡ false
     go false e = refl
     go true e = absurd (other (same_corner a b e))
+
+-- the first of two that are both there
+pub first_of_both : (x y : Option ℤ) (corner : Corner) → both x y ≡ Some corner → x ≡ Some corner.x
+first_of_both (Some x) (Some y) corner e = ap (option_map (λ c. c.x)) e
+first_of_both (Some x) None corner e = cc
+first_of_both None y corner e = cc
 
 pub cut_added : (s : Positions) (flat : Flat) (first : Values) (corner : Corner) (winding : Winding) (warned : Warned) → s.fault ≡ None → s.first ≡ Some first
     → corner_in (flat_values flat) ≡ Some corner → (corner_in first ≡ Some corner → ⊥) → winding ≡ winding_added s.winding (Some corner)
@@ -67,22 +73,12 @@ with_cuts s at added = record s {
   closes = closes_after at s.closes;
 }
 
-pub none_added : (s : Positions) (sum : RunningSum) → sum_in s.winding ≡ Some sum → with_cuts s 0 (record { sum = sum; precise = none_counted }) ≡ s
-none_added s sum is = go s.winding.last refl is
-  where
-    go : (last : Option Corner) → s.winding.last ≡ last → sum_from s.winding.area last ≡ Some sum
-        → with_cuts s 0 (record { sum = sum; precise = none_counted }) ≡ s
-    go None here is = cc
-    go (Some last) here is =
-        let same : sum ≡ record { area = s.winding.area; last = last } = cc in
-        (λ i. record s { winding = record s.winding { area = (same i).area; last = (ap (λ x. Some x.last) same ∙ sym here) i } })
-
-pub cut_more : (s : Positions) (at : ℕ) (flat : Flat) (first : Values) (start : ℤ) (old new : AddedCuts) → s.fault ≡ None → s.first ≡ Some first
+one_cut_more : (s : Positions) (at : ℕ) (flat : Flat) (first : Values) (start : ℤ) (old new : AddedCuts) → s.fault ≡ None → s.first ≡ Some first
     → ((corner : Corner) → corner_in first ≡ Some corner → start ≡ corner.x) → IsAdded flat start old new
     → with_cuts s (suc at) new ≡ position_added (with_cuts s at old) (flat_position flat)
-cut_more s at flat first start old new sound begun longitude is =
-    cut_added (with_cuts s at old) flat first is.corner (with_sum s.winding new.sum) (precise_noted s.warned (counted_noted new.precise)) sound begun is.in_range
-    (λ e. is.apart (longitude is.corner e)) (ap (with_sum s.winding) is.sum) (is.counted s.warned)
+one_cut_more s at flat first start old new sound begun longitude is =
+    cut_added (with_cuts s at old) flat first is.corner (with_sum s.winding new.sum) (precise_noted s.warned (counted_noted new.precise)) sound begun
+    is.in_range (λ e. is.apart (longitude is.corner e)) (ap (with_sum s.winding) is.sum) (is.counted s.warned)
 
 -- what is written back is that
 pub cuts_written : (s : Positions) (at : ℕ) (added : AddedCuts) (winding : Winding) (warned : Warned) → 0 < at → winding ≡ with_sum s.winding added.sum
@@ -102,7 +98,7 @@ pub record IsMore (ps : List CutPosition) (d : CutPosition) (k : ℕ) (flats : L
   pub are : AreCutPositions (take k ps) before
   pub is : IsCutPosition (slice_index_or ps k d) last
 
-pub more_of : (ps : List CutPosition) (d : CutPosition) (k : ℕ) (flats : List Flat) → k < length ps → AreCutPositions (take (suc k) ps) flats
+more_of : (ps : List CutPosition) (d : CutPosition) (k : ℕ) (flats : List Flat) → k < length ps → AreCutPositions (take (suc k) ps) flats
     → IsMore ps d k flats
 more_of [] d k flats less are = absurd (omega (arith, less))
 more_of (p ∷ ps) d k [] less are = absurd are
@@ -112,13 +108,38 @@ more_of (p ∷ ps) d (suc k) (f ∷ fs) less are =
     let m = more_of ps d k fs (omega (arith, less)) are.1 in
     record { before = f ∷ m.before; last = m.last; joined = ap (λ xs. f ∷ xs) m.joined; are = (are.0, m.are); is = m.is }
 
-pub added_more : (fs : List Flat) (f : Flat) (s : Positions) → positions_added s (fs ++ f ∷ []) ≡ position_added (positions_added s fs) (flat_position f)
+added_more : (fs : List Flat) (f : Flat) (s : Positions) → positions_added s (fs ++ f ∷ []) ≡ position_added (positions_added s fs) (flat_position f)
 added_more [] f s = refl
 added_more (g ∷ fs) f s = added_more fs f (position_added s (flat_position g))
 
-pub noted_more : (fs : List Flat) (f : Flat) (w : Warned) → all_noted w (fs ++ f ∷ []) ≡ sound_noted (all_noted w fs) (flat_position f)
+noted_more : (fs : List Flat) (f : Flat) (w : Warned) → all_noted w (fs ++ f ∷ []) ≡ sound_noted (all_noted w fs) (flat_position f)
 noted_more [] f w = refl
 noted_more (g ∷ fs) f w = noted_more fs f (sound_noted w (flat_position g))
+
+-- so a loop adds one more to what it has added
+pub cuts_more : (s : Positions) (ps : List CutPosition) (d : CutPosition) (at : ℕ) (first : Values) (start : ℤ) (old new : AddedCuts) → at < length ps
+    → s.fault ≡ None → s.first ≡ Some first → ((corner : Corner) → corner_in first ≡ Some corner → start ≡ corner.x)
+    → ((flat : Flat) → IsCutPosition (slice_index_or ps at d) flat → IsAdded flat start old new)
+    → ((flats : List Flat) → AreCutPositions (take at ps) flats → with_cuts s at old ≡ positions_added s flats)
+    → (flats : List Flat) → AreCutPositions (take (at + 1) ps) flats → with_cuts s (at + 1) new ≡ positions_added s flats
+cuts_more s ps d at first start old new less sound begun longitude one all flats are =
+    let e : at + 1 ≡ suc at = omega arith in
+    let P : ℕ → Type 0 = λ n. AreCutPositions (take n ps) flats in
+    let m = more_of ps d at flats less (subst P e are) in
+    ap (λ n. with_cuts s n new) e ∙ one_cut_more s at m.last first start old new sound begun longitude (one m.last m.is)
+    ∙ ap (λ x. position_added x (flat_position m.last)) (all m.before m.are) ∙ sym (added_more m.before m.last s) ∙ ap (positions_added s) (sym m.joined)
+
+-- and counts the numbers of one more
+pub counts_more : (w : Warned) (ps : List CutPosition) (d : CutPosition) (at : ℕ) (old new : PreciseNumbers) → at < length ps
+    → ((flat : Flat) → IsCutPosition (slice_index_or ps at d) flat → HasCounted flat old new)
+    → ((flats : List Flat) → AreCutPositions (take at ps) flats → precise_noted w (counted_noted old) ≡ all_noted w flats)
+    → (flats : List Flat) → AreCutPositions (take (at + 1) ps) flats → precise_noted w (counted_noted new) ≡ all_noted w flats
+counts_more w ps d at old new less one all flats are =
+    let e : at + 1 ≡ suc at = omega arith in
+    let P : ℕ → Type 0 = λ n. AreCutPositions (take n ps) flats in
+    let m = more_of ps d at flats less (subst P e are) in
+    one m.last m.is w ∙ ap (λ v. sound_noted v (flat_position m.last)) (all m.before m.are) ∙ sym (noted_more m.before m.last w)
+    ∙ ap (all_noted w) (sym m.joined)
 
 -- ---- by the arrays around them
 

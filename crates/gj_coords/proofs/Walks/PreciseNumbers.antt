@@ -1,6 +1,6 @@
 -- What is known of a number's places by how it is written, and of a position's.
-use Rattle.std.proofs.Common.{◌≡◌, ◌∙◌, ◌↔◌, ℕ, ◌+◌, ◌<◌, ◌≤◌, ◌==◌, suc, IsTrue, is_none, ap, Bool, if◌then◌else◌, true, false, nat_lt, Option, Some, None, IfSome, ℤ, pos, negsuc}
-use Rattle.std.proofs.Common.{◌-ℤ◌, refl, sym, arith}
+use Rattle.std.proofs.Common.{◌≡◌, ◌∙◌, ◌↔◌, ℕ, ◌+◌, ◌<◌, ◌≤◌, ◌==◌, suc, Bool, if◌then◌else◌, true, false, IsTrue, nat_lt, Option, Some, None, is_none, IfSome}
+use Rattle.std.proofs.Common.{ℤ, pos, negsuc, ◌-ℤ◌, refl, sym, ap, arith}
 use Rattle.std.proofs.lemmas.Int.{ints}
 use Rattle.std.proofs.lemmas.Bool.Decides.{nat_tests}
 use Rattle.gj_number.specs.Exact.{below_zero, zero_exact}
@@ -12,12 +12,12 @@ use Rattle.gj_json.specs.CutPosition.{IsCutPosition}
 use Rattle.gj_json.specs.declared.cut_position.CutPosition.{CutPosition}
 use Rattle.gj_json.specs.declared.flat.Flat.{Flat}
 use Rattle.gj_json.specs.declared.flat.Numbered.{Numbered}
+use Rattle.gj_coords.specs.declared.cuts.PreciseNumbers.{PreciseNumbers}
+use Rattle.gj_coords.specs.declared.kind.Kind.TheVariants.{W3, W4, W5}
 use Rattle.gj_coords.specs.declared.kind_warnings.KindWarnings.{KindWarnings}
 use Rattle.gj_coords.specs.declared.warned.Warned.{Warned}
 use Rattle.gj_coords.specs.declared.winding.Corner.{Corner}
 use Rattle.gj_coords.specs.CoordinateWarnings.{is_precise}
-use Rattle.gj_coords.specs.declared.cuts.PreciseNumbers.{PreciseNumbers}
-use Rattle.gj_coords.specs.declared.kind.Kind.TheVariants.{W3, W4, W5}
 use Rattle.gj_coords.specs.Internal.CutPositionGather.{counted_noted, pair_with, HasCounted}
 use Rattle.gj_coords.specs.Internal.GatheredWarnings.{noted_when, some_noted}
 use Rattle.gj_coords.specs.Internal.GatheredWarningLaws.{some_noted_twice}

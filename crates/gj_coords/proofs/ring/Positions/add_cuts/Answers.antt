@@ -1,13 +1,10 @@
--- One position more.
-use Rattle.std.proofs.Common.{◌≡◌, ◌∙◌, ℕ, ◌+◌, ◌<◌, suc, length, take, None, rules, sym, ap, subst, arith, FitsSigned}
+-- One position more, and what is written at the end.
 use Rattle.std.specs.Int.{w64}
+use Rattle.std.proofs.Common.{◌≡◌, ◌∙◌, ◌<◌, length, None, rules, sym, ap, subst, arith, FitsSigned}
 use Rattle.std.proofs.lemmas.Int.{to_z-of_z}
-use Rattle.gj_json.specs.CutPosition.{AreCutPositions, IsCutPosition}
-use Rattle.gj_coords.specs.Internal.AddedPositions.{positions_added}
+use Rattle.gj_json.specs.CutPosition.{IsCutPosition}
 use Rattle.gj_coords.specs.Internal.CutPositionGather.{IsAdded}
-use Rattle.gj_coords.specs.Internal.FlatPosition.{flat_position}
-use Rattle.gj_coords.specs.Internal.PositionsGather.{position_added}
-use Rattle.gj_coords.proofs.Walks.CutPositions.{more_of, added_more, cut_more, cuts_written, with_cuts}
+use Rattle.gj_coords.proofs.Walks.CutPositions.{first_of_both, cuts_more, cuts_written, with_cuts}
 use Rattle.gj_coords.proofs.ring.Positions.add_cuts.Goals as goal
 use Rattle.gj_coords.proofs.ring.Positions.add_cuts.Goals.{then-loop-at-test+else-adds, else-loop-at-test}
 
@@ -15,27 +12,22 @@ pub loop-at-preserved : goal.loop-at-preserved
 loop-at-preserved c =
     let i = c.loop-at.invariant in
     let s = c.args.self.now in
-    let ps = c.args.positions.now in
-    let at = c.loop-at.at in
+    let old = c.loop-at.added in
+    let new = c.adds.new.self in
+    let start = c.longitude_of-start.result in
+    let element = c.index-positions-at in
     let one = c.adds.ensures in
     let none : s.fault ≡ None = search rules in
-    let e : at + 1 ≡ suc at = omega arith in
-    let less : at < length ps = omega (arith, c.loop-at-test.true, c.at_once-most.ensures.few) in
-    let fits : FitsSigned w64 c.longitude_of-start.result = search rules in
-    let start = to_z-of_z w64 _ fits in
+    let fits : FitsSigned w64 start = search rules in
+    let less : c.loop-at.at < length c.args.positions.now = omega (arith, c.loop-at-test.true, c.at_once-most.ensures.few) in
     record {
       within = omega (arith, c.loop-at-test.true);
       least = one.least;
       few = omega (arith, one.few, i.few);
-      added = λ flats are.
-          let P : ℕ → Type 0 = λ n. AreCutPositions (take n ps) flats in
-          let m = more_of ps c.index-positions-at.result at flats less (subst P e are) in
-          let is = subst (λ p. IsCutPosition p m.last) (sym c.index-positions-at.is) m.is in
-          ap (λ n. with_cuts s n c.adds.new.self) e
-          ∙ cut_more s at m.last c.in-Some.first c.longitude_of-start.result c.loop-at.added c.adds.new.self none c.in-Some.is
-          (λ corner is. c.longitude_of-start.ensures corner (c.corner.ensures ∙ is)) (subst (λ x. IsAdded m.last x c.loop-at.added c.adds.new.self) start (one.added c.if-adds.true m.last is))
-          ∙ ap (λ x. position_added x (flat_position m.last)) (i.added m.before m.are) ∙ sym (added_more m.before m.last s)
-          ∙ ap (positions_added s) (sym m.joined);
+      added = cuts_more s c.args.positions.now element.result c.loop-at.at c.in-Some.first start old new less none c.in-Some.is
+          (λ corner is. c.longitude_of-start.ensures corner.x (first_of_both _ _ corner is))
+          (λ flat is. subst (λ x. IsAdded flat x old new) (to_z-of_z w64 start fits)
+          (one.added c.if-adds.true flat (subst (λ p. IsCutPosition p flat) (sym element.is) is))) i.added;
     }
 
 pub returns-then-at-gt0-clause-added : goal.returns-then-at-gt0-clause-added
