@@ -175,6 +175,7 @@ fn product(x: i32, y: i32) -> i64
     i64::from(x) * i64::from(y)
 }
 
+#[inline(always)]
 fn wrapped_sum(area: i128, term: i64) -> i128
     ensures { result ≡ int_wrap w128 (area +ℤ term) }
 {
