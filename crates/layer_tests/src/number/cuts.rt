@@ -1,17 +1,30 @@
 //! What no clause says: the cut values of pairs, and which others are left.
 use crate::checks::equal;
-use gj_number::read_inner_cut_pair;
+use gj_number::{Signs, read_inner_cut_pair};
 
 /// The numbers, each by its value times 10^7 and whether it is too precise, and where the comma and the closing bracket
 /// stand.
 type Parts = (i64, bool, i64, bool, usize, usize);
 
+/// Which of the two numbers of a text have a minus sign.
+fn signs_of(text: &str) -> Signs {
+    Signs {
+        first: text.starts_with('-'),
+        second: text.contains(",-"),
+    }
+}
+
+/// What is read of a text, with the signs that its numbers have.
 fn parts(text: &str) -> Option<Parts> {
+    parts_as(text, signs_of(text))
+}
+
+fn parts_as(text: &str, signs: Signs) -> Option<Parts> {
     let mut piece = [b' '; 64];
     for (to, from) in piece.iter_mut().zip(text.as_bytes()) {
         *to = *from;
     }
-    match read_inner_cut_pair(&piece) {
+    match read_inner_cut_pair(&piece, signs) {
         Some(pair) => Some((
             pair.first.value,
             pair.first.precise,
@@ -81,6 +94,21 @@ static PAIRS: [(&str, Parts); 14] = [
 fn reads_cut_pairs(rt: HostRuntime) {
     for (text, expected) in PAIRS.iter() {
         equal(&rt, parts(text), Some(*expected), text);
+    }
+}
+
+#[test]
+fn leaves_pairs_with_other_signs(rt: HostRuntime) {
+    for (text, _) in PAIRS.iter() {
+        let Signs { first, second } = signs_of(text);
+        let others = [(!first, second), (first, !second), (!first, !second)];
+        for (first, second) in others.iter() {
+            let signs = Signs {
+                first: *first,
+                second: *second,
+            };
+            equal(&rt, parts_as(text, signs), None, text);
+        }
     }
 }
 
