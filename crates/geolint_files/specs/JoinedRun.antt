@@ -20,7 +20,7 @@ AreLinesOfNotes options name asked notes lines tally =
     × ArePlacedLines reading asked options.most options.limits name text notes.notes.items notes.count lines)
     ⊎ AreLinesOf IsUnplaced name notes.notes.items notes.count lines)
 
--- a file of this name, of which this is found; its notes are told where there are some, and where they are asked for
+-- a file of this name, of which this is found; its notes are reported where there are some, and where they are asked for
 abbrev pub IsFileOf : Options → Option Notes → Option Asked → List ℕ → Finding → ToldFile → Type 0
 IsFileOf options None asked name finding (judged report) = (report.name.now ≡ name) × (report.finding ≡ finding)
 IsFileOf options (Some notes) None name finding (judged report) = (report.name.now ≡ name) × (report.finding ≡ finding)

@@ -70,7 +70,7 @@ fn main(rt: HostRuntime) -> ExitCode {
     }
 }
 
-/// The status of a run. Where the features of a file are to be set apart, and were not, nothing is checked.
+/// The status of a run. Where the features of a file are to be split, and were not, nothing is checked.
 fn run_order(rt: &HostRuntime, order: &Order) -> u8 {
     if let Some(parts) = &order.parts
         && !set_apart(rt, order, parts)

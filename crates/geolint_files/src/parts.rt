@@ -1,4 +1,4 @@
-//! The features or the records of a file are set apart into files, and it is said how many they are.
+//! Splits the features or the records of a file into files, and says how many each has.
 
 use crate::files::{is_memory, reason, spell};
 use crate::walk::framing_by;
@@ -10,7 +10,7 @@ use split_files::{Counts, Order as SplitOrder, Part, Stop, Undone, Whole, Writte
 use std::alloc::AllocError;
 use std::io::{self, ErrorKind, Write};
 
-/// Whether the features or the records of the file were set apart. What was written, or why it was not, is said on standard error.
+/// Whether the features or the records of the file were split. A line on standard error says what was written, or why it was not.
 pub fn set_apart(rt: &HostRuntime, order: &Order, parts: &Parts) -> bool {
     let Some(path) = order.paths.as_slice().first() else {
         return false;
@@ -85,7 +85,7 @@ fn put_written(
     }
 }
 
-/// Puts why the features or the records were not set apart, or not all.
+/// Puts why the features or the records were not split, or not all.
 fn put_undone(
     rt: &HostRuntime,
     undone: &Undone,

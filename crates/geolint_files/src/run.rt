@@ -507,7 +507,7 @@ impl<'a, W: Write + Drop> Run<'a, W> {
         }
     }
 
-    /// How the texts of a file of this name are set apart: as the words say, or as the name does.
+    /// How the texts of a file of this name are separated: as the words say, or as the name does.
     fn framing(&self, name: &[u8]) -> Option<Framing>
         ensures { result ≡ framing_by self.now.options.framing name.now }
     {

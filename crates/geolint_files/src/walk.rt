@@ -24,7 +24,7 @@ fn ends_in_one(name: &[u8], endings: &[Vec<u8>]) -> bool
         .any(|ending| ends_in(name, ending.as_slice()))
 }
 
-/// How the texts of a file of this name are set apart: it is a text sequence, or newline-delimited texts, or one text.
+/// How the texts of a file of this name are separated: it is a text sequence, or newline-delimited texts, or one text.
 pub fn framing_of(name: &[u8]) -> Option<Framing>
     ensures { result ≡ framing_of name.now }
 {
@@ -37,7 +37,7 @@ pub fn framing_of(name: &[u8]) -> Option<Framing>
     }
 }
 
-/// How the texts of a file of this name are set apart: as the words say, or as the name does.
+/// How the texts of a file of this name are separated: as the words say, or as the name does.
 pub fn framing_by(given: Option<Framing>, name: &[u8]) -> Option<Framing>
     ensures { result ≡ framing_by given name.now }
 {

@@ -89,7 +89,7 @@ pub struct Order {
     pub cut: Option<Cut>,
 }
 
-/// The files that the features of a file are set apart into.
+/// The files that the features of a file are split into.
 #[derive(Drop)]
 pub struct Parts {
     /// What their names begin with.
@@ -367,7 +367,7 @@ fn name_end_in(given: &ArgMatches<'_>) -> NameEnd
     }
 }
 
-/// The files that the features of a file are set apart into, where that is asked for.
+/// The files that the features of a file are split into, where that is asked for.
 fn parts_in(alloc: Global, given: &ArgMatches<'_>) -> Result<Option<Parts>, AllocError>
     ensures { first_value (found_of given.now) (codes "split") ≡ None → IfOk result (λ parts. parts ≡ None) }
 {
@@ -395,7 +395,7 @@ fn explained_in<'a>(given: &ArgMatches<'a>) -> Result<Option<Topic>, &'a str>
     }
 }
 
-/// Why what is named is not set apart.
+/// Why what is named cannot be split.
 fn wrong_split(given: &ArgMatches<'_>, paths: &[Vec<u8>], has_list: bool) -> Option<&'static str>
     ensures { first_value (found_of given.now) (codes "split") ≡ None → result ≡ None }
 {
@@ -449,7 +449,7 @@ fn options_of<'a>(given: &ArgMatches<'a>) -> Result<Options, &'a str>
     })
 }
 
-/// How the texts of each file are set apart, where the words say it.
+/// How the texts of each file are separated, where the words say it.
 pub fn framing_in(given: &ArgMatches<'_>) -> Option<Framing>
     ensures sequence { one_text (found_of given.now) (codes "seq") ≡ Some (codes "true") → result ≡ Some Framing.Sequence }
     ensures lines { one_text (found_of given.now) (codes "seq") ≡ Some (codes "false")

@@ -48,7 +48,7 @@ impl Reading {
     ghost use Rattle.std.specs.Prelude.{◌≡◌};
     ghost use Rattle.geolint_report.specs.Judged.{framing_in};
 
-    /// How the texts of what is read are set apart, where it is of records.
+    /// How the texts of what is read are separated, where it has records.
     pub fn framing(self) -> Option<Framing>
         ensures { result ≡ framing_in self }
     {

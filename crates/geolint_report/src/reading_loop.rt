@@ -72,7 +72,7 @@ pub trait Feeds<L> {
         ensures decided { result ≡ Stage.Decided → (bytes : List ℕ) → stands fed.old bytes → decided fed.new (bytes ++ piece.now) };
 }
 
-/// What hears how many bytes come.
+/// What counts the bytes as they come.
 pub trait Counts {
     fn add_bytes(&mut self, count: usize);
 }

@@ -80,13 +80,13 @@ static LIKE_JSON: [Row; 29] = [
         b"[1,\n]",
         4,
         Some(Hint::ExtraComma),
-        "behind the last element",
+        "after the last element",
     ),
     (
         b"{\"a\":1, }",
         8,
         Some(Hint::ExtraComma),
-        "behind the last member",
+        "after the last member",
     ),
     (b"[1,,2]", 3, Some(Hint::ExtraComma), "two"),
     (
@@ -102,7 +102,7 @@ static LIKE_JSON: [Row; 29] = [
         b"[\"caf\xE9\"]",
         6,
         Some(Hint::Latin1),
-        "behind the first letter",
+        "after the first letter",
     ),
     (
         b"[\"\xA7 1\"]",
@@ -114,7 +114,7 @@ static LIKE_JSON: [Row; 29] = [
         b"[\"\xC3\x9F\xDFe\"]",
         5,
         Some(Hint::Latin1),
-        "behind one in UTF-8",
+        "after one in UTF-8",
     ),
     (
         b"[\"\xE2\x82x\"]",
@@ -138,13 +138,13 @@ static LIKE_JSON: [Row; 29] = [
         b"[\"\xC3\x9F\n\"]",
         4,
         None,
-        "a line break behind a whole letter",
+        "a line break after a whole letter",
     ),
     (
         b"[\"\xE2\x82\xAC\n\"]",
         5,
         None,
-        "and behind one of three bytes",
+        "and after one of three bytes",
     ),
     (
         b"[\xC2\xA01]",

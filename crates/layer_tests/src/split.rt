@@ -1,4 +1,4 @@
-//! The features of a text and the records of an input, set apart.
+//! The features of a text and the records of an input, split into valid and broken ones.
 ghost use Rattle.std.specs.Prelude.{None};
 
 use crate::checks::{equal, holds};

@@ -62,7 +62,7 @@ pub struct Options {
     pub allowed: Kinds,
     /// Only whether each file is valid is asked.
     pub quick: bool,
-    /// How the texts of each file are set apart, whatever its name is.
+    /// How the texts of each file are separated, whatever its name is.
     pub framing: Option<Framing>,
     pub format: Format,
     pub summary: bool,

@@ -2,7 +2,7 @@
 //!
 //! The records of a part are those that begin in its range of bytes. [`check_part`] finds where a part begins and ends, and
 //! checks its bytes alone. [`join_parts`] makes the verdict of the whole from those of all parts. Where the source tells its
-//! bytes, that is the verdict of one reading of the whole. [`joined_notes`] says what is told of its records.
+//! bytes, that is the verdict of one reading of the whole. [`joined_notes`] says what is reported of its records.
 #![tactic(auto)]
 
 mod checked;

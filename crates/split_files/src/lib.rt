@@ -1,7 +1,7 @@
 //! The features or the records of a file, written to separate files.
 //!
 //! [`split_file`] reads `NAME` and writes `PREFIX.valid.geojsons` and `PREFIX.broken.geojsons`, a text sequence (RFC 8142) each, as
-//! [`gj_split::split`] sets the features apart, or [`gj_split::split_records`] the records. `PREFIX.broken.json` has a line of
+//! [`gj_split::split`] splits the features, or [`gj_split::split_records`] the records. `PREFIX.broken.json` has a line of
 //! JSON for each feature or record of the second.
 #![tactic(auto)]
 

@@ -24,7 +24,7 @@ pub struct Order<'a> {
     pub overwrites: bool,
     /// The limits under which the file is checked.
     pub limits: Limits,
-    /// How its texts are set apart, where it has more than one.
+    /// How its texts are separated, where it has more than one.
     pub framing: Option<Framing>,
 }
 

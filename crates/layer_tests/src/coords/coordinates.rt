@@ -187,7 +187,7 @@ static RINGS: [(&str, Simple, Found, &str); 12] = [
         "[[],[[[0,0],[1,0],[1,1],[0,1]]]]",
         Simple::MultiPolygon,
         Some((G15, 5)),
-        "behind an empty polygon",
+        "after an empty polygon",
     ),
     ("[[[1,2]]]", Simple::Polygon, Some((G14, 1)), "one position"),
     (

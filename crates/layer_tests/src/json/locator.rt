@@ -104,7 +104,7 @@ static CONTAINERS: [Row; 13] = [
     (b"{\"crs\":{", &[PathStep::Member(Known::Crs)], "crs"),
     (b"[[1],[2],", &[], "two arrays have closed"),
     (b"[[1],[2],[", &[THIRD], "the third opens"),
-    (b"[[1,2],3", &[SECOND], "a number behind an array"),
+    (b"[[1,2],3", &[SECOND], "a number after an array"),
     (b"{\"a\":1,\"b\":[2]", &[], "a member has ended"),
     (
         b"{\"a\":1,\"b\":[2],\"id\":t",
@@ -116,7 +116,7 @@ static CONTAINERS: [Row; 13] = [
     (
         b"[[[],[]],[],[[]",
         &[THIRD],
-        "behind arrays without elements",
+        "after arrays without elements",
     ),
     (b"[{\"id\\\"\":[", &[FIRST, OTHER], "a quote in a name"),
     (

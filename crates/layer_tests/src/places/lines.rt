@@ -14,7 +14,7 @@ fn place_behind(text: &[u8], most: usize) -> (u64, u64) {
 static TEXTS: [(&[u8], (u64, u64), &str); 8] = [
     (b"", (1, 1), "the start"),
     (b"{\"a\"", (1, 5), "four characters"),
-    (b"{\n", (2, 1), "behind LF"),
+    (b"{\n", (2, 1), "after LF"),
     (b"{\r\n ", (2, 2), "CR LF ends a line once"),
     (b"a\rb", (1, 4), "CR alone ends none"),
     (b"\t\t", (1, 3), "a tab is one character"),

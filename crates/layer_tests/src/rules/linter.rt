@@ -29,7 +29,7 @@ fn fed(first: &[u8], collections: usize, last: &[u8]) -> Linter {
     linter
 }
 
-/// What is fed first, how many collections, what is fed last, and how many levels and judged objects are open then.
+/// What is fed first, how many collections, what is fed last, and how many levels and objects with a role are open then.
 static LEVELS: [(&[u8], usize, &[u8], u16, u16); 9] = [
     (b"", 0, b"", 0, 0),
     (b"{\"features\":[{\"properties\":{\"a\":[", 0, b"", 5, 2),
@@ -236,7 +236,7 @@ static OF_OBJECTS: [Row; 17] = [
     (
         b"{\"geometries\":[{\"geometries\":[],\"type\":\"GeometryCollection\"}],\"type\":\"GeometryCollection\"}",
         &[(Kind::W7, 1, 15)],
-        "types behind their geometries",
+        "types after their geometries",
     ),
     (
         b"\xEF\xBB\xBF{\"type\":\"Point\",\"coordinates\":[1,2]}",

@@ -161,7 +161,7 @@ fn a_position_is_the_value(rt: HostRuntime) {
     }
 }
 
-/// A value, and how many arrays in it are told as one.
+/// A value, and how many arrays in it are reported as one.
 static TOLD: [(&str, u64); 15] = [
     ("[1,2]", 0),
     ("[1,2,3]", 0),
@@ -208,8 +208,8 @@ fn told_as_one_or_by_events(rt: HostRuntime) {
     }
 }
 
-/// A value, how many arrays in it are told as one, and how many as their cut values: those from the seventh on, as long as
-/// their signs are those of the one before them, and none needs more than its cut values. Six arrays after these are told as
+/// A value, how many arrays in it are reported as one, and how many as their cut values: those from the seventh on, as long as
+/// their signs are those of the one before them, and none needs more than its cut values. Six arrays after these are reported as
 /// one, and then others may follow by their cut values.
 static MANY: [(&str, u64, usize); 13] = [
     (

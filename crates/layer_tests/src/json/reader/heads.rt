@@ -48,7 +48,7 @@ fn heads_keep_to_the_depth(rt: HostRuntime) {
     }
 }
 
-/// A head is told where enough bytes come after it in the piece, and else token by token.
+/// A head is reported where enough bytes come after it in the piece, and else token by token.
 #[test]
 fn heads_keep_to_the_piece(rt: HostRuntime) {
     for text in TEXTS.iter() {

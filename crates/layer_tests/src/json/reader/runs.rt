@@ -82,7 +82,7 @@ static LONG_STRINGS: [(u64, &[u8], Refusal, &str); 4] = [
         1 << 60,
         WHOLE_CHARACTER,
         Some((Cause::Truncated, 110)),
-        "a character behind the run",
+        "a character after the run",
     ),
     (
         50,

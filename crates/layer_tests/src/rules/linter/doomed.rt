@@ -88,7 +88,7 @@ static BY_VALUES: [(&[u8], usize, &str); 8] = [
     (
         b"{\"geometries\":[{}],\"type\":\"GeometryCollection\"",
         46,
-        "a geometry, once the type is told",
+        "a geometry, once the type is known",
     ),
 ];
 

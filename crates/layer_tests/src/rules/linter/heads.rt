@@ -1,4 +1,4 @@
-//! Beginnings of features and geometries that are told at once: the verdict is that of each cutting.
+//! Beginnings of features and geometries that are reported at once: the verdict is that of each cutting.
 
 use super::{by_bytes, in_two};
 use crate::checks::{holds, holds_at};

@@ -105,7 +105,7 @@ static LONG_LISTS: [(&[u8], &[u8], u32, &[u8], Wanted, &str); 7] = [
         100,
         b"\xE2\x82\xAC\"}",
         Broken(Rule::G2, 0),
-        "a character behind a run",
+        "a character after a run",
     ),
     (
         b"{\"a\":\"",
@@ -113,7 +113,7 @@ static LONG_LISTS: [(&[u8], &[u8], u32, &[u8], Wanted, &str); 7] = [
         100,
         b"\xE2\x82\x28",
         NotJson(Cause::Syntax, 108),
-        "no character behind a run",
+        "no character after a run",
     ),
     (
         b"{\"a\":\"",
@@ -121,7 +121,7 @@ static LONG_LISTS: [(&[u8], &[u8], u32, &[u8], Wanted, &str); 7] = [
         70,
         b"\x1F",
         NotJson(Cause::Syntax, 76),
-        "a control byte behind a run",
+        "a control byte after a run",
     ),
     (
         b"{\"a\":\"",
@@ -129,7 +129,7 @@ static LONG_LISTS: [(&[u8], &[u8], u32, &[u8], Wanted, &str); 7] = [
         100,
         b"\xE2\x82",
         NotJson(Cause::Truncated, 108),
-        "half a character behind a run",
+        "half a character after a run",
     ),
 ];
 
