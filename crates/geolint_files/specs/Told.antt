@@ -19,7 +19,7 @@ reading_by (Some Framing.Lines) quick = Reading.Lines
 reading_by None true = Reading.Quick
 reading_by None false = Reading.Text
 
--- how its texts are set apart: as the words say, or as the name does
+-- how its texts are separated: as the words say, or as the name does
 abbrev pub framing_by : Option Framing → List ℕ → Option Framing
 framing_by (Some framing) name = Some framing
 framing_by None name = framing_of name

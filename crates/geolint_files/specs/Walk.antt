@@ -1,4 +1,4 @@
--- Which files of a folder are checked, and how their texts are set apart, by their names; what a call names, and which names come next.
+-- Which files of a folder are checked, and how their texts are separated, by their names; what a call names, and which names come next.
 use Rattle.std.specs.Prelude.{ℕ, ◌+◌, ◌==◌, ◌-◌, ◌&&◌, ◌||◌, Bool, false, List, [], ◌∷◌, ◌++◌, map, Vec, length, drop, codes, nat_eq, if◌then◌else◌}
 use Rattle.std.specs.Prelude.{Option, Some}
 use Rattle.std.specs.Prelude.{None, is_some}
@@ -21,7 +21,7 @@ dot = 46
 abbrev pub ends_in : List ℕ → List ℕ → Bool
 ends_in name ending = str_eq_ignore_ascii_case (drop (length name - length ending) name) ending
 
--- how the texts of a file of this name are set apart; others are one text
+-- how the texts of a file of this name are separated; others are one text
 abbrev pub framing_of : List ℕ → Option Framing
 framing_of name =
     if ends_in name (codes ".geojsons")

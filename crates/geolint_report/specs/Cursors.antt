@@ -22,7 +22,7 @@ abbrev pub StandsBy : Option (List ℕ) → Cursor → Type 0
 StandsBy None cursor = ⊤
 StandsBy (Some text) cursor = StandsIn text cursor
 
--- both in a file whose texts are set apart so
+-- both in a file whose texts are separated so
 abbrev pub StandBy : Option Framing → Option (List ℕ) → Cursors → Type 0
 StandBy framing text cursors =
     ((cursors.ahead.text_path.framing ≡ framing) × (cursors.behind.text_path.framing ≡ framing)) × StandsBy text cursors.ahead × StandsBy text cursors.behind

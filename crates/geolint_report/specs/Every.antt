@@ -109,12 +109,12 @@ Lists limits bytes listing = (text : Text) → IsAdmitted limits text bytes → 
 abbrev pub ListsRecords : Framing → Allowed → List ℕ → Listing → Type 0
 ListsRecords framing limits bytes listing = (found : List Record) × AreAllFindings framing limits bytes found × KeepsRecords listing found
 
--- the features of a text, or the records where the bytes are set apart into some
+-- the features of a text, or the records where the bytes are separated into some
 abbrev pub ListsIn : Option Framing → Allowed → List ℕ → Listing → Type 0
 ListsIn None limits bytes listing = Lists limits bytes listing
 ListsIn (Some framing) limits bytes listing = ListsRecords framing limits bytes listing
 
--- as above, where the reader told its bytes
+-- as above, where the reader tells its bytes
 abbrev pub ListsBy : Option Framing → Allowed → Option (List ℕ) → Listing → Type 0
 ListsBy framing limits None listing = ⊤
 ListsBy framing limits (Some bytes) listing = ListsIn framing limits bytes listing
@@ -154,7 +154,7 @@ abbrev pub AreNotesIn : Option Framing → Asked → List Note → ℕ → Tally
 AreNotesIn None asked notes count tally limits bytes = AreNotesOf asked notes count tally limits bytes
 AreNotesIn (Some framing) asked notes count tally limits bytes = AreNotesOfRecords framing asked notes count tally limits bytes
 
--- as above, where the reader told its bytes
+-- as above, where the reader tells its bytes
 abbrev pub AreNotesBy : Option Framing → Asked → List Note → ℕ → Tally → Allowed → Option (List ℕ) → Type 0
 AreNotesBy framing asked notes count tally limits None = ⊤
 AreNotesBy framing asked notes count tally limits (Some bytes) = AreNotesIn framing asked notes count tally limits bytes

@@ -36,7 +36,7 @@ JudgesRead = JudgesBy IsVerdict
 abbrev pub JudgesSequence : Allowed → Option (List ℕ) → Option (List ℕ) → SeqVerdict → Type 0
 JudgesSequence = JudgesBy IsSequenceVerdict
 
--- all that is found in its records, however they are set apart
+-- all that is found in its records, however they are separated
 abbrev pub JudgesRecords : Framing → Allowed → Option (List ℕ) → Option (List ℕ) → SeqVerdict → Type 0
 JudgesRecords framing = JudgesBy (IsWholeVerdict framing)
 
@@ -80,7 +80,7 @@ Finds Reading.Sequence limits old new (Finding.Sequence verdict) = JudgesSequenc
 Finds Reading.Lines limits old new (Finding.Sequence verdict) = JudgesLines limits old new verdict
 Finds reading limits old new finding = ⊥
 
--- how the texts of what is read are set apart, where it is of records
+-- how the texts of what is read are separated, where it has records
 abbrev pub framing_in : Reading → Option Framing
 framing_in Reading.Sequence = Some Framing.Sequence
 framing_in Reading.Lines = Some Framing.Lines

@@ -32,7 +32,7 @@ abbrev pub AreRight : List ℕ → List Site → Type 0
 AreRight text sites =
     (i : ℕ) (other : Site) → i < length sites → (get_or sites i other).is_found ≡ true → IsSpot text (get_or sites i other).place (get_or sites i other).spot
 
--- as above, where the reader told its bytes
+-- as above, where the reader tells its bytes
 abbrev pub RightBy : Option (List ℕ) → List Site → Type 0
 RightBy None sites = ⊤
 RightBy (Some text) sites = AreRight text sites
@@ -70,7 +70,7 @@ ArePaths framing bytes sites =
     (i : ℕ) (other : Site) → i < length sites → (get_or sites i other).is_found ≡ true
     → LeadsTo framing bytes (get_or sites i other).place (get_or sites i other).path
 
--- as above, where the reader told its bytes
+-- as above, where the reader tells its bytes
 abbrev pub PathsBy : Option Framing → Option (List ℕ) → List Site → Type 0
 PathsBy framing None sites = ⊤
 PathsBy framing (Some bytes) sites = ArePaths framing bytes sites
@@ -102,7 +102,7 @@ AreTold limits framing bytes sites =
     (i : ℕ) (other : Site) → i < length sites → (get_or sites i other).is_found ≡ true
     → IsTold limits framing bytes (get_or sites i other).place (get_or sites i other).path
 
--- as above, where the reader told its bytes
+-- as above, where the reader tells its bytes
 abbrev pub ToldBy : Allowed → Option Framing → Option (List ℕ) → List Site → Type 0
 ToldBy limits framing None sites = ⊤
 ToldBy limits framing (Some bytes) sites = AreTold limits framing bytes sites
@@ -123,7 +123,7 @@ AreToldInTexts limits framing bytes sites =
     (i : ℕ) (other : Site) → i < length sites → (get_or sites i other).is_found ≡ true → IsInText limits framing bytes (get_or sites i other).place
     → IsSome (get_or sites i other).path
 
--- as above, where the reader told its bytes
+-- as above, where the reader tells its bytes
 abbrev pub ToldInTextsBy : Allowed → Option Framing → Option (List ℕ) → List Site → Type 0
 ToldInTextsBy limits framing None sites = ⊤
 ToldInTextsBy limits framing (Some bytes) sites = AreToldInTexts limits framing bytes sites
@@ -145,7 +145,7 @@ is_found_at place site = site.is_found && nat_eq site.place place
 abbrev pub AllFound : List ℕ → Sites → Type 0
 AllFound text sites = (place : ℕ) → Contains (sought sites) place → place ≤ length text → place < 2 ^ 64 - 1 → list_any (is_found_at place) sites.sites ≡ true
 
--- as above, where the reader told its bytes
+-- as above, where the reader tells its bytes
 abbrev pub FoundBy : Option (List ℕ) → Sites → Type 0
 FoundBy None sites = ⊤
 FoundBy (Some text) sites = AllFound text sites
@@ -161,14 +161,14 @@ abbrev pub IsExcerpt : List ℕ → Sites → Type 0
 IsExcerpt text sites = (before : List ℕ) (place : ℕ) → sought sites ≡ before ++ place ∷ [] → place ≤ length text → length text < 2 ^ 64 - 1
     → Keeps sites.excerpt (take place text) (drop place text)
 
--- as above, where the reader told its bytes
+-- as above, where the reader tells its bytes
 abbrev pub ExcerptBy : Option (List ℕ) → Sites → Type 0
 ExcerptBy None sites = ⊤
 ExcerptBy (Some text) sites = IsExcerpt text sites
 
 -- ---- all of that
 
--- what a second reading finds of places, where the reader told its bytes
+-- what a second reading finds of places, where the reader tells its bytes
 pub record AreSitesIn (limits : Allowed) (framing : Option Framing) (text : Option (List ℕ)) (sites : Sites) : Type 0 where
   pub right : RightBy text sites.sites
   pub paths : PathsBy framing text sites.sites

@@ -1,4 +1,4 @@
--- How the records of an input are set apart, of a text sequence (RFC 8142) or of newline-delimited texts: those that are valid
+-- How the records of an input are split, of a text sequence (RFC 8142) or of newline-delimited texts: those that are valid
 -- become one text sequence, and the others a second.
 use Rattle.std.specs.Prelude.{ℕ, ◌-◌, List, [], ◌∷◌, length, take, if◌then◌else◌, map}
 use Rattle.gj_json.specs.Limits.{Allowed}

@@ -1,4 +1,4 @@
--- How the features of a text are set apart: the bytes of each by themselves, those without a fault as one text sequence
+-- How the features of a text are split: the bytes of each by themselves, those without a fault as one text sequence
 -- (RFC 8142), and the others as a second.
 use Rattle.std.specs.Prelude.{ℕ, ◌-◌, ◌≤◌, List, [], ◌∷◌, ◌++◌, length, Option, Some, None, take, drop, map}
 use Rattle.std.specs.List.{flat_map}

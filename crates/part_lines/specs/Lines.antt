@@ -37,7 +37,7 @@ pub record IsLike (first line : PartLine) : Type 0 where
 
 -- ---- words of a line
 
--- how the records of the file are set apart
+-- how the records of the file are separated
 abbrev pub framing_word : Framing → List ℕ
 framing_word Sequence = codes "seq"
 framing_word Lines = codes "ndjson"

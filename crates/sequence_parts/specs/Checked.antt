@@ -35,18 +35,18 @@ abbrev pub reading_of : Framing → Reading
 reading_of Sequence = Reading.Sequence
 reading_of Lines = Reading.Lines
 
--- ---- what is told of the records of a part
+-- ---- what is reported of the records of a part
 
 abbrev pub AreNotesIf : Framing → Allowed → Option Asked → List ℕ → Option Notes → Type 0
 AreNotesIf framing limits (Some asked) text (Some told) = AreNotesIn (Some framing) asked told.notes.items told.count told.tally limits text
 AreNotesIf framing limits (Some asked) text None = ⊥
 AreNotesIf framing limits None text told = told ≡ None
 
--- the same, where the reader told its bytes
+-- the same, where the reader tells its bytes
 abbrev pub AreNotesBefore : Framing → Allowed → Option Asked → Option (List ℕ) → Option Notes → Type 0
 AreNotesBefore framing limits asked had told = IfSome had (λ text. AreNotesIf framing limits asked text told)
 
--- nothing is told, and nothing is counted
+-- nothing is reported, and nothing is counted
 abbrev pub AreNoNotes : Option Asked → Option Notes → Type 0
 AreNoNotes (Some asked) (Some told) = (told.notes.items ≡ []) × (told.count ≡ 0) × (told.tally.items ≡ 0) × Tallies told.tally []
 AreNoNotes (Some asked) None = ⊥

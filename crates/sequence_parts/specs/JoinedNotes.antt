@@ -1,4 +1,4 @@
--- What is told of the records of a whole, given what is told of those of its parts.
+-- What is reported of the records of a whole, given what is reported of those of its parts.
 use Rattle.std.specs.Prelude.{ℕ, ◌+◌, List, ◌++◌, map}
 use Rattle.geolint_report.specs.Every.{note_of}
 use Rattle.geolint_report.specs.declared.every.listing.Item.{Item}
