@@ -130,6 +130,12 @@ def documents():
     return passed, failed
 
 
+def needs(program):
+    """Ends the run where the program is not built."""
+    if not pathlib.Path(program).is_file():
+        sys.exit(f"{program} is missing: bin/geolint-files builds it")
+
+
 def as_row(line):
     return line["rule"], line["offset"], [(it["rule"], it["count"], it["offset"]) for it in line["warnings"]]
 
@@ -140,6 +146,7 @@ def main():
     words.add_argument("--seed", type=int, default=1)
     words.add_argument("--count", type=int, default=20000)
     given = words.parse_args()
+    needs(given.program)
     counts = [documents(), compare(given.program, given.seed, given.count)]
     passed, failed = map(sum, zip(*counts))
     print(f"{passed} passed, {failed} failed")

@@ -24,7 +24,7 @@ from shapely.geometry import LinearRing
 
 import generate
 from advice import cut
-from compare import PROGRAM, told
+from compare import PROGRAM, needs, told
 from json_text import MARK, read
 from oracle import report
 from rules import KNOWN
@@ -297,6 +297,7 @@ def main():
     words.add_argument("--count", type=int, default=4000)
     words.add_argument("--fetched", type=pathlib.Path)
     given = words.parse_args()
+    needs(given.program)
     gdal.UseExceptions()
     ogr.UseExceptions()
     gdal.PushErrorHandler("CPLQuietErrorHandler")
