@@ -1,8 +1,8 @@
-//! The words of the command line, also those that are no Unicode text.
+//! The words of the command line, including those that are not Unicode text.
 //!
-//! The reader of words takes text alone. So a word is written as text that leads back to its bytes: each byte of what is
-//! no UTF-8 is a character of the last 256 of Unicode, which nobody uses, and so is each byte of such a character. That the text
-//! leads back to the bytes is tested, by files of such names.
+//! The reader of words takes only text. So a word is written as text that leads back to its bytes: each byte that is not UTF-8
+//! becomes one of the last 256 characters of Unicode, which nobody uses, and so does each byte of such a character. Files with
+//! such names test that the text leads back to the bytes.
 
 use report_forms::formats::put_name;
 use std::alloc::{AllocError, Global};

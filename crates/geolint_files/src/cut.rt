@@ -1,4 +1,4 @@
-//! A file of records is checked in parts, and their lines are joined.
+//! Checks a file of records in parts, and joins their lines.
 //!
 //! No contract can say what an open file gives. Those here say which part a line is of and with which options, and that what is
 //! joined is the verdict of the file, with the notes on its records that are asked for, if the lines are true.

@@ -1,4 +1,4 @@
-//! Files and folders by their names. What the system says of them, or gives, no clause says.
+//! Files and folders by their names. No clause says what the system says of them, or gives.
 
 ghost use Rattle.std.specs.Prelude.{◌≡◌, ◌↔◌, IfOk, IsTrue, string_bytes};
 ghost use Rattle.std.specs.IoError.{error_kind};
@@ -12,15 +12,15 @@ use std::str;
 /// The system's number for bytes that are no text (`EILSEQ`).
 const NO_TEXT: i32 = 84;
 
-/// What a name leads to, links followed. An error is answered where it is no Unicode text, where there is nothing, or where the
-/// system does not allow to look at it.
+/// What a name leads to, links followed. An error is answered if the name is not Unicode text, if nothing is there, or if the
+/// system does not allow a look at it.
 pub fn look_up(rt: &HostRuntime, name: &[u8]) -> io::Result<(Spelled, Metadata)> {
     let spelled = spell(rt.alloc(), name)?;
     let metadata = spelled.metadata(rt)?;
     Ok((spelled, metadata))
 }
 
-/// Whether a name was not found since it is a link that leads nowhere.
+/// Whether a name was not found because it is a link that leads nowhere.
 pub fn is_lost_link(rt: &HostRuntime, name: &[u8], error: &io::Error) -> bool {
     match error.kind() {
         ErrorKind::NotFound | ErrorKind::FilesystemLoop => {
@@ -39,7 +39,7 @@ pub struct Spelled {
     text: String,
 }
 
-/// The text of a name. std opens by Unicode text alone, so that a name that is none is an error.
+/// The text of a name. std opens only names that are Unicode text, so any other name is an error.
 pub fn spell(alloc: Global, name: &[u8]) -> io::Result<Spelled>
     ensures { IfOk result (λ spelled. string_bytes spelled.text ≡ name.now) }
 {
@@ -61,8 +61,8 @@ impl Spelled {
         self.text.as_str()
     }
 
-    /// What the system says of what the name leads to, links followed. An error is answered where there is nothing, or where
-    /// it does not allow to look.
+    /// What the system says of what the name leads to, links followed. An error is answered if nothing is there, or if it does
+    /// not allow a look.
     pub fn metadata(&self, rt: &HostRuntime) -> io::Result<Metadata> {
         fs::metadata(rt, self.text.as_str())
     }

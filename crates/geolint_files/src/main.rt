@@ -4,7 +4,7 @@
 //! The first reading of a file is checked by the linter of `gj_rules`. A second reading gives the line, the column, the path
 //! and the part of the line around each place that is reported. Both take fixed memory, however long a file or a line of it is.
 //!
-//! What goes to a terminal or ends the process, no clause of this file says: [`judge_all`] says what the report is, and
+//! No clause of this file says what goes to a terminal or ends the process: [`judge_all`] says what the report is, and
 //! [`Outcome::status`] which status follows.
 #![tactic(auto)]
 
@@ -131,7 +131,7 @@ fn judge_to_output(rt: &HostRuntime, order: &Order) -> Result<Outcome, Failure> 
     Ok(judge_all(rt, order, out)?.outcome)
 }
 
-/// Says what ends the run, and answers the status. Of a closed pipe nothing is said, as custom is.
+/// Says what ends the run, and answers the status. As is usual, nothing is said of a closed pipe.
 fn end_by(rt: &HostRuntime, failure: &Failure) -> u8 {
     let _ = match failure {
         Failure::Write(error) if has_no_reader(error) => return NO_READER,
@@ -147,7 +147,7 @@ fn end_by(rt: &HostRuntime, failure: &Failure) -> u8 {
     2
 }
 
-/// Whether a write failed since nobody reads the report any more.
+/// Whether a write failed because nobody reads the report any more.
 fn has_no_reader(error: &io::Error) -> bool
     ensures { IsTrue result ↔ (error_kind error.now ≡ BrokenPipe) }
 {

@@ -34,7 +34,7 @@ pub fn set_apart(rt: &HostRuntime, order: &Order, parts: &Parts) -> bool {
     is_done
 }
 
-/// Writes the parts of the file at this path. An error is answered where a name is no Unicode text, or there is no memory.
+/// Writes the parts of the file at this path. An error is answered if a name is not Unicode text or there is no memory.
 fn write_parts(
     rt: &HostRuntime,
     order: &Order,

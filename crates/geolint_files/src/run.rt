@@ -175,7 +175,7 @@ struct Run<'a, W> {
     outcome: Outcome,
 }
 
-/// Whether the report is shown in colour. What the environment says no clause knows.
+/// Whether the report is shown in colour. No clause knows what the environment says.
 fn style_of(rt: &HostRuntime, is_terminal: bool) -> Style
     ensures { is_terminal ≡ false → result ≡ Style.Plain }
 {
@@ -419,7 +419,7 @@ impl<'a, W: Write + Drop> Run<'a, W> {
     }
 
     /// Checks what a name leads to, or puts a folder's entries on the walk. What cannot be looked at is reported: it could be a
-    /// folder with files. Of a link that leads nowhere only the name counts.
+    /// folder with files. For a link that leads nowhere, only the name counts.
     fn look_at(&mut self, pending: &Pending, walk: &mut Walk) -> Result<(), Failure>
         ensures { OnOk result (TellsFiles W.contents self.old self.new) }
     {
@@ -600,7 +600,7 @@ impl<'a, W: Write + Drop> Run<'a, W> {
 
     /// Reads a source again, and reports it with its lines: with none where that failed.
     ///
-    /// The sites have room of their own, which costs a file without any nothing.
+    /// The sites have room of their own, so a file without any pays nothing for it.
     #[inline(never)]
     fn tell_sought<S: Rewind>(
         &mut self,
@@ -697,7 +697,7 @@ impl<'a, W: Write + Drop> Run<'a, W> {
         }
     }
 
-    /// Reports a file that could not be opened or read. On standard error each is reported.
+    /// Reports a file that could not be opened or read. Each is reported on standard error.
     fn tell_unread(&mut self, name: &[u8], error: &io::Error) -> Result<(), Failure>
         ensures told { OnOk result ((reason : List ℕ) × TellsFile W.contents (not_read name.now reason) self.old self.new) }
         ensures some { OnOk result (TellsFiles W.contents self.old self.new) }
@@ -764,7 +764,7 @@ fn put_summary(
     }
 }
 
-/// How many bytes the paths have, where each is a file: as the system says, so that no clause does.
+/// How many bytes the paths have, where each is a file. The system says it, so no clause does.
 fn bytes_of(rt: &HostRuntime, paths: &[Vec<u8>]) -> Option<u64> {
     let mut bytes = 0u64;
     for path in paths {

@@ -94,7 +94,7 @@ pub struct Order {
 pub struct Parts {
     /// What their names begin with.
     pub prefix: Vec<u8>,
-    /// Files with these names are written over.
+    /// Files with these names are overwritten.
     pub overwrites: bool,
 }
 
@@ -413,8 +413,8 @@ fn wrong_split(given: &ArgMatches<'_>, paths: &[Vec<u8>], has_list: bool) -> Opt
     }
 }
 
-/// An ending with its dot, which may be left out: none for one with no more than a dot, or with a slash. To which bytes a word leads
-/// back no clause says.
+/// An ending with its dot, which may be left out: none for one with no more than a dot, or with a slash. No clause says to which
+/// bytes a word leads back.
 fn ending_in(alloc: Global, word: &str) -> Result<Option<Vec<u8>>, AllocError> {
     let bytes = to_bytes(alloc, word)?;
     let mut ending = Vec::new(alloc);

@@ -46,7 +46,7 @@ pub fn find_hint<S: Rewind>(finding: &Finding, linter: &Linter, source: &S) -> O
 }
 
 /// Feeds a linter the bytes before the one that refuses a text, where another linter has read them: a hint depends on what is
-/// open there. They are looked at once more. What a look gives no clause says, nor what the linter then stands for.
+/// open there. They are looked at once more. No clause says what a look gives, nor what the linter then stands for.
 pub fn feed_before_fault<S: Rewind>(
     finding: &Finding,
     limits: Limits,

@@ -1,4 +1,4 @@
-//! A line is read.
+//! Reads the line of a part.
 
 ghost use Rattle.std.specs.Prelude.{◌≡◌, ◌≢◌, ◌<◌, ◌^◌, ◌++◌, ℕ, Bool, IfSome, IsSome, IfOk, Some, None, Err, option_map, map, codes, replicate};
 ghost use Rattle.std.specs.List.{All};

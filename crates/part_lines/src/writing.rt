@@ -1,4 +1,4 @@
-//! A line is written.
+//! Writes the line of a part.
 
 ghost use Rattle.std.specs.Prelude.{◌≡◌, ◌&&◌, IfOk, OnOk, string_bytes, get_or};
 ghost use Rattle.std.specs.Fmt.{decimal};

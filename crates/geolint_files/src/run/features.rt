@@ -136,7 +136,7 @@ impl<'a, W: Write + Drop> Run<'a, W> {
         }
     }
 
-    /// Reports a file that was checked, and then notes, of whose places is said what the follower says.
+    /// Reports a file that was checked, and then notes, with what the follower says of their places.
     pub fn list_followed<F: Follower>(
         &mut self,
         name: &[u8],
@@ -160,7 +160,7 @@ impl<'a, W: Write + Drop> Run<'a, W> {
         self.tell_followed(name, notes, follower)
     }
 
-    /// Reports notes, of whose places is said what the follower says.
+    /// Reports notes, with what the follower says of their places.
     fn tell_followed<F: Follower>(
         &mut self,
         name: &[u8],

@@ -1,4 +1,4 @@
-//! A file is reported whose verdict is known.
+//! Reports a file whose verdict is known.
 ghost use Rattle.std.specs.Prelude.{IfOk};
 ghost use Rattle.geolint_report.specs.declared.judge.Finding.{Finding};
 ghost use Rattle.geolint_files.specs.JoinedRun.{IsJoinedRun};
@@ -66,7 +66,7 @@ impl<'a, W: Write + Drop> Run<'a, W> {
         }
     }
 
-    /// Tells it as a whole, with the lines of its places where its source is there.
+    /// Reports it as a whole, with the lines of its places where its source is there.
     fn tell_whole<S: Rewind + Drop>(
         &mut self,
         name: &[u8],
@@ -90,7 +90,7 @@ impl<'a, W: Write + Drop> Run<'a, W> {
         }
     }
 
-    /// Tells it, and then the notes on its records, with the lines of their places where its source is there.
+    /// Reports it, and then the notes on its records, with the lines of their places where its source is there.
     fn list_known<S: Rewind + Drop>(
         &mut self,
         name: &[u8],
