@@ -233,8 +233,8 @@ impl Coordinates {
         }
     }
 
-    /// Whether a few comparisons show that there are none under any type. Where it returns `false`, there may be none
-    /// all the same.
+    /// Whether a few comparisons show that there are none under any type. Where it returns `false`, there may still be
+    /// none.
     #[inline]
     pub fn is_quiet(&self) -> bool
         ensures none { (value : Tree) (simple : Simple) → StandsFor self.now (value_events value) → depth value < 2 ^ 64 → IsTrue result →

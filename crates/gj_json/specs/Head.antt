@@ -1,4 +1,4 @@
--- The beginnings of objects that are told at once: the events that each stands for.
+-- The beginnings of objects that are reported at once: the events that each stands for.
 use Rattle.std.specs.Prelude.{◌+◌, List, [], ◌∷◌, ◌++◌}
 use Rattle.gj_json.specs.declared.event.Event.{Event}
 use Rattle.gj_json.specs.declared.event.What.{What}

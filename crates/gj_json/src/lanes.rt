@@ -14,7 +14,7 @@ use std::simd::prelude::*;
 pub const LANES: usize = 16;
 
 /// Whether the piece begins with the first `count` bytes of the word.
-// A comparison of slices is a call, which costs as much as all else that tells a usual head from others.
+// A comparison of slices is a call, which costs as much as all else that distinguishes a usual head from others.
 #[inline(always)]
 pub fn begins(piece: &[u8], word: &[u8; LANES], count: usize) -> bool
     requires room { LANES ≤ length piece.now }

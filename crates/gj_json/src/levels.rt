@@ -125,7 +125,7 @@ impl Levels {
         }
     }
 
-    /// Takes the innermost level away, where there is one.
+    /// Removes the innermost level, where there is one.
     #[tactic(auto, unfolding(crate::specs::Internal::OpenLevels::levels_in))]
     pub fn pop(&mut self)
         ensures { levels_in self.new ≡ outer_of (levels_in self.old) }

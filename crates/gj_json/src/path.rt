@@ -105,7 +105,7 @@ impl Path {
         }
     }
 
-    /// Takes the innermost step away, where there is one.
+    /// Removes the innermost step, where there is one.
     pub(crate) fn close(&mut self)
         ensures { inner_steps self.new ≡ outer_steps (inner_steps self.old) }
     {

@@ -66,7 +66,7 @@ pub trait EventSink {
         0
     }
 
-    /// Told the beginning of an object at once, it has heard the same as by its events in turn.
+    /// When the beginning of an object is reported at once, it has heard the same as by its events in turn.
     fn tell_head(&mut self, head: Head)
         ensures { (events : List Event) → heard self.old events → heard self.new (events ++ head_events head) }
     {

@@ -114,7 +114,7 @@ impl Run {
         };
     }
 
-    /// These digits, with the zeros at the end apart.
+    /// These digits, with the zeros at the end kept separately.
     #[inline]
     pub(crate) fn stripped(&self) -> Stripped
         ensures all { self.now.all ≡ result.head * 10 ^ result.zeros }

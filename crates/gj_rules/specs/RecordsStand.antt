@@ -8,7 +8,7 @@ use Rattle.gj_rules.specs.declared.sequence.verdict.SeqVerdict.{SeqVerdict}
 use Rattle.gj_rules.specs.RecordFindings.{AreFindingsSoFar, AreAllFindings, whole_of}
 use Rattle.gj_rules.specs.Internal.OpenParts.{IsOpen, IsOver}
 
--- what they are checked under, and how they are set apart
+-- what they are checked under, and how they are separated
 abbrev pub limits_of : Records → Allowed
 limits_of s = s.limits
 

@@ -29,7 +29,7 @@ pub struct TypeValue {
     pub word: Word,
 }
 
-/// For which types it is kept what is found in the first `coordinates`.
+/// For which types is kept what is found in the first `coordinates`.
 #[derive(Clone, Copy, PartialEq, Eq)]
 pub enum Shaped {
     /// For none: none has come, or none whose type asks for it.

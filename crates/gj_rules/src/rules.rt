@@ -210,7 +210,7 @@ impl<const FRAMES: usize> FramedRules<FRAMES> {
         }
     }
 
-    /// Makes the summary new that takes the value that is due, where one does.
+    /// Renews the summary that takes the next value, where there is one.
     #[inline(always)]
     fn renew(&mut self)
         ensures core { core_of self.new ≡ core_of self.old }

@@ -11,7 +11,7 @@ use Rattle.gj_json.specs.Internal.FlatParts.{cut, IsValued, IsItem}
 use Rattle.gj_json.proofs.Pieces.PieceCuts.{cut_byte}
 use Rattle.gj_json.proofs.Grammar.SpelledFlats.{item_cut, end_cut, more_cut, flat_cut}
 
-none_cut : (piece : List ℕ) (a : ℕ) → AllByRecursion IsWhite (cut piece a a)
+pub none_cut : (piece : List ℕ) (a : ℕ) → AllByRecursion IsWhite (cut piece a a)
 none_cut piece a =
     let z : 0 ≡ a - a = omega arith in
     let P : ℕ → Type 0 = λ n. AllByRecursion IsWhite (take n (drop a piece)) in

@@ -1,4 +1,4 @@
--- The beginnings of objects that are told at once, as they are read.
+-- The beginnings of objects that are reported at once, as they are read.
 use Rattle.std.specs.Prelude.{◌≡◌, ℕ, ◌+◌, List, [], ◌∷◌, ◌++◌, codes, length, take}
 use Rattle.std.specs.List.{AllByRecursion}
 use Rattle.gj_json.specs.Bytes.{IsWhite, open_brace, comma, colon, quote}

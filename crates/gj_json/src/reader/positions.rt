@@ -12,13 +12,13 @@ use crate::positions::{MOST_POSITIONS, read_positions};
 use crate::sink::EventSink;
 use gj_number::Signs;
 
-/// After so many arrays, one after another, positions are sought, and sought again after a run that was found.
+/// After so many arrays, one after another, positions are looked for, and looked for again after a run that was found.
 pub(super) const FEW: u8 = 5;
 
-/// After so many more they are sought again where none was found.
+/// After so many more they are looked for again where none was found.
 const MANY: u8 = 32;
 
-/// How many arrays come before positions are sought again, where the last search took so many bytes.
+/// How many arrays come before positions are looked for again, where the last search took so many bytes.
 #[inline(always)]
 pub(super) fn arrays_before_next(count: usize) -> u8 {
     if count > 0 { FEW } else { MANY }

@@ -1,5 +1,5 @@
 //! Whole tokens, from what the reader keeps: one after another, as long as each stands whole in the piece and is of the
-//! usual kind. Where `HEARS` is false, no event matters: what strings, names and numbers say is then not sought, and a string or
+//! usual kind. Where `HEARS` is false, no event matters: what strings, names and numbers say is then not looked for, and a string or
 //! a name may have any characters.
 
 ghost use Rattle.std.specs.Prelude.{◌≡◌, ◌+◌, ◌-◌, ◌^◌, ◌≤◌, ◌<◌, ◌++◌, ◌∷◌, [], true, List, length, take, get_or, None, Some, IsTrue};
@@ -140,7 +140,7 @@ impl Reader {
         self.skip(count, Mode::ValueDone)
     }
 
-    /// Takes a string that is a value, and of those that are heard only one of plain characters: how many bytes, or 0.
+    /// Takes a string that is a value, and where events matter, only one of plain characters: how many bytes, or 0.
     #[inline(always)]
     fn take_string<S: EventSink, const HEARS: bool>(&mut self, piece: &[u8], sink: &mut S) -> usize
         requires some { 0 < length piece.now }
@@ -554,7 +554,7 @@ impl Reader {
         opened + self.pass_ignored(&piece[opened..], sink)
     }
 
-    /// As `take_value`, which is not inlined: here the usual kinds of value are told apart before that call.
+    /// As `take_value`, which is not inlined: here the usual kinds of value are distinguished before that call.
     #[inline(always)]
     fn take_usual_value<S: EventSink>(&mut self, piece: &[u8], sink: &mut S) -> usize
         requires some { 0 < length piece.now }

@@ -16,7 +16,8 @@ use Rattle.gj_number.specs.Internal.DigitRuns.{IsRun}
 use Rattle.gj_number.proofs.Grammar.FoundParts.{natural_digits, all_digits}
 use Rattle.gj_number.proofs.Shorts.OrdinaryNumbers.{after_all, run_of, some_digits, point_no_digit}
 use Rattle.gj_number.proofs.Shorts.RunEnds.{digit_at, run_found}
-use Rattle.gj_number.proofs.Shorts.SixteenLanes.{lanes_long, leading_none, first_spell, first_other, next_other, next_small, mask_after, lane_ends, lanes_end, two_spell}
+use Rattle.gj_number.proofs.Shorts.SixteenLanes.{lanes_long, leading_none, first_spell, first_other, next_other, next_small}
+use Rattle.gj_number.proofs.Shorts.SixteenLanes.{mask_after, lane_ends, lanes_end, two_spell}
 
 -- ---- its runs of digits
 

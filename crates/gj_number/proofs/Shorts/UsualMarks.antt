@@ -8,7 +8,8 @@ use Rattle.std.specs.List.{AllByRecursion}
 use Rattle.std.proofs.Math.Seq.{drop-cons}
 use Rattle.std.proofs.lemmas.Bool.Decides.{nat_tests}
 use Rattle.std.proofs.lemmas.List.Elements.{All-get_or}
-use Rattle.std.proofs.lemmas.List.{drop-drop, get_or-drop, get_or-take, length-take-le, map-append, replicate-append-replicate, take-append-drop, take-map, take_rest}
+use Rattle.std.proofs.lemmas.List.{drop-drop, get_or-drop, get_or-take, length-take-le}
+use Rattle.std.proofs.lemmas.List.{map-append, replicate-append-replicate, take-append-drop, take-map, take_rest}
 use Rattle.gj_number.specs.Bytes.{comma, minus_sign, decimal_point, close_bracket, IsDigit}
 use Rattle.gj_number.specs.Denotation.{SpellsSign}
 use Rattle.gj_number.specs.Short.{StartsUsual, StartsUsualPair}

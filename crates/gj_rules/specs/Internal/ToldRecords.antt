@@ -7,7 +7,7 @@ use Rattle.gj_rules.specs.RecordFindings.{IsFinding, after}
 use Rattle.gj_rules.specs.Records.{part_at, entry_at}
 use Rattle.gj_rules.specs.Internal.OpenRecord.{StandsFor as RecordStandsFor}
 
--- what they are checked under, and how they are set apart
+-- what they are checked under, and how they are separated
 pub record Keeps (old new : Records) : Type 0 where
   pub limits : new.limits ≡ old.limits
   pub framing : new.framing ≡ old.framing

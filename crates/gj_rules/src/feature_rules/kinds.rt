@@ -30,7 +30,7 @@ impl<S: FeatureSink> FeatureRules<S> {
     }
 
     /// A name that matters to no feature.
-    // To tell it as an event of any kind would make `tell` too large to be inlined.
+    // To report it as an event of any kind would make `tell` too large to be inlined.
     #[inline(always)]
     fn tell_quiet_name(&mut self, name: Known, place: u64)
         requires quiet { concerned (W.Name name) self.old.count.inner self.old.count.stage self.old.count.id_due ≡ false }

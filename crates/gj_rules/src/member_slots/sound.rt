@@ -1,4 +1,4 @@
-//! Whether an object with a role has a fault, which a few looks tell. Mostly it has none.
+//! Whether an object with a role has a fault, which a few checks show. Mostly it has none.
 ghost use Rattle.std.specs.Prelude.{◌≡◌, IsTrue, is_none};
 
 use super::member_rules::MemberRules;
@@ -34,7 +34,7 @@ impl MemberSlots {
         self.meets(word) && self.word_fault(word).is_none()
     }
 
-    /// Whether nothing is wrong with the object, as mostly nothing is: a few looks tell.
+    /// Whether nothing is wrong with the object, as mostly nothing is: a few checks show.
     #[tactic(auto, using(crate::proofs::Objects::MetRules::none_lesser))]
     #[inline(always)]
     pub fn is_sound(&self) -> bool

@@ -5,7 +5,7 @@ ghost use Rattle.gj_rules.specs.Internal.BytesBefore.{has_byte, begins_with};
 
 use memchr::memchr;
 
-/// How the texts of an input are set apart.
+/// How the texts of an input are separated.
 #[derive(Clone, Copy, Debug, PartialEq, Eq)]
 pub enum Framing {
     /// RS stands before each text, and LF at its end: a GeoJSON text sequence (RFC 8142, section 2).
@@ -17,7 +17,7 @@ pub enum Framing {
 /// What ends a record.
 #[derive(Clone, Copy, Debug, PartialEq, Eq)]
 pub enum RecordEnd {
-    /// The byte that parts it from the next.
+    /// The byte that separates it from the next.
     Separator,
     /// The end of the input.
     Input,

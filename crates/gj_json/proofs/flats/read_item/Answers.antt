@@ -9,6 +9,7 @@ use Rattle.gj_json.specs.Bytes.{IsWhite}
 use Rattle.gj_json.specs.Internal.FlatParts.{cut, IsValued}
 use Rattle.gj_json.proofs.Pieces.PieceCuts.{cut_front}
 use Rattle.gj_json.proofs.Grammar.SpelledFlats.{item_cut}
+use Rattle.gj_json.proofs.Grammar.SpelledPairs.{none_cut}
 use Rattle.gj_json.proofs.flats.read_item.Goals as goal
 
 -- the number that is read ends within the piece
@@ -23,12 +24,6 @@ valued : (piece : List ℕ) (first n : ℕ) (value : Short) → StartsWithNumber
 valued piece first n value read =
     let there : IsValued value (take n (take (length piece - first) (drop first piece))) = record { number = read.number; valued = sym read.value } in
     rw (cut_front piece first n) there
-
-nothing : (piece : List ℕ) (end : ℕ) → AllByRecursion IsWhite (cut piece end end)
-nothing piece end =
-    let z : 0 ≡ end - end = omega arith in
-    let P : ℕ → Type 0 = λ n. AllByRecursion IsWhite (take n (drop end piece)) in
-    subst P z tt
 
 pub bounds-piece-end : goal.bounds-piece-end
 bounds-piece-end c = within c.args.piece.now c.white_end-first.result c.read_short-count.result _ (c.read_short-count.ensures.number (omega arith))
@@ -45,7 +40,7 @@ returns-then-piece-end-gt32-clause-item c = λ some.
     let w = within c.args.piece.now c.white_end-first.result c.read_short-count.result _ (c.read_short-count.ensures.number (omega arith)) in
     item_cut piece c.args.start _ c.args.at first end end c.white_end-first.ensures.on (omega arith) (omega arith)
     (omega arith) c.white_end-first.ensures.white refl (valued piece first c.read_short-count.result _ (c.read_short-count.ensures.number (omega arith)))
-    (nothing piece end)
+    (none_cut piece end)
 
 pub returns-clause-item : goal.returns-clause-item
 returns-clause-item c = λ some.

@@ -1,13 +1,20 @@
 use Rattle.std.proofs.Common.{◌≡◌, ◌∙◌, ◌+◌, List, ℕ, get_or, length, drop, length-drop, None, refl, sym, ap, subst, arith, rules, w64}
-use mir.Val.{SFits}
+use mir.Val.{SFits, to_z, of_z}
 use Rattle.std.proofs.lemmas.Int.{to_z-of_z}
 use Rattle.std.proofs.lemmas.List.{get_or-drop}
+use Rattle.gj_number.specs.declared.short.Short.{Short}
+use Rattle.gj_number.specs.declared.short.cuts.Cut.{Cut}
 use Rattle.gj_number.specs.Cuts.{IsCut, StartsWithCutPair, BeginsNext}
 use Rattle.gj_json.specs.declared.flat.Flat.{Flat}
 use Rattle.gj_json.specs.declared.flat.Numbered.{Numbered}
 use Rattle.gj_json.proofs.Grammar.SpelledPairs.{pair_spelled}
 use Rattle.gj_json.proofs.Pieces.PieceRests.{rest_of}
 use Rattle.gj_json.proofs.positions.read_position.Goals as goal
+
+-- the cut value as a field of 64 bits has it
+of_value : (short : Short) (cut : Cut) → SFits w64 cut.value → IsCut short cut
+    → IsCut short (record { value = to_z w64 (of_z w64 cut.value); precise = cut.precise })
+of_value short cut fits is = subst (λ v. IsCut short (record { value = v; precise = cut.precise })) (sym (to_z-of_z w64 cut.value fits)) is
 
 pub returns : goal.returns
 returns c =
@@ -43,8 +50,8 @@ returns c =
         second_place = omega arith;
         close = omega arith;
         third = refl;
-        first = subst (λ v. IsCut found.one (record { value = v; precise = pair.first.precise })) (sym (to_z-of_z w64 pair.first.value one_fits)) found.first;
-        second = subst (λ v. IsCut found.other (record { value = v; precise = pair.second.precise })) (sym (to_z-of_z w64 pair.second.value other_fits)) found.second;
+        first = of_value found.one pair.first one_fits found.first;
+        second = of_value found.other pair.second other_fits found.second;
       };
       at = refl;
       spelled = pair_spelled piece start first second pair.comma (pair.comma + 1) pair.end c.requires.bracket refl refl found.starts;

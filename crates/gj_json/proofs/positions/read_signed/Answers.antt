@@ -42,7 +42,8 @@ loop-count-preserved g c =
           (let e : start + length piece - length (take (length rest - n) (drop n rest)) ≡ p.place + p.close_at + 2 = omega arith in
           e ∙ sym (after_more before p start) ∙ ap (λ ps. place_after_all ps start) (sym more));
       rest_is =
-          same ∙ ap (drop n) here ∙ ap (λ k. drop k (drop (place - start) piece)) bytes ∙ in_two piece start place (p.place + p.close_at + 2) (omega arith) (omega arith)
+          same ∙ ap (drop n) here ∙ ap (λ k. drop k (drop (place - start) piece)) bytes
+          ∙ in_two piece start place (p.place + p.close_at + 2) (omega arith) (omega arith)
           ∙ ap (λ k. drop k piece) {x = p.place + p.close_at + 2 - start} {y = length piece - length (take (length rest - n) (drop n rest))} (omega arith);
       bracket = ap (λ xs. get_or xs 0 0) same ∙ ap (λ k. get_or (drop k rest) 0 0) bytes ∙ b.1;
       spelled = subst P (sym more) (one_more before p start piece i.spelled there);

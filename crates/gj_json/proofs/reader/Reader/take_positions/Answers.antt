@@ -61,7 +61,8 @@ returns-then-taken-eq0-clause-feeds g c =
 pub overflow_add-count-in-loop-taken : goal.overflow_add-count-in-loop-taken
 overflow_add-count-in-loop-taken g c =
     let i = c.loop-taken.invariant in
-    let e = ends c.read_positions-found.new.positions c.index-positions-taken.result c.read_positions-found.result _ c.loop-taken.self.offset c.loop-taken.rest.now c.if-taken-eq0.false
+    let all = c.read_positions-found.new.positions in
+    let e = ends all c.index-positions-taken.result c.read_positions-found.result _ c.loop-taken.self.offset c.loop-taken.rest.now c.if-taken-eq0.false
     c.tell_positions-taken.ensures.few c.read_positions-found.ensures.spelled in
     let less = e.within in
     let limits = ap (λ l. l.bytes) i.fed.feeds.limits in
@@ -70,7 +71,8 @@ overflow_add-count-in-loop-taken g c =
 
 pub overflow_sub-count : goal.overflow_sub-count
 overflow_sub-count g c =
-    let e = ends c.read_positions-found.new.positions c.index-positions-taken.result c.read_positions-found.result _ c.loop-taken.self.offset c.loop-taken.rest.now c.if-taken-eq0.false
+    let all = c.read_positions-found.new.positions in
+    let e = ends all c.index-positions-taken.result c.read_positions-found.result _ c.loop-taken.self.offset c.loop-taken.rest.now c.if-taken-eq0.false
     c.tell_positions-taken.ensures.few c.read_positions-found.ensures.spelled in
     let on = e.on in
     omega arith
@@ -78,7 +80,8 @@ overflow_sub-count g c =
 pub skip-requires-clause-room : goal.skip-requires-clause-room
 skip-requires-clause-room g c =
     let i = c.loop-taken.invariant in
-    let e = ends c.read_positions-found.new.positions c.index-positions-taken.result c.read_positions-found.result _ c.loop-taken.self.offset c.loop-taken.rest.now c.if-taken-eq0.false
+    let all = c.read_positions-found.new.positions in
+    let e = ends all c.index-positions-taken.result c.read_positions-found.result _ c.loop-taken.self.offset c.loop-taken.rest.now c.if-taken-eq0.false
     c.tell_positions-taken.ensures.few c.read_positions-found.ensures.spelled in
     let less = e.within in
     let room = room_left c.args.self.now c.loop-taken.self c.args.piece.now c.loop-taken.rest.now i.within i.fed c.requires.room in
@@ -86,14 +89,16 @@ skip-requires-clause-room g c =
 
 pub slice_bounds-rest-count : goal.slice_bounds-rest-count
 slice_bounds-rest-count g c =
-    let e = ends c.read_positions-found.new.positions c.index-positions-taken.result c.read_positions-found.result _ c.loop-taken.self.offset c.loop-taken.rest.now c.if-taken-eq0.false
+    let all = c.read_positions-found.new.positions in
+    let e = ends all c.index-positions-taken.result c.read_positions-found.result _ c.loop-taken.self.offset c.loop-taken.rest.now c.if-taken-eq0.false
     c.tell_positions-taken.ensures.few c.read_positions-found.ensures.spelled in
     let less = e.within in
     omega arith
 
 pub slice_bounds-rest-start : goal.slice_bounds-rest-start
 slice_bounds-rest-start g c =
-    let e = ends c.read_positions-found.new.positions c.index-positions-taken.result c.read_positions-found.result _ c.loop-taken.self.offset c.loop-taken.rest.now c.if-taken-eq0.false
+    let all = c.read_positions-found.new.positions in
+    let e = ends all c.index-positions-taken.result c.read_positions-found.result _ c.loop-taken.self.offset c.loop-taken.rest.now c.if-taken-eq0.false
     c.tell_positions-taken.ensures.few c.read_positions-found.ensures.spelled in
     let less = e.within in
     omega arith
@@ -101,9 +106,11 @@ slice_bounds-rest-start g c =
 pub loop-taken-smaller : goal.loop-taken-smaller
 loop-taken-smaller g c =
     let rest = c.loop-taken.rest.now in
-    let e = ends c.read_positions-found.new.positions c.index-positions-taken.result c.read_positions-found.result _ c.loop-taken.self.offset rest c.if-taken-eq0.false
+    let all = c.read_positions-found.new.positions in
+    let e = ends all c.index-positions-taken.result c.read_positions-found.result _ c.loop-taken.self.offset rest c.if-taken-eq0.false
     c.tell_positions-taken.ensures.few c.read_positions-found.ensures.spelled in
-    let n = place_after (get_or c.read_positions-found.new.positions (c.tell_positions-taken.result - 1) c.index-positions-taken.result) - c.loop-taken.self.offset in
+    let last = place_after (get_or all (c.tell_positions-taken.result - 1) c.index-positions-taken.result) in
+    let n = last - c.loop-taken.self.offset in
     let on = e.on in
     let less = e.within in
     omega (arith, ap length (rest_of rest n), length-drop n rest)
@@ -118,7 +125,8 @@ loop-taken-preserved g c =
     let k = c.tell_positions-taken.result in
     let last = place_after (get_or c.read_positions-found.new.positions (k - 1) c.index-positions-taken.result) in
     let n = last - old.offset in
-    let e = ends c.read_positions-found.new.positions c.index-positions-taken.result c.read_positions-found.result _ old.offset rest c.if-taken-eq0.false
+    let all = c.read_positions-found.new.positions in
+    let e = ends all c.index-positions-taken.result c.read_positions-found.result _ old.offset rest c.if-taken-eq0.false
     c.tell_positions-taken.ensures.few c.read_positions-found.ensures.spelled in
     let on = e.on in
     let less = e.within in

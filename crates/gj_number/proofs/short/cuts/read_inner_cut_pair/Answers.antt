@@ -41,7 +41,8 @@ returns-clause-numbers c =
     (c.are_whole.ensures.second c.if-not-are_whole.false) told.second_some told.second_none in
     let fits_one : SFits w64 c.with_sign.result = search rules in
     let fits_other : SFits w64 c.with_sign-2.result = search rules in
-    let value = ap (signed c.args.signs.first) (sym c.cuts_of-value.ensures.first) ∙ sym c.with_sign.ensures ∙ sym (to_z-of_z w64 c.with_sign.result fits_one) in
+    let value = ap (signed c.args.signs.first) (sym c.cuts_of-value.ensures.first) ∙ sym c.with_sign.ensures
+    ∙ sym (to_z-of_z w64 c.with_sign.result fits_one) in
     let more = ap (signed c.args.signs.second) (sym c.cuts_of-value.ensures.second) ∙ sym c.with_sign-2.ensures
     ∙ sym (to_z-of_z w64 c.with_sign-2.result fits_other) in
     pair_is piece marks.comma end c.args.signs.first c.args.signs.second _ _ rests.0 rests.1 first second _ _ value more s.ends t.ends ordered

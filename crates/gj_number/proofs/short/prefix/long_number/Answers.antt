@@ -5,9 +5,6 @@ use Rattle.gj_number.proofs.Shorts.OrdinaryNumbers.{laid, run_rest, natural_allo
 use Rattle.gj_number.proofs.Shorts.NumberPrefixes.{sign_at, sign_length, spells_rest, below_power, one_of, whole_plain, point_plain}
 use Rattle.gj_number.proofs.short.prefix.long_number.Goals as goal
 
-true_not_false : true ≡ false → ⊥
-true_not_false e = cc
-
 pub returns-then-not-is_natural-clause-taken : goal.returns-then-not-is_natural-clause-taken
 returns-then-not-is_natural-clause-taken c = λ count o.
     let piece = c.args.piece.now in
@@ -21,7 +18,7 @@ returns-then-not-is_natural-clause-taken c = λ count o.
     let e = natural.ensures.whole (length o.ordinary.natural) (run_rest piece first _ l.digits) (omega arith) in
     let t = c.is_natural.ensures.1 (natural_allowed piece first _ _ l n e) in
     let f = c.if-not-is_natural.true in
-    absurd (true_not_false (sym t ∙ f))
+    let e : true ≡ false = sym t ∙ f in cc
 
 pub returns-then-piece-end-ne46-clause-few : goal.returns-then-piece-end-ne46-clause-few
 returns-then-piece-end-ne46-clause-few c = let k = sign_length c.args.negative in let f = c.first_run-natural.ensures.few in omega arith

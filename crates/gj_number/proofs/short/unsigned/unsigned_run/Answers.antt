@@ -1,5 +1,6 @@
 -- The runs are found by the bits of the lanes that are no digits.
-use Rattle.std.proofs.Common.{◌≡◌, ◌<◌, ◌≤◌, ◌+◌, ℕ, zero, suc, true, false, sym, List, [], take, get_or, length, refl, inl, arith, subst, append-nil, zero-add, ◌∙◌}
+use Rattle.std.proofs.Common.{◌≡◌, ◌<◌, ◌≤◌, ◌+◌, ℕ, zero, suc, true, false, sym, List, [], take, get_or}
+use Rattle.std.proofs.Common.{length, refl, inl, arith, subst, append-nil, zero-add, ◌∙◌}
 use Rattle.std.specs.Prelude.{pos}
 use Rattle.gj_number.specs.Grammar.{IsNumber}
 use Rattle.gj_number.specs.Bytes.{zero_digit, IsDigit}
@@ -75,9 +76,6 @@ returns-clause-number c = λ some.
     refl c.if-piece-natural-ne46.false c.if-fraction-eq0.false)
     (some_digit c.args.piece.now _ ends (c.leads.ensures.some c.if-not-leads.false)) (c.leads.ensures.one c.if-not-leads.false) (omega arith) (omega arith)
 
-true_not_false : true ≡ false → ⊥
-true_not_false e = cc
-
 pub returns-then-others-eq0-clause-taken : goal.returns-then-others-eq0-clause-taken
 returns-then-others-eq0-clause-taken c = λ n few u.
     absurd (some_other c.args.piece.now _ (omega arith) c.type_inv.piece c.lanes_of.ensures _ c.from_ten-others.ensures n few u c.if-others-eq0.true)
@@ -87,7 +85,7 @@ returns-then-not-leads-clause-taken c = λ n few u.
     let first = first_allowed c.args.piece.now _ (omega arith) c.type_inv.piece c.lanes_of.ensures _ c.from_ten-others.ensures n few u c.if-others-eq0.false in
     let t = c.leads.ensures.taken first in
     let f = c.if-not-leads.true in
-    absurd (true_not_false (sym t ∙ f))
+    let e : true ≡ false = sym t ∙ f in cc
 
 pub returns-then-piece-natural-ne46-clause-taken : goal.returns-then-piece-natural-ne46-clause-taken
 returns-then-piece-natural-ne46-clause-taken c = λ n few u.
