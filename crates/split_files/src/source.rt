@@ -9,7 +9,7 @@ use gj_split::{BrokenList, Ended, Input, Outputs, Ranges, split, split_records};
 use std::io::Write;
 
 /// What a file is as a whole.
-#[derive(Clone, Copy, Debug, PartialEq, Eq)]
+#[derive(Clone, Copy)]
 pub enum Whole {
     /// One text. Of one that is not JSON, the features before the refusal were written.
     Text(Verdict),

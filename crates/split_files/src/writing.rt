@@ -29,7 +29,7 @@ pub struct Order<'a> {
 }
 
 /// A file that is written.
-#[derive(Clone, Copy, Debug, PartialEq, Eq)]
+#[derive(Clone, Copy)]
 pub enum Part {
     Valid,
     Broken,

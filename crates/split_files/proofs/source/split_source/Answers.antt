@@ -16,3 +16,10 @@ returns-in-None g c =
     rw (c.of_text.ensures.outputs, c.of_text.ensures.counts)
     (subst (λ (f : Option Framing). IsSplit f c.args.limits bytes (g.V.Write.contents c.split.result.outputs.valid)
     (g.B.Write.contents c.split.result.outputs.broken) c.split.result.counts) (sym c.in-None.is) (λ text a. h bytes text k a)))
+
+pub returns-in-Some : goal.returns-in-Some
+returns-in-Some g c =
+    on_first c.split_records.result.outcome c.of_records.result.outcome _ _ c.split_records.ensures.apart c.of_records.ensures.ok (λ h bytes k.
+    rw (c.of_records.ensures.outputs, c.of_records.ensures.counts)
+    (subst (λ (f : Option Framing). IsSplit f c.args.limits bytes (g.V.Write.contents c.split_records.result.outputs.valid)
+    (g.B.Write.contents c.split_records.result.outputs.broken) c.split_records.result.counts) (sym c.in-Some.is) (λ found a. h bytes found k a)))
