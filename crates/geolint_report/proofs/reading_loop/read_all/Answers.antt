@@ -1,6 +1,8 @@
-use Rattle.geolint_report.proofs.Common.{rules, refl, arith, inr, ◌++◌, ◌+◌, ◌≡◌, ◌∙◌, take, length, ◌≤◌, subst, length-append, length-take-le}
-use Rattle.geolint_report.proofs.Common.{Consumes-trans, Allowed}
+use Rattle.geolint_report.proofs.Common.{rules, refl, ap, append-nil, ℕ, List, [], arith, inr, ◌++◌, ◌+◌, ◌≡◌, ◌∙◌, take, length, ◌≤◌, subst, length-append, length-take-le}
+use Rattle.geolint_report.proofs.Common.{Consumes, Consumes-trans, Allowed}
+use Rattle.std.proofs.KnownBytes.{Consumes-kept, Consumes-nil}
 use Rattle.geolint_report.proofs.PieceReads.{given_more, one_read, stops}
+use Rattle.geolint_report.proofs.reading_loop.read_all.Given.{Over}
 use Rattle.geolint_report.proofs.reading_loop.read_all.Goals as goal
 
 pub returns-in-Decided-clause-stops : goal.returns-in-Decided-clause-stops
@@ -42,3 +44,96 @@ loop-error-preserved g c =
       text = c.read_piece.ensures.text ∙ c.loop-error.invariant.text;
       given = given_more _ _ _ _ _ c.in-Ok.ensures.given c.loop-error.invariant.given;
     }
+
+-- ---- the number of reads
+
+pub returns-in-Err-clause-few : goal.returns-in-Err-clause-few
+returns-in-Err-clause-few g c =
+    let (read, took, count, follows) = c.loop-error.invariant.read in
+    let few = one_read _ _ _ _ read count c.read_piece.ensures.reads c.loop-error.invariant.few in
+    omega (arith, few, count, c.loop-error.invariant.within)
+
+pub returns-in-Ok-eq0-clause-few : goal.returns-in-Ok-eq0-clause-few
+returns-in-Ok-eq0-clause-few g c =
+    let (read, took, count, follows) = c.loop-error.invariant.read in
+    let few = one_read _ _ _ _ read count c.read_piece.ensures.reads c.loop-error.invariant.few in
+    omega (arith, few, count, c.loop-error.invariant.within)
+
+pub returns-in-Decided-clause-few : goal.returns-in-Decided-clause-few
+returns-in-Decided-clause-few g c =
+    let (read, took, count, follows) = c.loop-error.invariant.read in
+    let few = one_read _ _ _ _ read count c.read_piece.ensures.reads c.loop-error.invariant.few in
+    omega (arith, few, count, c.loop-error.invariant.within)
+
+pub returns-then-offset-most-clause-few : goal.returns-then-offset-most-clause-few
+returns-then-offset-most-clause-few g c =
+    let (read, took, count, follows) = c.loop-error.invariant.read in
+    let few = one_read _ _ _ _ read count c.read_piece.ensures.reads c.loop-error.invariant.few in
+    omega (arith, few, count, c.loop-error.invariant.within)
+
+-- ---- the read failed
+
+pub returns-in-Err-clause-offset : goal.returns-in-Err-clause-offset
+returns-in-Err-clause-offset g c =
+    let (read, took, count, follows) = c.loop-error.invariant.read in
+    (read, Consumes-kept _ _ _ read took c.in-Err.ensures.bytes, count)
+
+pub returns-in-Err-clause-stops : goal.returns-in-Err-clause-stops
+returns-in-Err-clause-stops g c begins same =
+    let (read, took, count, follows) = c.loop-error.invariant.read in
+    let none = Consumes-kept _ _ _ [] (Consumes-nil (g.P.Pieces.remaining c.loop-error.source)) c.in-Err.ensures.bytes in
+    stops g.F.Feeds.undecided _ _ _ _ read [] _ _ (Consumes-trans _ _ _ read [] took none) (follows begins same).1
+    (one_read _ _ _ _ read count c.read_piece.ensures.reads c.loop-error.invariant.few) (omega arith)
+
+-- ---- no byte is left
+
+pub returns-in-Ok-eq0-clause-stops : goal.returns-in-Ok-eq0-clause-stops
+returns-in-Ok-eq0-clause-stops g c begins same =
+    let (read, took, count, follows) = c.loop-error.invariant.read in
+    let none : Consumes (g.P.Pieces.remaining c.loop-error.source) (g.P.Pieces.remaining c.read_piece.new.source) [] =
+    subst (λ (n : ℕ). Consumes (g.P.Pieces.remaining c.loop-error.source) (g.P.Pieces.remaining c.read_piece.new.source) (take n c.read_piece.new.piece))
+    c.in-Ok-eq0.field-0-test c.in-Ok-eq0.ensures.bytes.0 in
+    stops g.F.Feeds.undecided _ _ _ _ read [] _ _ (Consumes-trans _ _ _ read [] took none) (follows begins same).1
+    (one_read _ _ _ _ read count c.read_piece.ensures.reads c.loop-error.invariant.few) (omega arith)
+
+pub returns-in-Ok-eq0-clause-ends : goal.returns-in-Ok-eq0-clause-ends
+returns-in-Ok-eq0-clause-ends g c has_room begins same =
+    let (read, took, count, follows) = c.loop-error.invariant.read in
+    let none : Consumes (g.P.Pieces.remaining c.loop-error.source) (g.P.Pieces.remaining c.read_piece.new.source) [] =
+    subst (λ (n : ℕ). Consumes (g.P.Pieces.remaining c.loop-error.source) (g.P.Pieces.remaining c.read_piece.new.source) (take n c.read_piece.new.piece))
+    c.in-Ok-eq0.field-0-test c.in-Ok-eq0.ensures.bytes.0 in
+    let room : length c.read_piece.new.piece ≡ length c.args.piece.now = search rules in (
+      read,
+      subst (λ (bytes : List ℕ). Consumes (g.P.Pieces.remaining c.args.source.now) (g.P.Pieces.remaining c.read_piece.new.source) bytes) (append-nil read)
+          (Consumes-trans _ _ _ read [] took none),
+      (follows begins same).0,
+      c.in-Ok-eq0.ensures.bytes.1 c.in-Ok-eq0.field-0-test (omega (arith, room, has_room)),
+    )
+
+-- ---- the bytes decide
+
+pub returns-in-Decided-clause-ends : goal.returns-in-Decided-clause-ends
+returns-in-Decided-clause-ends g c has_room begins same =
+    let (read, took, count, follows) = c.loop-error.invariant.read in
+    let stands = (follows begins same).0 in (
+      read ++ take c.in-Ok.count c.read_piece.new.piece,
+      Consumes-trans _ _ _ read (take c.in-Ok.count c.read_piece.new.piece) took c.in-Ok.ensures.bytes.0,
+      c.feed.ensures.stands read stands,
+      c.in-Decided.ensures.decided refl read stands,
+    )
+
+-- ---- more bytes came than are allowed, of which what is open has none
+
+beyond : (g : Over) (c : goal.Then-offset-most g) → g.F.Feeds.stands c.args.fed.now [] → g.F.Feeds.limits c.args.fed.now ≡ c.args.limits → ⊥
+beyond g c begins same =
+    let (read, took, count, follows) = c.loop-error.invariant.read in
+    let fits = c.in-Open.ensures.fits refl read (follows begins same).0 in
+    let bytes = ap (λ (limits : Allowed). limits.bytes) (c.loop-error.invariant.limits ∙ same) in
+    let piece = length-take-le c.in-Ok.count c.read_piece.new.piece c.in-Ok.ensures.bound.0 in
+    omega (arith, fits, bytes, piece, count, length-append read (take c.in-Ok.count c.read_piece.new.piece))
+
+pub returns-then-offset-most-clause-stops : goal.returns-then-offset-most-clause-stops
+returns-then-offset-most-clause-stops g c begins same = elim (beyond g c begins same) [ ]
+
+pub returns-then-offset-most-clause-ends : goal.returns-then-offset-most-clause-ends
+returns-then-offset-most-clause-ends g c has_room begins same = elim (beyond g c begins same) [ ]
