@@ -1,4 +1,5 @@
-use Rattle.geolint_report.proofs.Common.{rules, refl, ap, append-nil, ℕ, List, [], arith, inr, ◌++◌, ◌+◌, ◌≡◌, ◌∙◌, take, length, ◌≤◌, subst, length-append, length-take-le}
+use Rattle.geolint_report.proofs.Common.{rules, refl, ap, append-nil, ℕ, List, [], arith, inr, ◌++◌, ◌+◌, ◌≡◌, ◌∙◌, ◌≤◌}
+use Rattle.geolint_report.proofs.Common.{take, length, subst, length-append, length-take-le}
 use Rattle.geolint_report.proofs.Common.{Consumes, Consumes-trans, Allowed}
 use Rattle.std.proofs.KnownBytes.{Consumes-kept, Consumes-nil}
 use Rattle.geolint_report.proofs.PieceReads.{given_more, one_read, stops}
