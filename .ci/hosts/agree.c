@@ -5,6 +5,7 @@
  *     agree SEED COUNT PROGRAM FILE..     `-` for no program
  */
 #define _GNU_SOURCE
+#include "random.h"
 #include <geolint.h>
 #include <inttypes.h>
 #include <stdio.h>
@@ -14,16 +15,6 @@
 #include <unistd.h>
 
 enum { MOST = 8192, FILES = 64, REPORT = 2048 };
-
-static uint64_t state;
-
-/* xorshift64*: the same numbers on each machine. */
-static uint32_t below(uint32_t most) {
-    state ^= state >> 12;
-    state ^= state << 25;
-    state ^= state >> 27;
-    return (uint32_t)((state * UINT64_C(2685821657736338717)) >> 32) % most;
-}
 
 static char texts[FILES][MOST];
 static size_t sizes[FILES];

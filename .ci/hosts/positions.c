@@ -3,22 +3,13 @@
  *
  *     positions SEED TEXTS
  */
+#include "random.h"
 #include <geolint.h>
 #include <inttypes.h>
 #include <stdio.h>
 #include <string.h>
 
 enum { POSITIONS = 100, ROOM = 16384 };
-
-static uint64_t state;
-
-/* xorshift64*: the same numbers on each machine. */
-static uint32_t below(uint32_t most) {
-    state ^= state >> 12;
-    state ^= state << 25;
-    state ^= state >> 27;
-    return (uint32_t)((state * UINT64_C(2685821657736338717)) >> 32) % most;
-}
 
 static char text[ROOM];
 static size_t size;
