@@ -9,6 +9,7 @@ ghost use Rattle.gj_json.specs.Internal.SpelledNumbers.{IsFlat};
 ghost use Rattle.gj_json.specs.Internal.FlatParts.{cut, IsItem, IsMore};
 
 use crate::flat::{Flat, Numbered};
+use crate::gaps::Gaps;
 use crate::runs::white_run;
 use gj_number::{Pair, Short, read_last_pair, read_pair, read_short};
 
@@ -39,7 +40,7 @@ pub fn space_end(piece: &[u8], at: usize) -> usize
 
 /// A comma that the piece starts with, and the white space after it: how many bytes.
 #[inline(always)]
-pub fn comma_run(piece: &[u8]) -> usize
+pub fn comma_run(piece: &[u8], gaps: &mut Gaps) -> usize
     ensures within { result ≤ length piece.now }
     ensures comma { 0 < result → get_or piece.now 0 0 ≡ comma }
     ensures white { 0 < result → AllByRecursion IsWhite (cut piece.now 1 result) }
@@ -47,13 +48,16 @@ pub fn comma_run(piece: &[u8]) -> usize
     if piece.is_empty() || piece[0] != b',' {
         return 0;
     }
-    space_end(piece, 1)
+    if piece.len() > 2 && piece[1] == b' ' && piece[2] > b' ' {
+        return 2;
+    }
+    gaps.bracket.end(piece, 1)
 }
 
 /// Reads the ordinary number that stands at an index, with white space around it, in a piece that begins at the place
 /// `start`: the index of the byte after that, or 0 where there is none.
 #[inline(always)]
-fn read_item(piece: &[u8], at: usize, start: u64, number: &mut Numbered) -> usize
+fn read_item(piece: &[u8], at: usize, start: u64, gaps: &mut Gaps, number: &mut Numbered) -> usize
     requires within { at ≤ length piece.now }
     requires small { start + length piece.now ≤ 2 ^ 60 }
     ensures on { 0 < result → at ≤ result }
@@ -61,7 +65,7 @@ fn read_item(piece: &[u8], at: usize, start: u64, number: &mut Numbered) -> usiz
     ensures place { 0 < result → start + at ≤ number.new.place }
     ensures item { 0 < result → IsItem number.new (start + at) (cut piece.now at result) }
 {
-    let first = white_end(piece, at);
+    let first = gaps.number.end(piece, at);
     let count = read_short(&piece[first..], &mut number.value);
     if count == 0 {
         return 0;
@@ -71,7 +75,7 @@ fn read_item(piece: &[u8], at: usize, start: u64, number: &mut Numbered) -> usiz
     if piece[end] > b' ' {
         return end;
     }
-    let end = white_end(piece, end);
+    let end = gaps.bracket.end(piece, end);
     if end == piece.len() {
         return 0;
     }
@@ -110,7 +114,7 @@ fn drop_third(third: &mut Option<Numbered>)
 /// Reads the array of two or three ordinary numbers that is whole at the start of a piece, which begins at the place
 /// `start`: how many bytes it has. Mostly it is a pair.
 #[inline(always)]
-pub fn read_flat(piece: &[u8], start: u64, flat: &mut Flat) -> Option<usize>
+pub fn read_flat(piece: &[u8], start: u64, gaps: &mut Gaps, flat: &mut Flat) -> Option<usize>
     requires some { 0 < length piece.now }
     requires bracket { get_or piece.now 0 0 ≡ open_bracket }
     requires small { start + length piece.now ≤ 2 ^ 60 }
@@ -119,7 +123,7 @@ pub fn read_flat(piece: &[u8], start: u64, flat: &mut Flat) -> Option<usize>
     ensures flat { IfSome result (λ count. IsFlat flat.new start (take count piece.now)) }
 {
     let Some(pair) = pair_after_bracket(piece, &mut flat.first.value, &mut flat.second.value) else {
-        let count = read_any_flat(piece, start, flat);
+        let count = read_any_flat(piece, start, gaps, flat);
         return if count == 0 { None } else { Some(count) };
     };
     flat.place = start;
@@ -132,7 +136,7 @@ pub fn read_flat(piece: &[u8], start: u64, flat: &mut Flat) -> Option<usize>
 
 /// As `read_flat`, of numbers of any length, with white space around them.
 #[inline(always)]
-fn read_any_flat(piece: &[u8], start: u64, flat: &mut Flat) -> usize
+fn read_any_flat(piece: &[u8], start: u64, gaps: &mut Gaps, flat: &mut Flat) -> usize
     requires some { 0 < length piece.now }
     requires bracket { get_or piece.now 0 0 ≡ open_bracket }
     requires small { start + length piece.now ≤ 2 ^ 60 }
@@ -141,11 +145,11 @@ fn read_any_flat(piece: &[u8], start: u64, flat: &mut Flat) -> usize
 {
     // No number stands before the start of the text, whichever are read.
     flat.place = 0;
-    let first = read_item(piece, 1, start, &mut flat.first);
+    let first = read_item(piece, 1, start, gaps, &mut flat.first);
     if first == 0 || piece[first] != b',' {
         return 0;
     }
-    let second = read_item(piece, first + 1, start, &mut flat.second);
+    let second = read_item(piece, first + 1, start, gaps, &mut flat.second);
     if second == 0 {
         return 0;
     }
@@ -175,7 +179,7 @@ fn read_third(piece: &[u8], at: usize, start: u64, flat: &mut Flat) -> usize
         return 0;
     }
     let mut number = Numbered::blank();
-    let third = read_item(piece, at + 1, start, &mut number);
+    let third = read_item(piece, at + 1, start, &mut Gaps::none(), &mut number);
     if third == 0 || piece[third] != b']' {
         return 0;
     }

@@ -1,6 +1,6 @@
 //! Runs of bytes at the start of a piece, found sixteen at a time.
 
-ghost use Rattle.std.specs.Prelude.{◌≡◌, ◌<◌, ◌≤◌, ◌+◌, ◌*◌, ◌++◌, length, map, not, take};
+ghost use Rattle.std.specs.Prelude.{◌≡◌, ◌<◌, ◌≤◌, ◌+◌, ◌*◌, ◌++◌, length, map, not, take, IsTrue};
 ghost use Rattle.std.specs.List.{prefix_len};
 ghost use Rattle.std.specs.Simd.Lanes.{mask_l};
 ghost use Rattle.std.specs.Str.{bytes_eq};
@@ -194,6 +194,21 @@ pub fn white_run(piece: &[u8]) -> usize
         }
     }
     long_white_run(piece)
+}
+
+/// Whether so many bytes at the start of the piece are white space.
+#[inline(always)]
+pub fn begins_white(piece: &[u8], count: usize) -> bool
+    requires room { 2 * LANES ≤ length piece.now }
+    requires few { count ≤ 2 * LANES }
+    ensures { IsTrue result → count ≤ prefix_len is_white piece.now }
+{
+    let stops = white_stops(u8x16::from_slice(piece));
+    if count <= LANES {
+        return stops.trailing_zeros() as usize >= count;
+    }
+    let more = white_stops(u8x16::from_slice(&piece[LANES..]));
+    stops == 0 && more.trailing_zeros() as usize >= count - LANES
 }
 
 /// As `white_run`, of a run of any length.

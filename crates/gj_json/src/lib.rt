@@ -15,6 +15,7 @@ mod event;
 mod fault;
 mod flat;
 mod flats;
+mod gaps;
 mod head;
 mod heads;
 mod lanes;

@@ -1,6 +1,6 @@
 -- White space and digits leave some modes as they are, and bytes of a string its mode.
-use Rattle.std.proofs.Common.{◌≡◌, ℕ, ◌+◌, ◌-◌, ◌<◌, Bool, true, false, cond, List, [], ◌∷◌, ◌++◌, length, take, drop, take-add, get_or, None, refl, sym, ap}
-use Rattle.std.proofs.Common.{subst, ◌∙◌, append_assoc, append-nil, arith}
+use Rattle.std.proofs.Common.{◌≡◌, ℕ, zero, suc, ◌+◌, ◌-◌, ◌<◌, ◌≤◌, Bool, true, false, cond, List, [], ◌∷◌, ◌++◌, length, take, drop, take-add, get_or, None}
+use Rattle.std.proofs.Common.{refl, sym, ap, subst, ◌∙◌, append_assoc, append-nil, arith}
 use Rattle.std.proofs.lemmas.List.{take_more}
 use Rattle.std.specs.List.{AllByRecursion, prefix_len}
 use Rattle.std.proofs.Math.Numerals.{one-add}
@@ -39,6 +39,18 @@ all_run p P f (x ∷ xs) = go (p x) refl (all_run p P f xs)
     go : (t : Bool) → p x ≡ t → AllByRecursion P (take (prefix_len p xs) xs) → AllByRecursion P (take (cond t (1 + prefix_len p xs) 0) (x ∷ xs))
     go true e h = rw one-add (f x e, h)
     go false e h = tt
+
+-- and fewer of these
+pub part_run : (p : ℕ → Bool) (P : ℕ → Type 0) → ((b : ℕ) → p b ≡ true → P b) → (n : ℕ) (xs : List ℕ) → n ≤ prefix_len p xs
+    → AllByRecursion P (take n xs)
+part_run p P f zero xs h = tt
+part_run p P f (suc n) [] h = tt
+part_run p P f (suc n) (x ∷ xs) h = go (p x) refl h (part_run p P f n xs)
+  where
+    go : (t : Bool) → p x ≡ t → suc n ≤ cond t (1 + prefix_len p xs) 0 → (n ≤ prefix_len p xs → AllByRecursion P (take n xs))
+        → AllByRecursion P (take (suc n) (x ∷ xs))
+    go true e k more = (f x e, more (omega (arith, k)))
+    go false e k more = absurd (omega (arith, k))
 
 plain_is : (b : ℕ) → is_unescaped_ascii b ≡ true → IsPlain b
 plain_is b e = (grind (arith, nat_tests), grind (arith, nat_tests), grind (arith, nat_tests), grind (arith, nat_tests))

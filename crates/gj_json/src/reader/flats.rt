@@ -10,6 +10,7 @@ use super::Reader;
 use super::positions::{FEW, arrays_before_next};
 use crate::flat::Flat;
 use crate::flats::{comma_run, read_flat};
+use crate::gaps::Gaps;
 use crate::levels::Level;
 use crate::mode::Mode;
 use crate::sink::EventSink;
@@ -109,7 +110,7 @@ impl Reader {
         ensures feeds { FeedsAll (S.heard sink.old) (S.heard sink.new) self.old self.new (take result piece.now) }
     {
         let mut flat = Flat::blank();
-        let Some(count) = read_flat(piece, self.offset, &mut flat) else {
+        let Some(count) = read_flat(piece, self.offset, &mut Gaps::none(), &mut flat) else {
             return 0;
         };
         sink.tell_flat(&flat);
@@ -131,9 +132,10 @@ impl Reader {
         let mut flat = Flat::blank();
         let mut rest = piece;
         let mut begins = true;
+        let mut gaps = Gaps::none();
         let mut left = FEW;
         while begins {
-            let Some(count) = read_flat(rest, self.offset, &mut flat) else {
+            let Some(count) = read_flat(rest, self.offset, &mut gaps, &mut flat) else {
                 return piece.len() - rest.len();
             };
             sink.tell_flat(&flat);
@@ -148,7 +150,7 @@ impl Reader {
                     left = arrays_before_next(many);
                 }
             } else {
-                let comma = comma_run(&rest[count..]);
+                let comma = comma_run(&rest[count..], &mut gaps);
                 if comma == 0 {
                     self.skip(count, Mode::ValueDone);
                     return piece.len() - rest.len() + count;

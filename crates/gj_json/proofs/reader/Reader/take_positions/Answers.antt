@@ -1,5 +1,5 @@
 -- The positions that the sink takes, as their arrays in turn.
-use Rattle.std.proofs.Common.{lit<, ◌≡◌, ◌∙◌, [], ◌-◌, ◌<◌, ◌≤◌, List, ℕ, append-nil, get_or, length, take, length-drop, pos, false, sym, ap, subst, arith}
+use Rattle.std.proofs.Common.{◌≡◌, ◌∙◌, [], ◌-◌, ◌<◌, ◌≤◌, List, ℕ, append-nil, get_or, length, take, length-drop, sym, ap, subst, arith}
 use Rattle.std.proofs.lemmas.List.{get_or-drop, get_or-take, length-take}
 use Rattle.gj_json.specs.Bytes.{open_bracket}
 use Rattle.gj_json.specs.declared.cut_position.CutPosition.{CutPosition}

@@ -1,0 +1,15 @@
+-- As much white space as the last time.
+use Rattle.std.proofs.Common.{◌-◌, length, drop, take}
+use Rattle.gj_json.specs.Bytes.{IsWhite}
+use Rattle.gj_json.specs.Internal.QuietBytes.{is_white}
+use Rattle.gj_json.proofs.Pieces.PieceCuts.{cut_front}
+use Rattle.gj_json.proofs.Pieces.QuietModes.{part_run, white_is}
+use Rattle.gj_json.proofs.gaps.Gap.end.Goals as goal
+
+pub returns-then-piece-at-gt32-2-clause-white : goal.returns-then-piece-at-gt32-2-clause-white
+returns-then-piece-at-gt32-2-clause-white c =
+    let piece = c.args.piece.now in
+    let at = c.args.at in
+    let n = c.args.self.now.bytes in
+    rw (cut_front piece at n)
+    (part_run is_white IsWhite white_is n (take (length piece - at) (drop at piece)) (c.begins_white.ensures c.if-begins_white.true))
