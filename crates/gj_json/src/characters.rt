@@ -6,11 +6,11 @@ ghost use Rattle.gj_json.specs.Characters.{escape_of, hex_of};
 ghost use Rattle.gj_json.specs.Runs.{IsLongestUtf8, plain_run_of};
 ghost use Rattle.gj_json.specs.Internal.WholeTokens.{IsCharacter, AreCharacters};
 
-use crate::lanes::{ascii_run, plain_run};
-use crate::wide::{end_of_wide, is_tail};
+use crate::lanes::{LANES, ascii_run, plain_run};
+use crate::wide::{begins_wide, end_of_wide, is_tail};
 
 /// How many bytes the character has that the piece starts with, in UTF-8 of several bytes, or 0.
-#[inline(always)]
+#[inline(never)]
 fn wide_character(piece: &[u8]) -> usize
     ensures within { result ≤ length piece.now }
     ensures several { 0 < result → 2 ≤ result }
@@ -136,11 +136,10 @@ fn wide_run(piece: &[u8]) -> usize
     ensures within { result ≤ length piece.now }
     ensures characters { AreCharacters (take result piece.now) }
 {
-    let first = wide_character(piece);
-    if first == 0 || first == piece.len() || is_tail(piece[first]) || piece[first] >= 0xF0 {
-        return first;
+    if piece.len() <= LANES + 1 || !begins_wide(piece) {
+        return wide_character(piece);
     }
-    let end = first - 1 + end_of_wide(&piece[first - 1..]);
+    let end = end_of_wide(piece);
     if !is_tail(piece[end]) {
         end
     } else if !is_tail(piece[end - 1]) {

@@ -1,8 +1,8 @@
 //! Unescaped characters of up to three bytes, found sixteen bytes at a time.
 
-ghost use Rattle.std.specs.Prelude.{◌≡◌, ◌<◌, ◌≤◌, ◌+◌, ◌⊎◌, length};
+ghost use Rattle.std.specs.Prelude.{◌≡◌, ◌<◌, ◌≤◌, ◌+◌, ◌⊎◌, false, get_or, length, IsTrue};
 ghost use Rattle.std.specs.Simd.Lanes.{mask_l};
-ghost use Rattle.gj_json.specs.Internal.WideCharacters.{is_tail, kinds_of, ends_of, EndsThere, NoneEnds};
+ghost use Rattle.gj_json.specs.Internal.WideCharacters.{is_tail, kinds_of, ends_at, ends_of, EndsThere, NoneEnds};
 
 use crate::lanes::LANES;
 use std::simd::prelude::*;
@@ -13,6 +13,27 @@ pub fn is_tail(byte: u8) -> bool
     ensures { result ≡ is_tail byte }
 {
     0x80 <= byte && byte <= 0xBF
+}
+
+/// Whether the first two bytes of the piece may begin such a character, one of several bytes.
+#[inline(always)]
+pub fn begins_wide(piece: &[u8]) -> bool
+    requires { 1 < length piece.now }
+    ensures begins { IsTrue result → is_tail (get_or piece.now 0 0) ≡ false }
+    ensures goes_on { IsTrue result → ends_at 0 (get_or piece.now 0 0) (get_or piece.now 1 0) ≡ false }
+{
+    let first = piece[0];
+    let second = piece[1];
+    if first < 0xC2 || first >= 0xF0 || !is_tail(second) {
+        return false;
+    }
+    if first == 0xE0 {
+        return second >= 0xA0;
+    }
+    if first == 0xED {
+        return second < 0xA0;
+    }
+    true
 }
 
 /// What a byte may be, by its lower half and by its upper. 1: a quote, 2: a backslash, 4: C0 or C1, 8: a control character or

@@ -1,17 +1,14 @@
 -- Bytes at which no unescaped character of up to three bytes ends too early are such characters.
 use Rattle.std.proofs.Common.{◌≡◌, ◌≢◌, ℕ, zero, suc, ◌+◌, ◌-◌, ◌<◌, ◌≤◌, ◌⊎◌, Bool, true, false, not, ◌&&◌, ◌||◌, leb, ltb, eqb, List, [], ◌∷◌, ◌++◌, length}
-use Rattle.std.proofs.Common.{take, drop, get_or, inl, inr, refl, sym, ap, subst, ◌∙◌, arith}
-use Rattle.std.proofs.Math.Seq.{drop-cons}
+use Rattle.std.proofs.Common.{take, get_or, inl, inr, refl, sym, ap, subst, ◌∙◌, arith}
 use Rattle.std.proofs.lemmas.Bool.{cases_lt, or_parts, or_right, lt-leb, le-leb}
 use Rattle.std.proofs.lemmas.Bool.Decides.{nat_tests}
-use Rattle.std.proofs.lemmas.List.{get_or-drop}
 use Rattle.gj_json.specs.declared.mode.StringState.TheVariants.{Plain}
 use Rattle.gj_json.specs.Characters.{IsPlain}
 use Rattle.gj_json.specs.Internal.WholeTokens.{IsCharacter, AreCharacters}
 use Rattle.gj_json.specs.Internal.WideCharacters.{is_tail, is_stop, goes_on, is_narrow, ends_at, NoneEnds}
 use Rattle.gj_json.proofs.Grammar.SpelledCharacters.{character_read, two, three}
-use Rattle.gj_json.proofs.Pieces.QuietModes.{joined, reads_more}
-use Rattle.gj_json.proofs.Pieces.PieceRests.{rest_of}
+use Rattle.gj_json.proofs.Pieces.QuietModes.{joined}
 
 -- ---- one byte
 
@@ -235,54 +232,32 @@ whole p (a ∷ b ∷ c ∷ d ∷ xs) (suc (suc (suc n))) l f w none =
           )
     ]
 
--- ---- after a first character
+-- ---- from a first byte
 
-module _ (piece : List ℕ) (first n : ℕ) (some : 0 < first) (within : first < length piece) (character : IsCharacter (take first piece))
-    (last : get_or piece (first - 1) 0 ≤ 0xBF) (begins : is_tail (get_or piece first 0) ≡ false)
-    (room : n < length (take (length piece - (first - 1)) (drop (first - 1) piece))) (positive : 0 < n)
-    (none : NoneEnds (take (length piece - (first - 1)) (drop (first - 1) piece)) n) where
-  rest : take (length piece - (first - 1)) (drop (first - 1) piece) ≡ get_or piece (first - 1) 0 ∷ drop first piece
-  rest =
-      let e : suc (first - 1) ≡ first = omega arith in
-      rest_of piece (first - 1) ∙ drop-cons piece (first - 1) 0 (omega arith) ∙ ap (λ k. get_or piece (first - 1) 0 ∷ drop k piece) e
-
-  none_here : None (get_or piece (first - 1) 0 ∷ drop first piece) (n - 1)
-  none_here i h =
-      let P : List ℕ → Type 0 = λ ys. NoneEnds ys n in
-      let k = subst P rest none i (omega arith) in
+module _ (piece : List ℕ) (n : ℕ) (positive : 0 < n) (room : n < length piece) (begins : is_tail (get_or piece 0 0) ≡ false)
+    (goes : ends_at 0 (get_or piece 0 0) (get_or piece 1 0) ≡ false) (none : NoneEnds piece n) where
+  none_here : None (0 ∷ piece) n
+  none_here zero h = goes
+  none_here (suc i) h =
+      let k = none i (omega arith) in
       let one : i + 1 ≡ suc i = omega arith in
       let two : i + 2 ≡ suc (suc i) = omega arith in
       rw (one, two) at k
 
-  room_here : n - 1 < length (drop first piece)
-  room_here = omega (arith, ap length rest)
+  found : Whole 0 piece n
+  found = whole 0 piece n (omega arith) begins room none_here
 
-  found : Whole (get_or piece (first - 1) 0) (drop first piece) (n - 1)
-  found = whole (get_or piece (first - 1) 0) (drop first piece) (n - 1) (omega arith)
-      (let e : first + 0 ≡ first = omega arith in rw (get_or-drop first piece 0 0, e) begins) room_here none_here
+  before_end : get_or (0 ∷ piece) n 0 ≡ get_or piece (n - 1) 0
+  before_end = let one : suc (n - 1) ≡ n = omega arith in ap (λ k. get_or (0 ∷ piece) k 0) (sym one)
 
-  end_at : get_or (drop first piece) (n - 1) 0 ≡ get_or piece (first - 1 + n) 0
-  end_at = get_or-drop first piece (n - 1) 0 ∙ ap (λ k. get_or piece k 0) (omega arith)
+  read : (k : ℕ) → k ≡ found.k → AreCharacters (take k piece)
+  read k e = let P : ℕ → Type 0 = λ m. AreCharacters (take m piece) in subst P (sym e) found.characters
 
-  before_end : get_or (get_or piece (first - 1) 0 ∷ drop first piece) (n - 1) 0 ≡ get_or piece (first - 1 + n - 1) 0
-  before_end = ap (λ ys. get_or ys (n - 1) 0) (sym rest ∙ rest_of piece (first - 1)) ∙ get_or-drop (first - 1) piece (n - 1) 0
-      ∙ ap (λ k. get_or piece k 0) (omega arith)
+  pub all_whole : is_tail (get_or piece n 0) ≡ false → AreCharacters (take n piece)
+  all_whole t = let d = found.all t in read n (omega arith)
 
-  read : (k : ℕ) → k ≡ first + found.k → AreCharacters (take k piece)
-  read k e =
-      let c = character_read (take first piece) character in
-      let P : List ℕ → Type 0 = λ ys. AreCharacters (take found.k ys) in
-      let more = subst P (sym (rest_of piece first)) found.characters in
-      let Q : ℕ → Type 0 = λ m. AreCharacters (take m piece) in
-      subst Q (sym e) (c.0 ++ more.0, reads_more Plain Plain Plain piece c.0 more.0 first found.k c.1 more.1)
+  pub but_one_whole : is_tail (get_or piece n 0) ≡ true → is_tail (get_or piece (n - 1) 0) ≡ false → AreCharacters (take (n - 1) piece)
+  but_one_whole t u = let d = found.but_one t (ap is_tail before_end ∙ u) in read (n - 1) (omega arith)
 
-  pub all_whole : is_tail (get_or piece (first - 1 + n) 0) ≡ false → AreCharacters (take (first - 1 + n) piece)
-  all_whole t = let d = found.all (ap is_tail end_at ∙ t) in read (first - 1 + n) (omega arith)
-
-  pub but_one_whole : is_tail (get_or piece (first - 1 + n) 0) ≡ true → is_tail (get_or piece (first - 1 + n - 1) 0) ≡ false
-      → AreCharacters (take (first - 1 + n - 1) piece)
-  but_one_whole t u = let d = found.but_one (ap is_tail end_at ∙ t) (ap is_tail before_end ∙ u) in read (first - 1 + n - 1) (omega arith)
-
-  pub but_two_whole : is_tail (get_or piece (first - 1 + n) 0) ≡ true → is_tail (get_or piece (first - 1 + n - 1) 0) ≡ true
-      → AreCharacters (take (first - 1 + n - 2) piece) × (2 ≤ first - 1 + n)
-  but_two_whole t u = let d = found.but_two (ap is_tail end_at ∙ t) (ap is_tail before_end ∙ u) in (read (first - 1 + n - 2) (omega arith), omega arith)
+  pub but_two_whole : is_tail (get_or piece n 0) ≡ true → is_tail (get_or piece (n - 1) 0) ≡ true → AreCharacters (take (n - 2) piece) × (2 ≤ n)
+  but_two_whole t u = let d = found.but_two t (ap is_tail before_end ∙ u) in (read (n - 2) (omega arith), omega arith)
