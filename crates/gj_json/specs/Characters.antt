@@ -1,7 +1,7 @@
 -- The characters of a string, and their spelling: by themselves, in UTF-8 or escaped (RFC 8259, section 7; RFC 3629, section 4).
-use Rattle.std.specs.Prelude.{◌-◌, ◌*◌, ◌==◌, ◌&&◌, if◌then◌else◌, nat_le, Option, Some, None, ◌≡◌, ℕ, ◌+◌, ◌≤◌, ◌≢◌, ◌⊎◌, List, [], ◌∷◌, ◌++◌}
+use Rattle.std.specs.Prelude.{◌-◌, ◌*◌, ◌==◌, ◌&&◌, if◌then◌else◌, nat_le, Option, Some, None, ◌≡◌, ℕ, ◌+◌, ◌≤◌, ◌≢◌, ◌⊎◌, List, [], ◌∷◌, ◌++◌, codes}
 use Rattle.std.specs.Char.{IsScalar, encode_utf8}
-use Rattle.gj_json.specs.Bytes.{space, quote, backslash, line_feed, carriage_return, tab, letter_u}
+use Rattle.gj_json.specs.Bytes.{space, quote, backslash, line_feed, carriage_return, tab}
 
 -- a byte of a string that is a character by itself
 abbrev pub IsPlain : ℕ → Type 0
@@ -32,7 +32,7 @@ IsEscaped c bytes = (e : ℕ) × (bytes ≡ backslash ∷ e ∷ []) × (escape_o
 -- \u and four hexadecimal digits: the number that they write. A surrogate stays a character of its own.
 abbrev pub IsUnicode : ℕ → List ℕ → Type 0
 IsUnicode c bytes =
-    (b0 : ℕ) × (b1 : ℕ) × (b2 : ℕ) × (b3 : ℕ) × (d0 : ℕ) × (d1 : ℕ) × (d2 : ℕ) × (d3 : ℕ) × (bytes ≡ backslash ∷ letter_u ∷ b0 ∷ b1 ∷ b2 ∷ b3 ∷ [])
+    (b0 : ℕ) × (b1 : ℕ) × (b2 : ℕ) × (b3 : ℕ) × (d0 : ℕ) × (d1 : ℕ) × (d2 : ℕ) × (d3 : ℕ) × (bytes ≡ codes "\\u" ++ (b0 ∷ b1 ∷ b2 ∷ b3 ∷ []))
     × (hex_of b0 ≡ Some d0) × (hex_of b1 ≡ Some d1) × (hex_of b2 ≡ Some d2) × (hex_of b3 ≡ Some d3) × (c ≡ ((d0 * 16 + d1) * 16 + d2) * 16 + d3)
 
 -- a Unicode scalar value beyond ASCII, in UTF-8: a character of several bytes

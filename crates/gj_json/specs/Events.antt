@@ -1,5 +1,5 @@
 -- The events of a text, each with the length of the prefix of the text in which it is complete.
-use Rattle.std.specs.Prelude.{ℕ, ◌+◌, if◌then◌else◌, nat_le, Bool, true, false, List, [], ◌∷◌, ◌++◌, length, map}
+use Rattle.std.specs.Prelude.{ℕ, ◌+◌, if◌then◌else◌, nat_le, Bool, List, [], ◌∷◌, ◌++◌, length, map}
 use Rattle.gj_json.specs.declared.event.Event.{Event}
 use Rattle.gj_json.specs.declared.event.What.{What}
 use Rattle.gj_json.specs.declared.constant.Constant.{Constant}
@@ -42,8 +42,7 @@ abbrev mutual
 
 -- a byte order mark stands at 0
 abbrev pub mark_events : Bool → List Timed
-mark_events true = timed (length mark_bytes) 0 What.Mark ∷ []
-mark_events false = []
+mark_events marked = if marked then timed (length mark_bytes) 0 What.Mark ∷ [] else []
 
 abbrev pub text_events : Text → List Timed
 text_events text = mark_events text.marked ++ events text.value

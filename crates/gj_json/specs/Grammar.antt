@@ -1,7 +1,7 @@
 -- How a value is spelled: the grammar of RFC 8259, sections 2 to 7, by cases on its tree, in UTF-8 (RFC 3629, section 4).
-use Rattle.std.specs.Prelude.{◌≡◌, ℕ, ◌+◌, List, [], ◌∷◌, ◌++◌, length, codes}
+use Rattle.std.specs.Prelude.{◌≡◌, ℕ, ◌+◌, List, [], ◌++◌, length, codes}
 use Rattle.std.specs.List.{AllByRecursion}
-use Rattle.gj_json.specs.Bytes.{open_bracket, close_bracket, open_brace, close_brace, comma, colon, quote, IsWhite}
+use Rattle.gj_json.specs.Bytes.{IsWhite}
 use Rattle.gj_number.specs.Grammar.{IsNumber}
 use Rattle.gj_json.specs.Characters.{SpellsContent}
 use Rattle.gj_json.specs.declared.constant.Constant.{Constant}
@@ -27,9 +27,9 @@ Exactly letters start bytes = bytes ≡ letters
 abbrev pub Ends : ℕ → ℕ → List ℕ → Type 0
 Ends end start bytes = (bytes ≡ []) × (end ≡ start)
 
--- the byte b, at this place
-abbrev pub Closes : ℕ → ℕ → ℕ → List ℕ → Type 0
-Closes b close start bytes = (bytes ≡ b ∷ []) × (close ≡ start)
+-- these bytes, at this place
+abbrev pub Closes : List ℕ → ℕ → ℕ → List ℕ → Type 0
+Closes letters close start bytes = (bytes ≡ letters) × (close ≡ start)
 
 abbrev pub letters_of : Constant → List ℕ
 letters_of Null = codes "null"
@@ -39,7 +39,7 @@ letters_of False = codes "false"
 -- a string in its quotes, which ends at `end`
 abbrev pub Quoted : ℕ → List ℕ → ℕ → ℕ → List ℕ → Type 0
 Quoted place content end start bytes =
-    (place ≡ start) × Then (Exactly (quote ∷ [])) (Then (λ here inner. SpellsContent content inner) (Then (Exactly (quote ∷ [])) (Ends end))) start bytes
+    (place ≡ start) × Then (Exactly (codes "\"")) (Then (λ here inner. SpellsContent content inner) (Then (Exactly (codes "\"")) (Ends end))) start bytes
 
 abbrev mutual
   -- the tree is spelled by these bytes, of which the first stands at this place
@@ -48,29 +48,29 @@ abbrev mutual
   Spells (number place literal end) start bytes = (place ≡ start) × IsNumber literal × Then (Exactly literal) (Ends end) start bytes
   Spells (string place content end) start bytes = Quoted place content end start bytes
   Spells (array place elements close) start bytes =
-      (place ≡ start) × Then (Exactly (open_bracket ∷ [])) (Then White (SpellsElements elements close)) start bytes
-  Spells (object place members close) start bytes = (place ≡ start) × Then (Exactly (open_brace ∷ [])) (Then White (SpellsMembers members close)) start bytes
+      (place ≡ start) × Then (Exactly (codes "[")) (Then White (SpellsElements elements close)) start bytes
+  Spells (object place members close) start bytes = (place ≡ start) × Then (Exactly (codes "{")) (Then White (SpellsMembers members close)) start bytes
 
   -- from the first element on, and with the bracket
   pub SpellsElements : Elements → ℕ → ℕ → List ℕ → Type 0
-  SpellsElements end_of_array close start bytes = Closes close_bracket close start bytes
+  SpellsElements end_of_array close start bytes = Closes (codes "]") close start bytes
   SpellsElements (element value more) close start bytes = Then (Spells value) (Then White (SpellsMoreElements more close)) start bytes
 
   -- after an element
   pub SpellsMoreElements : Elements → ℕ → ℕ → List ℕ → Type 0
-  SpellsMoreElements end_of_array close start bytes = Closes close_bracket close start bytes
+  SpellsMoreElements end_of_array close start bytes = Closes (codes "]") close start bytes
   SpellsMoreElements (element value more) close start bytes =
-      Then (Exactly (comma ∷ [])) (Then White (Then (Spells value) (Then White (SpellsMoreElements more close)))) start bytes
+      Then (Exactly (codes ",")) (Then White (Then (Spells value) (Then White (SpellsMoreElements more close)))) start bytes
 
   pub SpellsMembers : Members → ℕ → ℕ → List ℕ → Type 0
-  SpellsMembers end_of_object close start bytes = Closes close_brace close start bytes
+  SpellsMembers end_of_object close start bytes = Closes (codes "}") close start bytes
   SpellsMembers (member place name end value more) close start bytes =
       Then (Quoted place name end)
-      (Then White (Then (Exactly (colon ∷ [])) (Then White (Then (Spells value) (Then White (SpellsMoreMembers more close)))))) start bytes
+      (Then White (Then (Exactly (codes ":")) (Then White (Then (Spells value) (Then White (SpellsMoreMembers more close)))))) start bytes
 
   pub SpellsMoreMembers : Members → ℕ → ℕ → List ℕ → Type 0
-  SpellsMoreMembers end_of_object close start bytes = Closes close_brace close start bytes
+  SpellsMoreMembers end_of_object close start bytes = Closes (codes "}") close start bytes
   SpellsMoreMembers (member place name end value more) close start bytes =
-      Then (Exactly (comma ∷ []))
+      Then (Exactly (codes ","))
       (Then White (Then (Quoted place name end)
-      (Then White (Then (Exactly (colon ∷ [])) (Then White (Then (Spells value) (Then White (SpellsMoreMembers more close)))))))) start bytes
+      (Then White (Then (Exactly (codes ":")) (Then White (Then (Spells value) (Then White (SpellsMoreMembers more close)))))))) start bytes

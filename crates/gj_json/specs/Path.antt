@@ -1,5 +1,5 @@
 -- The path from the root of a text to the value that a prefix of the text leads to.
-use Rattle.std.specs.Prelude.{ℕ, ◌+◌, ◌==◌, ◌&&◌, if◌then◌else◌, nat_lt, nat_le, Bool, List, [], ◌∷◌, take, Option, Some, None, unwrap_or, option_map}
+use Rattle.std.specs.Prelude.{ℕ, ◌+◌, ◌==◌, ◌&&◌, if◌then◌else◌, nat_lt, nat_le, List, [], ◌∷◌, take, Option, Some, None, unwrap_or, option_map}
 use Rattle.std.specs.Option.{option_or}
 use Rattle.gj_json.specs.declared.path.PathStep.{PathStep}
 use Rattle.gj_json.specs.declared.path.Path.{Path}
@@ -10,18 +10,10 @@ use Rattle.gj_json.specs.Names.{known_of}
 abbrev pub steps_of : Path → List PathStep
 steps_of path = take path.count path.steps
 
--- A prefix of n bytes leads into a value, by these steps from it, or it does not: None. It leads to a value that is no array
--- and no object where that value begins with the prefix's last byte.
-abbrev pub to_value : ℕ → ℕ → Option (List PathStep)
-to_value n place = if place + 1 == n then Some [] else None
-
--- It leads into an array or an object that is open in the prefix: to what it leads to inside, or else to the container.
-abbrev pub to_container : Bool → Option (List PathStep) → Option (List PathStep)
-to_container is_open inside = if is_open then Some (unwrap_or inside []) else None
-
--- as `is_open` of `Open`: its opening bracket stands in the prefix, and its closing one does not
-abbrev pub has_open : ℕ → ℕ → ℕ → Bool
-has_open n place close = nat_lt place n && nat_le n close
+-- A prefix of n bytes leads into a value, by these steps from it, or it does not: None. It leads into an array or an object that
+-- is open in it, with the opening bracket and without the closing one: to what it leads to inside, or else to the container.
+abbrev pub to_container : ℕ → (place close : ℕ) → Option (List PathStep) → Option (List PathStep)
+to_container n place close inside = if nat_lt place n && nat_le n close then Some (unwrap_or inside []) else None
 
 -- one step, and then these
 abbrev pub by_step : PathStep → Option (List PathStep) → Option (List PathStep)
@@ -29,9 +21,10 @@ by_step step inside = option_map (λ steps. step ∷ steps) inside
 
 abbrev mutual
   pub path_in : ℕ → Tree → Option (List PathStep)
-  path_in n (array place elements close) = to_container (has_open n place close) (elements_path n 0 elements)
-  path_in n (object place members close) = to_container (has_open n place close) (members_path n members)
-  path_in n value = to_value n (place_of value)
+  path_in n (array place elements close) = to_container n place close (elements_path n 0 elements)
+  path_in n (object place members close) = to_container n place close (members_path n members)
+  -- to another value, where that begins with the last byte of the prefix
+  path_in n value = if place_of value + 1 == n then Some [] else None
 
   -- through one of these elements, of which the first has the index i
   pub elements_path : ℕ → ℕ → Elements → Option (List PathStep)

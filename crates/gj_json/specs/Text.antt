@@ -1,13 +1,12 @@
 -- Texts, and what can still become one (RFC 8259, section 2; a byte order mark may stand before it, which section 8.1 allows a reader to pass over).
-use Rattle.std.specs.Prelude.{ℕ, ◌≤◌, List, [], ◌++◌, Bool, true, false}
+use Rattle.std.specs.Prelude.{ℕ, ◌≤◌, List, [], ◌++◌, Bool, if◌then◌else◌}
 use Rattle.gj_json.specs.Bytes.{mark_bytes}
 use Rattle.gj_json.specs.Tree.{Text, depth}
 use Rattle.gj_json.specs.Grammar.{Then, White, Exactly, Spells}
 
 -- a byte order mark, where the text has one
 abbrev pub SpellsMark : Bool → ℕ → List ℕ → Type 0
-SpellsMark true start bytes = Exactly mark_bytes start bytes
-SpellsMark false start bytes = Exactly [] start bytes
+SpellsMark marked = Exactly (if marked then mark_bytes else [])
 
 -- these bytes are this text
 abbrev pub IsText : Text → List ℕ → Type 0

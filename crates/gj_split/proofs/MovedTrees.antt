@@ -66,7 +66,7 @@ byte_back : {letters : List ℕ} {B D : ℕ → List ℕ → Type 0} (k n : ℕ)
     → Then (Exactly letters) B (k + n) bytes → Then (Exactly letters) D n bytes
 byte_back {letters} {B} {D} k n bytes g h = then_back {A = Exactly letters} {B = B} {C = Exactly letters} {D = D} k n bytes (λ b x. x) g h
 
-closes_back : (b k close n : ℕ) (bytes : List ℕ) → Closes b close (k + n) bytes → Closes b (back k close) n bytes
+closes_back : (b k close n : ℕ) (bytes : List ℕ) → Closes (b ∷ []) close (k + n) bytes → Closes (b ∷ []) (back k close) n bytes
 closes_back b k close n bytes h = (h.0, back_to k n close h.1)
 
 quoted_back : (k place : ℕ) (content : List ℕ) (end n : ℕ) (bytes : List ℕ) → Quoted place content end (k + n) bytes

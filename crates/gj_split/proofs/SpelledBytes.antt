@@ -146,7 +146,7 @@ byte_ends : {B : ℕ → List ℕ → Type 0} (letter end n : ℕ) (bytes : List
 byte_ends {B} letter end n bytes no_separator g h =
     then_ends {A = Exactly (letter ∷ [])} {B = B} end n bytes (λ b e. subst AreInText (sym e) (no_separator, tt)) g h
 
-closes_ends : (letter close n : ℕ) (bytes : List ℕ) → (letter ≡ separator → ⊥) → Closes letter close n bytes → EndsAt (close + 1) n bytes
+closes_ends : (letter close n : ℕ) (bytes : List ℕ) → (letter ≡ separator → ⊥) → Closes (letter ∷ []) close n bytes → EndsAt (close + 1) n bytes
 closes_ends letter close n bytes no_separator h =
     let l : length bytes ≡ 1 = ap length h.0 in
     (omega (arith, h.1, l), subst AreInText (sym h.0) (no_separator, tt))

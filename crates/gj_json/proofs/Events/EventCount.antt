@@ -129,6 +129,6 @@ text_few text bytes h =
     let e = rest_fits h in
     let f = rest_fits h.after in
     let g = rest_fits h.after.after in
-    let m = mark_few text.marked _ _ h.before in
+    let m = mark_few text.marked 0 _ h.before in
     let k = few text.value _ _ h.after.after.before in
     rw (length-map (text_events text) (λ x. x.event), length-append (mark_events text.marked) (events text.value)) (omega arith)

@@ -109,13 +109,13 @@ gathered_members [] place name end v more close m bytes h = h
 gathered_members (d ∷ done) place name end v more close m bytes h =
     gathered_members done d.place d.name d.end d.value (member place name end v more) close m bytes h
 
-closes : {n b a : ℕ} → b ≡ a → Closes a n n (b ∷ [])
+closes : {n b a : ℕ} → b ≡ a → Closes (a ∷ []) n n (b ∷ [])
 closes e = (ap (λ x. x ∷ []) e, refl)
 
 pub array_closes : {n b : ℕ} (place : ℕ) (done : List Tree) (t : Tree) → b ≡ close_bracket
     → Adds n (b ∷ []) (ArrayOpened place done (Then White (Then (Spells t) White))) (Spells (array place (back_elements done (element t end_of_array)) n))
 array_closes {n} {b} place done t w =
-    let last : Adds n (b ∷ []) (Then White (Then (Spells t) White)) (Then White (Then (Spells t) (Then White (Closes close_bracket n)))) =
+    let last : Adds n (b ∷ []) (Then White (Then (Spells t) White)) (Then White (Then (Spells t) (Then White (Closes (close_bracket ∷ []) n)))) =
     then_adds (then_adds (follows (closes w))) in
     let g : Adds n (b ∷ []) (ArrayOpened place done (Then White (Then (Spells t) White)))
     (ArrayOpened place done (Then White (SpellsElements (element t end_of_array) n))) = array_adds place done last in
@@ -133,7 +133,7 @@ pub object_closes : {n b : ℕ} (place : ℕ) (done : List Member) (np : ℕ) (n
     (Spells (object place (back_members done (member np name ne t end_of_object)) n))
 object_closes {n} {b} place done np name ne t w =
     let last : Adds n (b ∷ []) (Named np name ne (Then White (Then (Spells t) White)))
-    (Named np name ne (Then White (Then (Spells t) (Then White (Closes close_brace n))))) =
+    (Named np name ne (Then White (Then (Spells t) (Then White (Closes (close_brace ∷ []) n))))) =
     named_adds np name ne (then_adds (then_adds (follows (closes w)))) in
     let g : Adds n (b ∷ []) (ObjectOpened place done (Named np name ne (Then White (Then (Spells t) White))))
     (ObjectOpened place done (Then White (SpellsMembers (member np name ne t end_of_object) n))) = object_adds place done last in
@@ -148,12 +148,12 @@ object_closes {n} {b} place done np name ne t w =
 
 pub empty_array : {n b : ℕ} (place : ℕ) → b ≡ close_bracket → Adds n (b ∷ []) (ArrayOpened place [] White) (Spells (array place end_of_array n))
 empty_array {n} {b} place w =
-    let g : Adds n (b ∷ []) (ArrayOpened place [] White) (ArrayOpened place [] (Then White (Closes close_bracket n))) =
+    let g : Adds n (b ∷ []) (ArrayOpened place [] White) (ArrayOpened place [] (Then White (Closes (close_bracket ∷ []) n))) =
     array_adds place [] (follows (closes w)) in
     record { on = λ m bytes e h. g.on m bytes e h }
 
 pub empty_object : {n b : ℕ} (place : ℕ) → b ≡ close_brace → Adds n (b ∷ []) (ObjectOpened place [] White) (Spells (object place end_of_object n))
 empty_object {n} {b} place w =
-    let g : Adds n (b ∷ []) (ObjectOpened place [] White) (ObjectOpened place [] (Then White (Closes close_brace n))) =
+    let g : Adds n (b ∷ []) (ObjectOpened place [] White) (ObjectOpened place [] (Then White (Closes (close_brace ∷ []) n))) =
     object_adds place [] (follows (closes w)) in
     record { on = λ m bytes e h. g.on m bytes e h }

@@ -1,6 +1,6 @@
 -- The path that a prefix of a text leads to, by the state of the machine.
-use Rattle.std.proofs.Common.{◌≡◌, ℕ, ◌+◌, ◌==◌, ◌≤◌, Bool, true, false, if◌then◌else◌, List, [], ◌∷◌, ◌++◌, length, Option, Some, None, unwrap_or, refl, sym}
-use Rattle.std.proofs.Common.{ap, ◌∙◌, arith}
+use Rattle.std.proofs.Common.{◌≡◌, ℕ, ◌+◌, ◌==◌, ◌&&◌, nat_lt, nat_le, ◌≤◌, Bool, true, false, if◌then◌else◌, List, [], ◌∷◌, ◌++◌, length, Option, Some, None}
+use Rattle.std.proofs.Common.{unwrap_or, refl, sym, ap, ◌∙◌, arith}
 use Rattle.std.proofs.lemmas.Bool.Decides.{nat_tests}
 use Rattle.std.specs.Option.{option_or}
 use Rattle.gj_json.specs.declared.constant.Constant.TheVariants.{Null, True, False}
@@ -14,7 +14,7 @@ use Rattle.gj_json.specs.Tree.{Text, Tree, constant, number, string, array, obje
 use Rattle.gj_json.specs.Grammar.{Spells, SpellsElements, SpellsMoreElements, SpellsMembers, SpellsMoreMembers}
 use Rattle.gj_json.specs.Names.{known_of}
 use Rattle.gj_json.specs.Events.{timed, events, elements_events, members_events, mark_events}
-use Rattle.gj_json.specs.Path.{to_value, to_container, has_open, by_step, path_in, elements_path, members_path, path_at}
+use Rattle.gj_json.specs.Path.{by_step, path_in, elements_path, members_path, path_at}
 use Rattle.gj_json.specs.Internal.PathTrail.{outer_steps, advanced, stack_steps, LeafTrail, TrailAt, begins, kept_steps}
 use Rattle.gj_json.specs.Internal.TextMachine.{run, Broken, text_due, mark_one, mark_two, begun, Frame, in_array, in_object, Member, Leaf, value_due}
 use Rattle.gj_json.specs.Internal.TextMachine.{value_done, array_opened, object_opened, constant_on, number_on, string_on, name_due, name_on, colon_due}
@@ -27,6 +27,15 @@ use Rattle.gj_json.proofs.Paths.PathSteps.{outward}
 use Rattle.gj_json.proofs.Grammar.NonemptyTokens.{Whole, WholeDone, WholeDoneMembers, WholeStack, whole_in, whole_text}
 use Rattle.gj_json.proofs.Machine.ReachedStates.{reached}
 use Rattle.gj_json.proofs.Machine.MachineTexts.{text_goes_on}
+
+abbrev to_value : ℕ → ℕ → Option (List PathStep)
+to_value n place = if place + 1 == n then Some [] else None
+
+abbrev to_container : Bool → Option (List PathStep) → Option (List PathStep)
+to_container is_open inside = if is_open then Some (unwrap_or inside []) else None
+
+abbrev has_open : ℕ → ℕ → ℕ → Bool
+has_open n place close = nat_lt place n && nat_le n close
 
 elsewhere : (n place : ℕ) → (place + 1 ≡ n → ⊥) → to_value n place ≡ None
 elsewhere n place d = let e : (place + 1 == n) ≡ false = grind (arith, nat_tests) in rw e refl
