@@ -10,7 +10,7 @@ use Rattle.gj_coords.specs.declared.simple.Simple.{Simple}
 use Rattle.gj_coords.specs.declared.simple.Simple.TheVariants.{Point, MultiPoint, LineString, MultiLineString, Polygon, MultiPolygon}
 use Rattle.gj_coords.specs.Items.{elements_of, place_of}
 use Rattle.gj_coords.specs.Ring.{exact_value}
-use Rattle.gj_coords.specs.Shape.{Shape, is_empty, position, ring}
+use Rattle.gj_coords.specs.Shape.{is_empty, position, ring}
 use Rattle.gj_coords.specs.Warnings.{Warning, warning_at}
 use Rattle.gj_coords.specs.declared.winding.Turn.{Turn}
 use Rattle.gj_coords.specs.declared.winding.Turn.TheVariants.{Left, Right}
@@ -22,10 +22,6 @@ Concern = Tree → List Warning
 
 abbrev pub warned_if : Bool → ℕ → Kind → List Warning
 warned_if wrong place kind = if wrong then warning_at place kind ∷ [] else []
-
--- whether a value breaks no rule of its shape
-abbrev pub is_sound : Shape → Tree → Bool
-is_sound shape value = is_empty (shape value)
 
 -- of each element
 abbrev pub each : Concern → Concern
@@ -47,14 +43,14 @@ sound_position_warnings value =
     ++ (warned_if (not (in_range value)) (place_of value) W5 ++ flat_map number_warnings (take 3 (elements_of value)))
 
 abbrev pub position_warnings : Concern
-position_warnings value = if is_sound position value then sound_position_warnings value else []
+position_warnings value = if is_empty (position value) then sound_position_warnings value else []
 
 -- ---- linear rings
 
 -- of a ring that is wrong where it runs so
 abbrev pub ring_warnings : Turn → Concern
 ring_warnings wrong value =
-    warned_if (is_sound ring value && same_turn (ring_turn (elements_of value)) wrong) (place_of value) W2 ++ each position_warnings value
+    warned_if (is_empty (ring value) && same_turn (ring_turn (elements_of value)) wrong) (place_of value) W2 ++ each position_warnings value
 
 -- the first ring is the exterior one, which must not run clockwise, and those after it are holes, which must not run the other way
 abbrev pub rings_warnings : List Tree → List Warning
@@ -74,11 +70,7 @@ concern_of MultiLineString = each (each position_warnings)
 concern_of Polygon = polygon_warnings
 concern_of MultiPolygon = each polygon_warnings
 
--- an empty array says nothing of where the geometry lies
-abbrev pub or_empty_warning : Concern → Concern
-or_empty_warning concern (array place end_of_array close) = warning_at place W6 ∷ []
-or_empty_warning concern value = concern value
-
--- all warnings of the value of `coordinates`, for a type
-abbrev pub coordinates_warnings : Simple → Tree → List Warning
-coordinates_warnings simple value = or_empty_warning (concern_of simple) value
+-- all warnings of the value of `coordinates`, for a type; an empty array says nothing of where the geometry lies
+abbrev pub coordinates_warnings : Simple → Concern
+coordinates_warnings simple (array place end_of_array close) = warning_at place W6 ∷ []
+coordinates_warnings simple value = concern_of simple value

@@ -71,11 +71,6 @@ ring value = misshapen value
 
 -- ---- the six types
 
--- An empty array is right for each type, whatever its shape asks for: it may be read as a null object (section 3.1).
-abbrev pub or_empty : Shape → Shape
-or_empty shape (array place end_of_array close) = []
-or_empty shape value = shape value
-
 abbrev pub shape_of : Simple → Shape
 shape_of Point = position
 shape_of MultiPoint = list position
@@ -84,6 +79,8 @@ shape_of MultiLineString = list line
 shape_of Polygon = list ring
 shape_of MultiPolygon = list (list ring)
 
--- all faults of the value of `coordinates`, for a type
-abbrev pub coordinates_faults : Simple → Tree → List Fault
-coordinates_faults simple value = or_empty (shape_of simple) value
+-- All faults of the value of `coordinates`, for a type. An empty array is right for each type, whatever its shape asks for: it
+-- may be read as a null object (section 3.1).
+abbrev pub coordinates_faults : Simple → Shape
+coordinates_faults simple (array place end_of_array close) = []
+coordinates_faults simple value = shape_of simple value

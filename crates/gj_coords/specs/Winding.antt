@@ -1,6 +1,6 @@
 -- The winding of a linear ring: an exterior ring runs counterclockwise and a hole clockwise (RFC 7946, section 3.1.6).
 use denote.Enum.Bare.{sameb}
-use Rattle.std.specs.Prelude.{zero, suc, ◌*◌, ◌^◌, List, [], ◌∷◌, Option, Some, None, Bool, ◌&&◌, if◌then◌else◌, filter_map, is_some, option_and_then, ℤ, pos}
+use Rattle.std.specs.Prelude.{zero, suc, ◌*◌, ◌^◌, List, ◌∷◌, Option, Some, None, Bool, ◌&&◌, if◌then◌else◌, filter_map, is_some, option_and_then, ℤ, pos}
 use Rattle.std.specs.Prelude.{negsuc, ◌+ℤ◌, ◌-ℤ◌, ◌*ℤ◌, neg_ℤ, int_le}
 use Rattle.std.specs.List.{list_all}
 use Rattle.gj_number.specs.Exact.{Exact, cut_places, cut_of}
@@ -61,16 +61,11 @@ in_range position = is_some (cut_position position)
 abbrev pub cross : Corner → Corner → ℤ
 cross a b = a.x *ℤ b.y -ℤ b.x *ℤ a.y
 
--- the sum along a way from this corner
-abbrev pub area_from : Corner → List Corner → ℤ
-area_from a [] = pos 0
-area_from a (b ∷ more) = cross a b +ℤ area_from b more
-
 -- Twice the area around which the corners run, above zero where they run counterclockwise: the sum over all neighbours.
 -- The last position of a linear ring is the first again, so no term joins the last to the first.
 abbrev pub area_of : List Corner → ℤ
-area_of [] = pos 0
-area_of (a ∷ more) = area_from a more
+area_of (a ∷ b ∷ more) = cross a b +ℤ area_of (b ∷ more)
+area_of _ = pos 0
 
 -- ---- the winding
 

@@ -1,6 +1,6 @@
 -- Whether the first events of a text show that it is no GeoJSON (RFC 7946), whatever comes after them: its value is no
 -- object, or the members that stand directly in its object break a rule by their names and by the first `type`.
-use Rattle.std.specs.Prelude.{ℕ, zero, suc, Bool, true, false, ◌&&◌, ◌||◌, IsTrue, List, [], ◌∷◌, ◌++◌, length, Option, Some, None}
+use Rattle.std.specs.Prelude.{ℕ, zero, suc, Bool, true, false, ◌&&◌, ◌||◌, IsTrue, List, [], ◌∷◌, ◌++◌, map, length, Option, Some, None}
 use Rattle.std.specs.List.{list_any}
 use Rattle.gj_json.specs.declared.event.Event.{Event}
 use Rattle.gj_json.specs.declared.event.What.{What}
@@ -21,9 +21,9 @@ at_level _ what more = more
 
 -- of the events that come where so many levels are open, those at one level: the names of the object's members, the
 -- first event of each value, and the object's end
-abbrev pub outermost : ℕ → List Event → List What
+abbrev pub outermost : ℕ → List What → List What
 outermost levels [] = []
-outermost levels (event ∷ more) = at_level levels event.what (outermost (levels_behind event.what levels) more)
+outermost levels (what ∷ more) = at_level levels what (outermost (levels_behind what levels) more)
 
 -- the names of the members
 abbrev pub names : List What → List Known
@@ -61,22 +61,18 @@ members_fail members = repeats [] (names members) || type_fails (first_type memb
 -- ---- the text
 
 -- from the first event of the text's value on: it is no object, or its members fail
-abbrev pub value_fails : What → List Event → Bool
-value_fails What.OpenObject more = members_fail (outermost 1 more)
-value_fails _ more = true
-
-abbrev pub unmarked_fails : List Event → Bool
-unmarked_fails [] = false
-unmarked_fails (event ∷ more) = value_fails event.what more
+abbrev pub value_fails : List What → Bool
+value_fails [] = false
+value_fails (What.OpenObject ∷ more) = members_fail (outermost 1 more)
+value_fails _ = true
 
 -- after a byte order mark, where there is one
-abbrev pub text_fails : What → List Event → Bool
-text_fails What.Mark more = unmarked_fails more
-text_fails what more = value_fails what more
+abbrev pub text_fails : List What → Bool
+text_fails (What.Mark ∷ more) = value_fails more
+text_fails all = value_fails all
 
 abbrev pub is_doomed : List Event → Bool
-is_doomed [] = false
-is_doomed (event ∷ more) = text_fails event.what more
+is_doomed events = text_fails (map (λ event. event.what) events)
 
 -- these bytes begin a text that nests no deeper, and the events complete in them show it
 abbrev pub BeginNoGeoJson : ℕ → List ℕ → Type 0

@@ -18,7 +18,7 @@ use Rattle.gj_coords.specs.Box.{bbox_faults}
 use Rattle.gj_rules.specs.declared.member_slots.TypeValue.{TypeValue}
 use Rattle.gj_rules.specs.declared.role.Role.{Role}
 use Rattle.gj_coords.specs.Items.{place_of}
-use Rattle.gj_rules.specs.Members.{one, same, first_type, forbidden_by, repeated}
+use Rattle.gj_rules.specs.Members.{one, same, simple_of, first_type, forbidden_by, repeated}
 use Rattle.gj_rules.specs.Role.{is_allowed}
 
 -- ---- values that hold no other value with a role
@@ -49,10 +49,6 @@ pub record First : Type 0 where
   pub value : Tree
   pub faults : List Fault
 
--- the first member of each name, where there is one
-abbrev pub FirstMembers : Type 0
-FirstMembers = Known → Option First
-
 -- a member that the type forbids (section 7.1)
 abbrev pub forbidden : Option First → List Fault
 forbidden None = []
@@ -69,32 +65,24 @@ optional None = []
 optional (Some first) = first.faults
 
 -- `coordinates`, which a simple type asks for
-abbrev pub due_coordinates : Simple → ℕ → Option First → List Fault
-due_coordinates simple place None = one place G4
-due_coordinates simple place (Some first) = coordinates_faults simple first.value
+abbrev pub due_coordinates : Option Simple → ℕ → Option First → List Fault
+due_coordinates None place found = []
+due_coordinates (Some simple) place None = one place G4
+due_coordinates (Some simple) place (Some first) = coordinates_faults simple first.value
 
--- what an object lacks as one of a type, and what is wrong with the members that the type uses (sections 3.1.2 to 3.3)
-abbrev pub as_type : Word → ℕ → FirstMembers → List Fault
-as_type Word.Point place m = due_coordinates Simple.Point place (m Coordinates)
-as_type Word.MultiPoint place m = due_coordinates Simple.MultiPoint place (m Coordinates)
-as_type Word.LineString place m = due_coordinates Simple.LineString place (m Coordinates)
-as_type Word.MultiLineString place m = due_coordinates Simple.MultiLineString place (m Coordinates)
-as_type Word.Polygon place m = due_coordinates Simple.Polygon place (m Coordinates)
-as_type Word.MultiPolygon place m = due_coordinates Simple.MultiPolygon place (m Coordinates)
+-- what an object lacks as one of a type, and what is wrong with the members that the type uses (sections 3.1.2 to 3.3); `m` has
+-- the first member of each name, where there is one
+abbrev pub as_type : Word → ℕ → (Known → Option First) → List Fault
 as_type Word.GeometryCollection place m = due place G5 (m Geometries)
 as_type Word.Feature place m = due place G6 (m Geometry) ++ (due place G7 (m Properties) ++ optional (m Id))
 as_type Word.FeatureCollection place m = due place G8 (m Features)
-as_type Word.Other place m = []
+as_type word place m = due_coordinates (simple_of word) place (m Coordinates)
 
 -- with a type missing or not allowed nothing else of the object is checked
-abbrev pub by_type : Option TypeValue → Role → ℕ → FirstMembers → List Fault
+abbrev pub by_type : Option TypeValue → Role → ℕ → (Known → Option First) → List Fault
 by_type None role place m = one place G2
 by_type (Some value) role place m =
     if is_allowed role value.word then flat_map (λ name. forbidden (m name)) (forbidden_by value.word) ++ as_type value.word place m else one value.place G3
-
--- a bounding box is checked in each object, also where its type is missing or wrong (section 5)
-abbrev pub object_faults : Role → ℕ → List Fault → Option TypeValue → FirstMembers → List Fault
-object_faults role place repeats type_value m = repeats ++ (optional (m Bbox) ++ by_type type_value role place m)
 
 -- ---- the recursion
 
@@ -112,7 +100,9 @@ selected _ value geometry geometries features = []
 abbrev mutual
   -- the faults of a value with a role
   pub faults : Role → Tree → List Fault
-  faults role (object place members close) = object_faults role place (repeated [] members) (first_type members) (λ name. first name members)
+  -- a bounding box is checked in each object, also where its type is missing or wrong (section 5)
+  faults role (object place members close) =
+      repeated [] members ++ (optional (first Bbox members) ++ by_type (first_type members) role place (λ name. first name members))
   faults role (constant which place) = constant_faults which role place
   faults role value = one (place_of value) G1
 

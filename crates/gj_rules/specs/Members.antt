@@ -1,7 +1,7 @@
 -- The members of an object that the rules look at: of each known name the first one, and those that repeat a name
 -- (RFC 7946, sections 3 to 3.3, 5 and 7.1).
 use denote.Enum.Bare.{sameb}
-use Rattle.std.specs.Prelude.{ℕ, Bool, true, false, if◌then◌else◌, List, [], ◌∷◌, ◌++◌, Option, Some, None}
+use Rattle.std.specs.Prelude.{ℕ, Bool, true, false, ◌&&◌, if◌then◌else◌, List, [], ◌∷◌, ◌++◌, Option, Some, None}
 use Rattle.gj_json.specs.declared.names.Known.{Known}
 use Rattle.gj_json.specs.declared.names.Known.TheVariants.{TypeName, Coordinates, Geometries, Geometry, Properties, Features, Crs, Other}
 use Rattle.gj_json.specs.contracts.names.Known.{the_type}
@@ -11,6 +11,7 @@ use Rattle.gj_json.specs.Tree.{Tree, string, Members, end_of_object, member}
 use Rattle.gj_coords.specs.declared.fault.Fault.{Fault}
 use Rattle.gj_coords.specs.declared.fault.Rule.{Rule}
 use Rattle.gj_coords.specs.declared.fault.Rule.TheVariants.{G10}
+use Rattle.gj_coords.specs.declared.simple.Simple.{Simple}
 use Rattle.gj_coords.specs.Fault.{fault_at}
 use Rattle.gj_coords.specs.Items.{place_of}
 use Rattle.gj_rules.specs.declared.member_slots.TypeValue.{TypeValue}
@@ -46,6 +47,18 @@ forbidden_by Word.FeatureCollection = Coordinates ∷ Geometries ∷ Geometry �
 forbidden_by Word.Other = []
 forbidden_by _ = Geometry ∷ Properties ∷ Features ∷ []
 
+-- ---- types
+
+-- as which of the six types an object of a type has its coordinates, where it has some
+abbrev pub simple_of : Word → Option Simple
+simple_of Word.Point = Some Simple.Point
+simple_of Word.MultiPoint = Some Simple.MultiPoint
+simple_of Word.LineString = Some Simple.LineString
+simple_of Word.MultiLineString = Some Simple.MultiLineString
+simple_of Word.Polygon = Some Simple.Polygon
+simple_of Word.MultiPolygon = Some Simple.MultiPolygon
+simple_of _ = None
+
 -- ---- members
 
 -- the value of the first member `type`
@@ -54,14 +67,9 @@ first_type end_of_object = None
 first_type (member place name end value more) =
     if same TypeName (known_of name) then Some (record { place = place_of value; word = type_of value }) else first_type more
 
--- a known name that was mentioned before
-abbrev pub again : Bool → Bool → ℕ → List Fault
-again true true place = one place G10
-again _ _ place = []
-
 -- G10 at the name of each member with a known name that is not the first of it, among members after others of the
 -- names `before`
 abbrev pub repeated : List Known → Members → List Fault
 repeated before end_of_object = []
 repeated before (member place name end value more) =
-    again (is_known (known_of name)) (mentions before (known_of name)) place ++ repeated (known_of name ∷ before) more
+    (if is_known (known_of name) && mentions before (known_of name) then one place G10 else []) ++ repeated (known_of name ∷ before) more

@@ -7,10 +7,9 @@ use Rattle.gj_rules.specs.declared.role.Role.{Role}
 -- a GeoJSON text may be of each of the nine types, a geometry of the seven geometry types, a feature of the type Feature
 abbrev pub is_allowed : Role → Word → Bool
 is_allowed role Word.Other = false
-is_allowed Role.Root Word.Feature = true
+is_allowed Role.Root word = true
 is_allowed Role.Feature Word.Feature = true
-is_allowed role Word.Feature = false
-is_allowed Role.Root Word.FeatureCollection = true
-is_allowed role Word.FeatureCollection = false
 is_allowed Role.Feature word = false
+is_allowed role Word.Feature = false
+is_allowed role Word.FeatureCollection = false
 is_allowed role word = true

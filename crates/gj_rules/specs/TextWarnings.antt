@@ -13,7 +13,7 @@ use Rattle.gj_coords.specs.CoordinateWarnings.{coordinates_warnings, warned_if}
 use Rattle.gj_coords.specs.BoxWarnings.{bbox_warnings}
 use Rattle.gj_rules.specs.declared.member_slots.TypeValue.{TypeValue}
 use Rattle.gj_rules.specs.declared.role.Role.{Role}
-use Rattle.gj_rules.specs.Members.{same, first_type}
+use Rattle.gj_rules.specs.Members.{same, simple_of, first_type}
 use Rattle.gj_rules.specs.Role.{is_allowed}
 
 -- each member `crs`, at its name (section 4)
@@ -27,27 +27,18 @@ first_value name end_of_object = None
 first_value name (member place found end value more) = if same name (known_of found) then Some value else first_value name more
 
 -- as a simple type, of the value of `coordinates` where it is there
-abbrev pub simple_warnings : Simple → Option Tree → List Warning
-simple_warnings simple None = []
-simple_warnings simple (Some value) = coordinates_warnings simple value
-
--- a GeometryCollection inside another (section 3.1.8)
-abbrev pub nested_warnings : Role → ℕ → List Warning
-nested_warnings Role.Part place = warning_at place W7 ∷ []
-nested_warnings role place = []
+abbrev pub simple_warnings : Option Simple → Option Tree → List Warning
+simple_warnings (Some simple) (Some value) = coordinates_warnings simple value
+simple_warnings _ _ = []
 
 -- what of an object depends on its type: those of its coordinates, of its geometries, of its geometry or of its features
 abbrev pub typed_warnings : Word → Role → ℕ → Option Tree → List Warning → List Warning → List Warning → List Warning
-typed_warnings Word.Point role place coordinates geometries geometry features = simple_warnings Simple.Point coordinates
-typed_warnings Word.MultiPoint role place coordinates geometries geometry features = simple_warnings Simple.MultiPoint coordinates
-typed_warnings Word.LineString role place coordinates geometries geometry features = simple_warnings Simple.LineString coordinates
-typed_warnings Word.MultiLineString role place coordinates geometries geometry features = simple_warnings Simple.MultiLineString coordinates
-typed_warnings Word.Polygon role place coordinates geometries geometry features = simple_warnings Simple.Polygon coordinates
-typed_warnings Word.MultiPolygon role place coordinates geometries geometry features = simple_warnings Simple.MultiPolygon coordinates
-typed_warnings Word.GeometryCollection role place coordinates geometries geometry features = nested_warnings role place ++ geometries
+-- a GeometryCollection inside another (section 3.1.8)
+typed_warnings Word.GeometryCollection Role.Part place coordinates geometries geometry features = warning_at place W7 ∷ geometries
+typed_warnings Word.GeometryCollection role place coordinates geometries geometry features = geometries
 typed_warnings Word.Feature role place coordinates geometries geometry features = geometry
 typed_warnings Word.FeatureCollection role place coordinates geometries geometry features = features
-typed_warnings Word.Other role place coordinates geometries geometry features = []
+typed_warnings word role place coordinates geometries geometry features = simple_warnings (simple_of word) coordinates
 
 abbrev pub by_type_warnings : Option TypeValue → Role → ℕ → Option Tree → List Warning → List Warning → List Warning → List Warning
 by_type_warnings None role place coordinates geometries geometry features = []

@@ -19,18 +19,12 @@ pub data Judgement : Type 0 where
   broken : (fault : Fault) → Judgement
   refused : (fault : JsonFault) → Judgement
 
--- an admitted text without a fault, and this holds of all its warnings
-abbrev pub IsValidWith : Allowed → List ℕ → (List Warning → Type 0) → Type 0
-IsValidWith limits bytes Holds = (text : Text) × IsAdmitted limits text bytes × (text_faults text ≡ []) × Holds (text_warnings text)
-
--- an admitted text, of whose faults this is the least by place and then by rule
-abbrev pub IsBrokenBy : Allowed → List ℕ → Fault → Type 0
-IsBrokenBy limits bytes fault = (text : Text) × IsAdmitted limits text bytes × (least (text_faults text) ≡ Some fault)
-
--- what the input is; a refusal comes before every rule
 abbrev pub IsJudgement : Allowed → List ℕ → Judgement → Type 0
-IsJudgement limits bytes (valid warnings) = IsValidWith limits bytes (λ all. warnings ≡ all)
-IsJudgement limits bytes (broken fault) = IsBrokenBy limits bytes fault
+-- an admitted text without a fault, with all its warnings
+IsJudgement limits bytes (valid warnings) = (text : Text) × IsAdmitted limits text bytes × (text_faults text ≡ []) × (warnings ≡ text_warnings text)
+-- an admitted text, of whose faults this is the least by place and then by rule
+IsJudgement limits bytes (broken fault) = (text : Text) × IsAdmitted limits text bytes × (least (text_faults text) ≡ Some fault)
+-- a refusal comes before every rule
 IsJudgement limits bytes (refused fault) = IsRefusal limits bytes fault
 
 -- a verdict says the same, and of the warnings what a `Warnings` says
@@ -40,12 +34,16 @@ Says (Broken told) (broken fault) = told ≡ fault
 Says (NotJson told) (refused fault) = told ≡ fault
 Says _ _ = ⊥
 
+-- an admitted text without a fault, and this holds of all its warnings
+abbrev pub IsValidWith : Allowed → List ℕ → (List Warning → Type 0) → Type 0
+IsValidWith limits bytes Holds = (text : Text) × IsAdmitted limits text bytes × (text_faults text ≡ []) × Holds (text_warnings text)
+
 -- the verdict that says what the input is
 abbrev pub IsVerdict : Allowed → List ℕ → Verdict → Type 0
 IsVerdict limits bytes (Valid told) = IsValidWith limits bytes (WarningsStandFor told)
-IsVerdict limits bytes (Broken fault) = IsBrokenBy limits bytes fault
-IsVerdict limits bytes (NotJson fault) = IsRefusal limits bytes fault
+IsVerdict limits bytes (Broken fault) = IsJudgement limits bytes (broken fault)
+IsVerdict limits bytes (NotJson fault) = IsJudgement limits bytes (refused fault)
 
 -- no input that begins with these bytes is valid, whatever its warnings
 abbrev pub NeverValid : Allowed → List ℕ → Type 0
-NeverValid limits bytes = (more : List ℕ) → IsValidWith limits (bytes ++ more) (λ warnings. Unit {0}) → ⊥
+NeverValid limits bytes = (more : List ℕ) (warnings : List Warning) → IsJudgement limits (bytes ++ more) (valid warnings) → ⊥

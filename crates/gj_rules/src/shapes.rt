@@ -6,7 +6,8 @@ ghost use Rattle.gj_coords.specs.Internal.CoordinatesKept.{coordinates_kept};
 ghost use Rattle.gj_coords.specs.Internal.GatheredWarnings.{all_in};
 ghost use Rattle.gj_rules.specs.Levels.{most_levels};
 ghost use Rattle.gj_rules.specs.Internal.FrameReading.{shapes_by};
-ghost use Rattle.gj_rules.specs.Internal.Summaries.{StandsForCoordinates, simple_of};
+ghost use Rattle.gj_rules.specs.Internal.Summaries.{StandsForCoordinates};
+ghost use Rattle.gj_rules.specs.Members.{simple_of};
 
 use gj_coords::{Coordinates, Fault, Simple, SimpleFaults, Warned};
 use gj_json::Word;

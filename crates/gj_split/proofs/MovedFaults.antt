@@ -1,5 +1,5 @@
 -- A value has as many faults wherever it stands, and a feature without a fault has none as a text.
-use Rattle.std.proofs.Common.{◌≡◌, ℕ, Bool, true, false, if◌then◌else◌, List, [], ◌∷◌, ◌++◌, length, Option, Some, None, refl, ap, ◌∙◌}
+use Rattle.std.proofs.Common.{◌≡◌, ℕ, Bool, true, false, ◌&&◌, if◌then◌else◌, List, [], ◌∷◌, ◌++◌, length, Option, Some, None, refl, ap, ◌∙◌}
 use Rattle.std.specs.List.{flat_map}
 use Rattle.gj_json.specs.declared.constant.Constant.{Constant}
 use Rattle.gj_json.specs.declared.constant.Constant.TheVariants.{Null, True, False}
@@ -11,14 +11,14 @@ use Rattle.gj_json.specs.Tree as Tree
 use Rattle.gj_json.specs.Tree.{Tree, constant, number, string, array, object, end_of_array, element, Members, end_of_object, member, place_of}
 use Rattle.gj_coords.specs.declared.fault.Fault.{Fault}
 use Rattle.gj_coords.specs.declared.fault.Rule.{Rule}
-use Rattle.gj_coords.specs.declared.fault.Rule.TheVariants.{G3, G5, G6, G7, G8}
+use Rattle.gj_coords.specs.declared.fault.Rule.TheVariants.{G3, G5, G6, G7, G8, G10}
 use Rattle.gj_coords.specs.declared.simple.Simple.{Simple}
 use Rattle.gj_coords.specs.Shape.{coordinates_faults}
 use Rattle.gj_rules.specs.declared.member_slots.TypeValue.{TypeValue}
 use Rattle.gj_rules.specs.declared.role.Role.{Role}
-use Rattle.gj_rules.specs.Members.{one, same, type_of, first_type, is_known, mentions, forbidden_by, again, repeated}
-use Rattle.gj_rules.specs.Faults.{properties_faults, id_faults, constant_faults, First, FirstMembers, forbidden, due, optional, due_coordinates, as_type}
-use Rattle.gj_rules.specs.Faults.{by_type, object_faults, selected, faults, listed, all_faults, first}
+use Rattle.gj_rules.specs.Members.{one, same, type_of, first_type, is_known, mentions, forbidden_by, repeated}
+use Rattle.gj_rules.specs.Faults.{properties_faults, id_faults, constant_faults, First, forbidden, due, optional, due_coordinates, as_type}
+use Rattle.gj_rules.specs.Faults.{by_type, selected, faults, listed, all_faults, first}
 use Rattle.gj_rules.specs.Role.{is_allowed}
 use Rattle.gj_split.proofs.MovedTrees.{moved, moved_elements, moved_members}
 use Rattle.gj_split.proofs.MovedShapes.{SameCount, both_count, coordinates_count, bbox_count}
@@ -81,19 +81,19 @@ optional_count f None (Some b) h = absurd h
 optional_count f (Some a) None h = absurd h
 
 coordinates_due_count : (f : ℕ → ℕ) (simple : Simple) (p q : ℕ) (a b : Option First) → Alike f a b
-    → SameCount (due_coordinates simple p a) (due_coordinates simple q b)
+    → SameCount (due_coordinates (Some simple) p a) (due_coordinates (Some simple) q b)
 coordinates_due_count f simple p q None None h = refl
 coordinates_due_count f simple p q (Some a) (Some b) h = ap (λ v. length (coordinates_faults simple v)) h.0 ∙ coordinates_count f simple b.value
 coordinates_due_count f simple p q None (Some b) h = absurd h
 coordinates_due_count f simple p q (Some a) None h = absurd h
 
-each_forbidden : (f : ℕ → ℕ) (m o : FirstMembers) → ((name : Known) → Alike f (m name) (o name)) → (names : List Known) →
+each_forbidden : (f : ℕ → ℕ) (m o : Known → Option First) → ((name : Known) → Alike f (m name) (o name)) → (names : List Known) →
     SameCount (flat_map (λ name. forbidden (m name)) names) (flat_map (λ name. forbidden (o name)) names)
 each_forbidden f m o h [] = refl
 each_forbidden f m o h (name ∷ names) =
     both_count (forbidden (m name)) _ (forbidden (o name)) _ (forbidden_count f (m name) (o name) (h name)) (each_forbidden f m o h names)
 
-type_count : (f : ℕ → ℕ) (word : Word) (p q : ℕ) (m o : FirstMembers) → ((name : Known) → Alike f (m name) (o name))
+type_count : (f : ℕ → ℕ) (word : Word) (p q : ℕ) (m o : Known → Option First) → ((name : Known) → Alike f (m name) (o name))
     → SameCount (as_type word p m) (as_type word q o)
 type_count f Word.Point p q m o h = coordinates_due_count f Simple.Point p q (m Coordinates) (o Coordinates) (h Coordinates)
 type_count f Word.MultiPoint p q m o h = coordinates_due_count f Simple.MultiPoint p q (m Coordinates) (o Coordinates) (h Coordinates)
@@ -140,6 +140,10 @@ first_moved_type f (member place name end v more) =
     by_test true xs ys e = rw (moved_place f v, same_type f v) refl
     by_test false xs ys e = e
 
+-- a known name that was mentioned before
+abbrev again : Bool → Bool → ℕ → List Fault
+again known before place = if known && before then one place G10 else []
+
 again_count : (a b : Bool) (p q : ℕ) → SameCount (again a b p) (again a b q)
 again_count true true p q = refl
 again_count true false p q = refl
@@ -152,7 +156,7 @@ repeated_count f before (member place name end v more) =
     (again (is_known (known_of name)) (mentions before (known_of name)) place) _
     (again_count (is_known (known_of name)) (mentions before (known_of name)) (f place) place) (repeated_count f (known_of name ∷ before) more)
 
-by_type_count : (f : ℕ → ℕ) (t : Option TypeValue) (role : Role) (p q : ℕ) (m o : FirstMembers) → ((name : Known) → Alike f (m name) (o name)) →
+by_type_count : (f : ℕ → ℕ) (t : Option TypeValue) (role : Role) (p q : ℕ) (m o : Known → Option First) → ((name : Known) → Alike f (m name) (o name)) →
     SameCount (by_type (moved_type f t) role p m) (by_type t role q o)
 by_type_count f None role p q m o h = refl
 by_type_count f (Some value) role p q m o h =
@@ -164,9 +168,9 @@ by_type_count f (Some value) role p q m o h =
     if_count true xs ys place other e = e
     if_count false xs ys place other e = refl
 
-object_count : (f : ℕ → ℕ) (role : Role) (p q : ℕ) (ms : Members) (m o : FirstMembers) → ((name : Known) → Alike f (m name) (o name)) →
-    SameCount (object_faults role p (repeated [] (moved_members f ms)) (first_type (moved_members f ms)) m)
-    (object_faults role q (repeated [] ms) (first_type ms) o)
+object_count : (f : ℕ → ℕ) (role : Role) (p q : ℕ) (ms : Members) (m o : Known → Option First) → ((name : Known) → Alike f (m name) (o name)) →
+    SameCount (repeated [] (moved_members f ms) ++ (optional (m Bbox) ++ by_type (first_type (moved_members f ms)) role p m))
+    (repeated [] ms ++ (optional (o Bbox) ++ by_type (first_type ms) role q o))
 object_count f role p q ms m o h =
     both_count (repeated [] (moved_members f ms)) _ (repeated [] ms) _ (repeated_count f [] ms)
     (both_count (optional (m Bbox)) _ (optional (o Bbox)) _ (optional_count f (m Bbox) (o Bbox) (h Bbox))
@@ -234,12 +238,13 @@ allowed_text Word.GeometryCollection xs place e = cc
 allowed_text Word.FeatureCollection xs place e = cc
 allowed_text Word.Other xs place e = e
 
-typed_text : (t : Option TypeValue) (place : ℕ) (m : FirstMembers) → by_type t Role.Feature place m ≡ [] → by_type t Role.Root place m ≡ []
+typed_text : (t : Option TypeValue) (place : ℕ) (m : Known → Option First) → by_type t Role.Feature place m ≡ [] → by_type t Role.Root place m ≡ []
 typed_text None place m e = e
 typed_text (Some value) place m e = allowed_text value.word _ value.place e
 
-object_text : (place : ℕ) (repeats : List Fault) (t : Option TypeValue) (m : FirstMembers) → object_faults Role.Feature place repeats t m ≡ []
-    → object_faults Role.Root place repeats t m ≡ []
+object_text : (place : ℕ) (repeats : List Fault) (t : Option TypeValue) (m : Known → Option First)
+    → repeats ++ (optional (m Bbox) ++ by_type t Role.Feature place m) ≡ []
+    → repeats ++ (optional (m Bbox) ++ by_type t Role.Root place m) ≡ []
 object_text place repeats t m e =
     let p = no_parts repeats (optional (m Bbox) ++ by_type t Role.Feature place m) e in
     let q = no_parts (optional (m Bbox)) (by_type t Role.Feature place m) p.1 in

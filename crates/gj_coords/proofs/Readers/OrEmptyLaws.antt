@@ -3,9 +3,10 @@ use Rattle.std.proofs.Common.{◌≡◌, ℕ, List, [], ◌∷◌, false, refl, 
 use Rattle.gj_json.specs.Tree.{Tree, constant, number, string, array, object, Elements, end_of_array, element}
 use Rattle.gj_coords.specs.declared.kind.Kind.TheVariants.{W6}
 use Rattle.gj_coords.specs.Fault.{least}
+use Rattle.gj_coords.specs.Warnings.{warning_at}
 use Rattle.gj_coords.specs.Items.{items}
-use Rattle.gj_coords.specs.Shape.{Shape, or_empty}
-use Rattle.gj_coords.specs.CoordinateWarnings.{Concern, or_empty_warning}
+use Rattle.gj_coords.specs.Shape.{Shape}
+use Rattle.gj_coords.specs.CoordinateWarnings.{Concern}
 use Rattle.gj_coords.specs.Internal.Gathering.{Gathering, gathered, given}
 use Rattle.gj_coords.specs.Internal.KeptWarnings.{warnings_of, no_warnings}
 use Rattle.gj_coords.specs.Internal.GatheredWarnings.{no_warned, all_in}
@@ -13,6 +14,15 @@ use Rattle.gj_coords.specs.Internal.Findings.{Judgement, empty_found, found_in}
 use Rattle.gj_coords.specs.Internal.OrEmptyGather.{or_empty_gathering}
 use Rattle.gj_coords.specs.Internal.WarningLaws.{joined_none_first, added_is}
 use Rattle.gj_coords.proofs.Readers.WarningsOfElements.{IsShort}
+
+-- as `coordinates_faults` and `coordinates_warnings` have it, of any shape and concern
+abbrev or_empty : Shape → Shape
+or_empty shape (array place end_of_array close) = []
+or_empty shape value = shape value
+
+abbrev or_empty_warning : Concern → Concern
+or_empty_warning concern (array place end_of_array close) = warning_at place W6 ∷ []
+or_empty_warning concern value = concern value
 
 module _ {G A B : Type 0} (r : Gathering G A B) (j : Judgement B) (meaning : Tree → A) where
   some_gathered : (place : ℕ) (vs : List Tree) (g : G) →

@@ -11,10 +11,10 @@ use Rattle.gj_coords.specs.declared.simple.Simple.{Simple}
 use Rattle.gj_coords.specs.declared.simple.Simple.TheVariants.{Point, MultiPoint, LineString, MultiLineString, Polygon, MultiPolygon}
 use Rattle.gj_coords.specs.declared.warned.Warned.{Warned}
 use Rattle.gj_coords.specs.Items.{items, elements_of, place_of}
-use Rattle.gj_coords.specs.Shape.{ring}
+use Rattle.gj_coords.specs.Shape.{is_empty, ring}
 use Rattle.gj_coords.specs.Winding.{ring_turn}
 use Rattle.gj_coords.specs.Internal.WindingGather.{turn_in}
-use Rattle.gj_coords.specs.CoordinateWarnings.{Concern, is_sound, each, position_warnings, polygon_warnings, coordinates_warnings}
+use Rattle.gj_coords.specs.CoordinateWarnings.{Concern, each, position_warnings, polygon_warnings, coordinates_warnings}
 use Rattle.gj_coords.specs.Internal.SentEvents.{head}
 use Rattle.gj_coords.specs.Internal.Gathering.{Gathering, given}
 use Rattle.gj_coords.specs.Internal.KeptWarnings.{warnings_of, no_warnings, joined}
@@ -77,7 +77,7 @@ ring_place (string place content end) = refl
 ring_place (object place ms close) = refl
 ring_place (array place es close) = gathered_place ring_gathering position_answer (λ g. g.tally) (λ g a. refl) (items es) (ring_gathering.opened place)
 
-ring_turned : (v : Tree) → IsShort v → is_sound ring v ≡ true → turn_in (ring_answer v).positions.winding ≡ ring_turn (elements_of v)
+ring_turned : (v : Tree) → IsShort v → is_empty (ring v) ≡ true → turn_in (ring_answer v).positions.winding ≡ ring_turn (elements_of v)
 ring_turned (constant which place) short sound = cc
 ring_turned (number place literal end) short sound = cc
 ring_turned (string place content end) short sound = cc

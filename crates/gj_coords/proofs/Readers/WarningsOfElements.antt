@@ -17,7 +17,7 @@ use Rattle.gj_coords.specs.Items.{items, elements_of, place_of}
 use Rattle.gj_coords.specs.Shape.{few, is_empty, position, ring, unclosed}
 use Rattle.gj_coords.specs.Winding.{ring_turn}
 use Rattle.gj_coords.specs.Warnings.{Warning}
-use Rattle.gj_coords.specs.CoordinateWarnings.{Concern, warned_if, is_sound, each, position_warnings, rings_warnings}
+use Rattle.gj_coords.specs.CoordinateWarnings.{Concern, warned_if, each, position_warnings, rings_warnings}
 use Rattle.gj_coords.specs.Internal.SentEvents.{sent}
 use Rattle.gj_coords.specs.Internal.Gathering.{Gathering, gathered}
 use Rattle.gj_coords.specs.Internal.ElementCount.{one_counted}
@@ -71,7 +71,7 @@ sound_positions place vs h =
     ap is_empty (empty_front (flat_map position vs) (unclosed place vs) behind).0
 
 abbrev pub ring_warnings : RingRole → Concern
-ring_warnings role v = warned_if (is_sound ring v && runs_wrong role (ring_turn (elements_of v))) (place_of v) W2 ++ each position_warnings v
+ring_warnings role v = warned_if (is_empty (ring v) && runs_wrong role (ring_turn (elements_of v))) (place_of v) W2 ++ each position_warnings v
 
 same_test : (faults : List Fault) (fault : Option Fault) (role : RingRole) (turn other : Turn) → fault ≡ least faults →
     (is_empty faults ≡ true → turn ≡ other) → (is_none fault && runs_wrong role turn) ≡ (is_empty faults && runs_wrong role other)
@@ -81,12 +81,12 @@ same_test (x ∷ xs) fault role turn other e h =
 
 -- what a value adds as a linear ring
 pub ring_warned : (role : RingRole) (w : Warned) (place : ℕ) (fault : Option Fault) (turn : Turn) (positions : Warned) (v : Tree) →
-    place ≡ place_of v → fault ≡ least (ring v) → (is_sound ring v ≡ true → turn ≡ ring_turn (elements_of v)) →
+    place ≡ place_of v → fault ≡ least (ring v) → (is_empty (ring v) ≡ true → turn ≡ ring_turn (elements_of v)) →
     all_in positions ≡ warnings_of (each position_warnings v) →
     all_in (ring_noted role w place fault turn positions) ≡ joined (all_in w) (warnings_of (ring_warnings role v))
 ring_warned role w place fault turn positions v e f h k =
     let wrong : Bool = is_none fault && runs_wrong role turn in
-    let right : Bool = is_sound ring v && runs_wrong role (ring_turn (elements_of v)) in
+    let right : Bool = is_empty (ring v) && runs_wrong role (ring_turn (elements_of v)) in
     let ws : List Warning = warned_if right (place_of v) W2 in
     joined_step (all_in w) (warnings_of ws) ws (each position_warnings v) _
     (taken_is (noted_when wrong w W2 place) positions ∙

@@ -11,10 +11,10 @@ use Rattle.gj_coords.specs.declared.walk.level.Level.{Level}
 use Rattle.gj_coords.specs.declared.simple.Simple.{Simple}
 use Rattle.gj_coords.specs.declared.simple.Simple.TheVariants.{Point, MultiPoint, LineString, MultiLineString, Polygon, MultiPolygon}
 use Rattle.gj_coords.specs.Items.{items, elements_of, place_of}
-use Rattle.gj_coords.specs.Shape.{position, ring}
+use Rattle.gj_coords.specs.Shape.{is_empty, position, ring}
 use Rattle.gj_coords.specs.Winding.{ring_turn}
 use Rattle.gj_coords.specs.Internal.WindingGather.{turn_in}
-use Rattle.gj_coords.specs.CoordinateWarnings.{is_sound, each, sound_position_warnings, position_warnings, rings_warnings, polygon_warnings, concern_of}
+use Rattle.gj_coords.specs.CoordinateWarnings.{each, sound_position_warnings, position_warnings, rings_warnings, polygon_warnings, concern_of}
 use Rattle.gj_coords.specs.CoordinateWarnings.{coordinates_warnings}
 use Rattle.gj_coords.specs.Internal.SentEvents.{head}
 use Rattle.gj_coords.specs.Internal.Gathering.{gathered}
@@ -55,7 +55,7 @@ third_warned (array place es close) short =
     (items es) (third_gathering.opened place) tt (elements_short place es close short))
     refl
 
-third_turn : (v : Tree) → IsShort v → is_sound ring v ≡ true → (third_answer v).turn ≡ ring_turn (elements_of v)
+third_turn : (v : Tree) → IsShort v → is_empty (ring v) ≡ true → (third_answer v).turn ≡ ring_turn (elements_of v)
 third_turn (constant which place) short sound = cc
 third_turn (number place literal end) short sound = cc
 third_turn (string place content end) short sound = cc
@@ -87,7 +87,7 @@ second_warned (array place es close) short =
     (items es) (second_gathering.opened place) tt (elements_short place es close short))
     refl
 
-second_turn : (v : Tree) → IsShort v → is_sound ring v ≡ true → (second_answer v).turn ≡ ring_turn (elements_of v)
+second_turn : (v : Tree) → IsShort v → is_empty (ring v) ≡ true → (second_answer v).turn ≡ ring_turn (elements_of v)
 second_turn (constant which place) short sound = cc
 second_turn (number place literal end) short sound = cc
 second_turn (string place content end) short sound = cc
@@ -175,7 +175,7 @@ array_warned MultiPolygon place es close short =
     refl
 
 -- what is no array has none
-none_for : (simple : Simple) (v : Tree) → is_sound position v ≡ false → elements_of v ≡ [] → concern_of simple v ≡ []
+none_for : (simple : Simple) (v : Tree) → is_empty (position v) ≡ false → elements_of v ≡ [] → concern_of simple v ≡ []
 none_for Point v broken none = ap (λ b. if b then sound_position_warnings v else []) broken
 none_for MultiPoint v broken none = ap (flat_map position_warnings) none
 none_for LineString v broken none = ap (flat_map position_warnings) none
@@ -183,7 +183,7 @@ none_for MultiLineString v broken none = ap (flat_map (each position_warnings)) 
 none_for Polygon v broken none = ap rings_warnings none
 none_for MultiPolygon v broken none = ap (flat_map polygon_warnings) none
 
-other_warned : (simple : Simple) (v : Tree) → is_sound position v ≡ false → elements_of v ≡ [] → no_warnings ≡ warnings_of (concern_of simple v)
+other_warned : (simple : Simple) (v : Tree) → is_empty (position v) ≡ false → elements_of v ≡ [] → no_warnings ≡ warnings_of (concern_of simple v)
 other_warned simple v broken none = none_of ∙ sym (ap warnings_of (none_for simple v broken none))
 
 pub first_warned : (simple : Simple) (v : Tree) → IsShort v → all_in (warned_as simple (first_answer v)) ≡ warnings_of (coordinates_warnings simple v)

@@ -17,7 +17,7 @@ use Rattle.gj_coords.specs.Items.{elements_of}
 use Rattle.gj_coords.specs.Ring.{exact_value}
 use Rattle.gj_coords.specs.Internal.PositionLaws.{position_values, values_from}
 use Rattle.gj_coords.specs.Winding.{most_longitude, most_latitude, bounded_cut, cut_value, both, corner_of, first_corner, cut_position, in_range, cross}
-use Rattle.gj_coords.specs.Winding.{area_from, area_of, sign_of, ring_turn}
+use Rattle.gj_coords.specs.Winding.{area_of, sign_of, ring_turn}
 use Rattle.gj_coords.specs.Internal.AllCorners.{with_corner, all_corners, turn_of}
 use Rattle.gj_coords.specs.Internal.WindingGather.{no_winding, term_of, corner_added, winding_added, all_added, turn_in, last_from, last_corner, IsSmall, Runs}
 use Rattle.gj_coords.specs.Internal.WindingGather.{HasRun, StandsFor}
@@ -29,6 +29,10 @@ swapped a b = omega (arith, ints)
 
 regrouped : (a b c : ℤ) → a +ℤ (b +ℤ c) ≡ a +ℤ b +ℤ c
 regrouped a b c = omega (arith, ints)
+
+-- along a way from this corner
+abbrev area_from : Corner → List Corner → ℤ
+area_from a more = area_of (a ∷ more)
 
 area_from-append : (a : Corner) (corners : List Corner) (c : Corner)
     → area_from a (corners ++ c ∷ []) ≡ area_from a corners +ℤ cross (last_from a corners) c

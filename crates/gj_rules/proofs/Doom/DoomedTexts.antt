@@ -27,7 +27,7 @@ use Rattle.gj_rules.specs.declared.mode.Mode.TheVariants.{Names, Done}
 use Rattle.gj_rules.specs.declared.rules.FramedRules.{FramedRules}
 use Rattle.gj_rules.specs.declared.member_slots.Slot.{Slot}
 use Rattle.gj_rules.specs.declared.member_slots.TypeValue.{TypeValue}
-use Rattle.gj_rules.specs.Doomed.{names, first_type, repeats, type_fails, members_fail, unmarked_fails, is_doomed}
+use Rattle.gj_rules.specs.Doomed.{names, first_type, repeats, type_fails, members_fail, value_fails, is_doomed}
 use Rattle.gj_rules.specs.Faults.{faults, text_faults}
 use Rattle.gj_rules.specs.Internal.FrameCalls as F
 use Rattle.gj_rules.specs.Internal.RulesState.{core_of}
@@ -46,7 +46,7 @@ use Rattle.gj_rules.proofs.Texts.FramesInUse.{front_text}
 use Rattle.gj_rules.proofs.Objects.GrowingFaults.{Keeps, lesser_first, lesser_second, not_due, members_keep}
 use Rattle.gj_rules.proofs.Texts.ValuesByEvents.{st, due_root, had_found, frame_role}
 use Rattle.gj_rules.proofs.Doom.InsideValues.{root}
-use Rattle.gj_rules.proofs.Doom.OutermostMembers.{own}
+use Rattle.gj_rules.proofs.Doom.OutermostMembers.{own, whats}
 use Rattle.gj_rules.proofs.Objects.SettledObjects.{none_set}
 use Rattle.gj_rules.proofs.Doom.RootObject.{Shows, Here, Cut, End, word_in, last_of, members_run, members_cut}
 use Rattle.gj_rules.proofs.Objects.JoinedFindings.{members_shown}
@@ -308,7 +308,7 @@ value_answers (object place ms close) had (x ∷ d) rest e =
     subst (λ (z : Told). Answers (object place ms close) (map event_of (z ∷ d)) (run (z ∷ d) (due_root had))) f (object_answers place close ms had d rest g)
 
 -- no value begins with a mark
-unmarked : (v : Tree) (done rest : List Told) → told v ≡ done ++ rest → unmarked_fails (map event_of done) ≡ true → is_doomed (map event_of done) ≡ true
+unmarked : (v : Tree) (done rest : List Told) → told v ≡ done ++ rest → value_fails (whats done) ≡ true → is_doomed (map event_of done) ≡ true
 unmarked v [] rest e h = h
 unmarked (constant Null place) (x ∷ d) rest e h = let f : plain (place + 4) place W.Null ≡ x =
     cc in subst (λ (z : Told). is_doomed (map event_of (z ∷ d)) ≡ true) f refl
@@ -324,8 +324,8 @@ unmarked (array place es close) (x ∷ d) rest e h = let f : plain (place + 1) p
     cc in subst (λ (z : Told). is_doomed (map event_of (z ∷ d)) ≡ true) f refl
 unmarked (object place ms close) (x ∷ d) rest e h =
     let f : plain (place + 1) place W.OpenObject ≡ x = cc in
-    let k : unmarked_fails (map event_of (plain (place + 1) place W.OpenObject ∷ d)) ≡ true =
-    subst (λ (z : Told). unmarked_fails (map event_of (z ∷ d)) ≡ true) (sym f) h in
+    let k : value_fails (whats (plain (place + 1) place W.OpenObject ∷ d)) ≡ true =
+    subst (λ (z : Told). value_fails (whats (z ∷ d)) ≡ true) (sym f) h in
     subst (λ (z : Told). is_doomed (map event_of (z ∷ d)) ≡ true) f k
 
 marked_answers : (marked : Bool) (v : Tree) (done rest : List Told) → mark_told marked ++ told v ≡ done ++ rest → Answers v (map event_of done) (run done start)

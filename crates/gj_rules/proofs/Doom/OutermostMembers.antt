@@ -20,8 +20,11 @@ use Rattle.gj_rules.specs.Members.{same, type_of}
 use Rattle.gj_rules.specs.Internal.LabelledEvents.{Told, plain, event_of, told, elements_told, members_told}
 use Rattle.gj_rules.proofs.Texts.ValuesByEvents.{up, down}
 
+abbrev pub whats : List Told → List What
+whats xs = map (λ (event : Event). event.what) (map event_of xs)
+
 abbrev pub own : ℕ → List Told → List What
-own n xs = outermost n (map event_of xs)
+own n xs = outermost n (whats xs)
 
 mutual
   deep_value : (v : Tree) (k : ℕ) (rest : List Told) → own (suc (suc k)) (told v ++ rest) ≡ own (suc (suc k)) rest
@@ -84,11 +87,16 @@ level_append zero w xs ys = refl
 level_append (suc zero) w xs ys = refl
 level_append (suc (suc k)) w xs ys = refl
 
-own_append : (n : ℕ) (xs ys : List Event) → (m : ℕ) × (outermost n (xs ++ ys) ≡ outermost n xs ++ outermost m ys)
+own_append : (n : ℕ) (xs ys : List What) → (m : ℕ) × (outermost n (xs ++ ys) ≡ outermost n xs ++ outermost m ys)
 own_append n [] ys = (n, refl)
 own_append n (x ∷ xs) ys =
-    let k = own_append (levels_behind x.what n) xs ys in
-    (k.0, ap (λ (ws : List What). at_level n x.what ws) k.1 ∙ level_append n x.what (outermost (levels_behind x.what n) xs) (outermost k.0 ys))
+    let k = own_append (levels_behind x n) xs ys in
+    (k.0, ap (λ (ws : List What). at_level n x ws) k.1 ∙ level_append n x (outermost (levels_behind x n) xs) (outermost k.0 ys))
+
+whats_append : (xs ys : List Told) → whats (xs ++ ys) ≡ whats xs ++ whats ys
+whats_append xs ys =
+    ap (λ (events : List Event). map (λ (event : Event). event.what) events) (map-append event_of xs ys)
+    ∙ map-append (λ (event : Event). event.what) (map event_of xs) (map event_of ys)
 
 no_front : (xs ys : List What) → xs ++ ys ≡ [] → xs ≡ []
 no_front [] ys e = refl
@@ -97,16 +105,16 @@ no_front (x ∷ xs) ys e = cc
 -- of a part of a value that is not empty, the first event alone stands directly in the object
 pub own_part : (v : Tree) (x : Told) (done : List Told) (rest : List Told) → told v ≡ (x ∷ done) ++ rest → own 1 (x ∷ done) ≡ first_what v ∷ []
 own_part v x done rest e =
-    let k = own_append 1 (map event_of (x ∷ done)) (map event_of rest) in
-    let whole : first_what v ∷ [] ≡ own 1 (x ∷ done) ++ outermost k.0 (map event_of rest) =
+    let k = own_append 1 (whats (x ∷ done)) (whats rest) in
+    let whole : first_what v ∷ [] ≡ own 1 (x ∷ done) ++ outermost k.0 (whats rest) =
     sym (own_value v []) ∙ (ap (λ (ts : List Told). own 1 ts) (append-nil (told v) ∙ e)
-    ∙ (ap (λ (es : List Event). outermost 1 es) (map-append event_of (x ∷ done) rest) ∙ k.1)) in
-    let later : List What = outermost (levels_behind (event_of x).what 1) (map event_of done) in
+    ∙ (ap (λ (ws : List What). outermost 1 ws) (whats_append (x ∷ done) rest) ∙ k.1)) in
+    let later : List What = outermost (levels_behind (event_of x).what 1) (whats done) in
     let none : later ≡ [] =
-    no_front later (outermost k.0 (map event_of rest))
-    (let f : first_what v ∷ [] ≡ (event_of x).what ∷ (later ++ outermost k.0 (map event_of rest)) = whole in cc) in
+    no_front later (outermost k.0 (whats rest))
+    (let f : first_what v ∷ [] ≡ (event_of x).what ∷ (later ++ outermost k.0 (whats rest)) = whole in cc) in
     let first : (event_of x).what ≡ first_what v =
-    (let f : first_what v ∷ [] ≡ (event_of x).what ∷ (later ++ outermost k.0 (map event_of rest)) = whole in cc) in
+    (let f : first_what v ∷ [] ≡ (event_of x).what ∷ (later ++ outermost k.0 (whats rest)) = whole in cc) in
     ap (λ (w : What). w ∷ later) first ∙ ap (λ (ws : List What). first_what v ∷ ws) none
 
 -- ---- the names and the first type

@@ -22,7 +22,7 @@ use Rattle.gj_rules.specs.Faults.{First}
 use Rattle.gj_rules.specs.Internal.OpenMembers.{judge}
 use Rattle.gj_rules.specs.Internal.FrameCalls as F
 use Rattle.gj_rules.specs.Internal.LostObjects.{is_lost}
-use Rattle.gj_rules.specs.Members.{is_known, same, mentions, again, type_of}
+use Rattle.gj_rules.specs.Members.{is_known, same, mentions, type_of}
 use Rattle.gj_rules.specs.Internal.OpenMembers.{slot_of, uses, named, due_known, due_after, filled, member_taken, members_taken, type_set}
 use Rattle.gj_rules.specs.Internal.EventSteps.{State, step, run}
 use Rattle.gj_rules.specs.Internal.Summaries.{no_shapes, shapes_of, asked}
@@ -32,7 +32,7 @@ use Rattle.gj_rules.proofs.Objects.GrowingFaults.{Keeps, lesser_first, Worse, wo
 use Rattle.gj_rules.proofs.Objects.GrowingFaults.{grows_same, grows_joined, grows_shapes}
 use Rattle.gj_rules.proofs.Texts.ValuesByEvents.{st, due_st}
 use Rattle.gj_rules.proofs.Objects.MemberSlots.{same_is}
-use Rattle.gj_rules.proofs.Objects.AllMembers.{Mentions, mentions_step, member_object, type_from, type_after, stays_after, typed_after, shapes_from}
+use Rattle.gj_rules.proofs.Objects.AllMembers.{again, Mentions, mentions_step, member_object, type_from, type_after, stays_after, typed_after, shapes_from}
 use Rattle.gj_rules.proofs.Objects.AllMembers.{shapes_one, named_type, named_shapes}
 use Rattle.gj_rules.proofs.Objects.AllMembers.{repeated_after}
 use Rattle.gj_rules.proofs.Objects.AskedShapes.{TypeStays}

@@ -1,5 +1,5 @@
 -- What all members do to what an object has shown.
-use Rattle.std.proofs.Common.{◌≡◌, ℕ, Bool, true, false, if◌then◌else◌, List, ◌∷◌, Option, Some, None, is_some, refl, sym, ap, subst, ◌∙◌}
+use Rattle.std.proofs.Common.{◌≡◌, ℕ, Bool, true, false, ◌&&◌, if◌then◌else◌, List, [], ◌∷◌, Option, Some, None, is_some, refl, sym, ap, subst, ◌∙◌}
 use Rattle.gj_json.specs.declared.names.Known.{Known}
 use Rattle.gj_json.specs.declared.names.Known.TheVariants.{TypeName, Coordinates}
 use Rattle.gj_coords.specs.declared.fault.Fault.{Fault}
@@ -15,7 +15,8 @@ use Rattle.gj_json.specs.Tree.{Tree, Members, end_of_object, member}
 use Rattle.gj_rules.specs.Faults.{First, first}
 use Rattle.gj_rules.specs.Internal.OpenMembers.{judge}
 use Rattle.gj_coords.specs.Items.{place_of}
-use Rattle.gj_rules.specs.Members.{is_known, same, type_of, first_type, repeated, again, mentions}
+use Rattle.gj_coords.specs.declared.fault.Rule.TheVariants.{G10}
+use Rattle.gj_rules.specs.Members.{is_known, same, type_of, first_type, repeated, mentions, one}
 use Rattle.gj_json.specs.Names.{known_of}
 use Rattle.gj_rules.specs.Internal.OpenMembers.{filled, member_taken, members_taken}
 use Rattle.gj_coords.specs.Internal.LeastLaws.{lesser-none, lesser_assoc, least-append}
@@ -258,6 +259,10 @@ filled_repeated : (m : Known) (v : Tree) (f : MemberSlots) → (filled m v f).re
 filled_repeated TypeName v f = refl
 filled_repeated Coordinates v f = refl
 filled_repeated m v f = ap (λ (g : MemberSlots). g.repeated) (joined_slots m (least (judge m v)) (slot_of m f) f)
+
+-- a known name that was mentioned before
+abbrev pub again : Bool → Bool → ℕ → List Fault
+again known before place = if known && before then one place G10 else []
 
 named_repeated : (m : Known) (place : ℕ) (f : MemberSlots) (k : Bool) (o : Option Slot)
     → (if k then named_known m place o f else f).repeated ≡ lesser f.repeated (least (again k (is_some o) place))

@@ -12,7 +12,8 @@ use Rattle.gj_coords.specs.Internal.WarningLaws.{joined_none_last}
 use Rattle.gj_coords.proofs.Lists.KeptOfShortValues.{line_kept}
 use Rattle.gj_rules.specs.declared.member_slots.TypeValue.{TypeValue}
 use Rattle.gj_rules.specs.Internal.FrameMeaning.{Findings, Shapes}
-use Rattle.gj_rules.specs.Internal.Summaries.{no_shapes, shape_for, warned_for, found_as, shapes_of, shape_found, alike, simple_of, asked_as, asked}
+use Rattle.gj_rules.specs.Internal.Summaries.{no_shapes, shape_for, warned_for, found_as, shapes_of, shape_found, alike, asked_as, asked}
+use Rattle.gj_rules.specs.Members.{simple_of}
 
 -- ---- none is kept: there is no fault for any type, and no warning
 

@@ -20,7 +20,8 @@ use Rattle.gj_rules.specs.Internal.FrameCalls.{blank, warned_as, warned_by, sett
 use Rattle.gj_rules.specs.Members.{same, first_type}
 use Rattle.gj_rules.specs.Role.{is_allowed}
 use Rattle.gj_rules.specs.Internal.OpenMembers as S
-use Rattle.gj_rules.specs.Internal.Summaries.{no_shapes, warned_for, simple_of, asked_as, asked}
+use Rattle.gj_rules.specs.Internal.Summaries.{no_shapes, warned_for, asked_as, asked}
+use Rattle.gj_rules.specs.Members.{simple_of}
 use Rattle.gj_rules.specs.Internal.TextKept.{or_none, and_kept, simple_kept, typed_kept, by_type_kept, kept, first_kept}
 use Rattle.gj_rules.specs.TextWarnings.{crs_warnings, first_value}
 use Rattle.gj_rules.proofs.Objects.GatheredMembers.{gathered_from, gathered_after, own_after}

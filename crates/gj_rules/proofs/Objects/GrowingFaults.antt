@@ -17,7 +17,8 @@ use Rattle.gj_rules.specs.Internal.LostObjects.{fails_by, fails_as, all_fail, is
 use Rattle.std.proofs.lemmas.Nat.Bits.{bit_at-zero}
 use Rattle.gj_rules.specs.Members.{is_known, same}
 use Rattle.gj_rules.specs.Internal.OpenMembers.{slot_of, with_slot, joined, joined_to, shapes_set, named_known, fault_of, members_fault, shape_as}
-use Rattle.gj_rules.specs.Internal.Summaries.{no_shapes, shape_for, simple_of}
+use Rattle.gj_rules.specs.Internal.Summaries.{no_shapes, shape_for}
+use Rattle.gj_rules.specs.Members.{simple_of}
 use Rattle.gj_rules.proofs.Objects.MemberSlots.{same_is}
 use Rattle.gj_rules.proofs.Objects.AskedShapes.{TypeStays, no_fault}
 

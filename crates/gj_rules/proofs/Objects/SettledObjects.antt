@@ -29,7 +29,8 @@ use Rattle.gj_rules.specs.Internal.MemberRules.{is_among, rules_of, missing, ask
 use Rattle.gj_rules.proofs.Objects.OneMember.{or_slot, slot_from}
 use Rattle.gj_rules.proofs.Objects.AllMembers.{IsSameObject, members_object, slots_after, type_from, type_after, shapes_from, shapes_after, repeated_after}
 use Rattle.gj_rules.specs.Internal.FrameMeaning.{Shapes}
-use Rattle.gj_rules.specs.Internal.Summaries.{no_shapes, shape_for, shape_found, simple_of, asked_as, asked}
+use Rattle.gj_rules.specs.Internal.Summaries.{no_shapes, shape_for, shape_found, asked_as, asked}
+use Rattle.gj_rules.specs.Members.{simple_of}
 use Rattle.gj_rules.proofs.Objects.AskedShapes.{no_fault, one_fault}
 use Rattle.gj_coords.specs.Shape.{coordinates_faults}
 use Rattle.gj_rules.specs.Internal.Summaries.{shapes_of}
@@ -38,7 +39,7 @@ use Rattle.gj_rules.specs.Internal.Summaries.{shapes_of}
 pub record ObjectMembers : Type 0 where
   pub repeated : List Fault
   pub type_value : Option TypeValue
-  pub of : R.FirstMembers
+  pub of : Known → Option R.First
 
 -- what an object has shown at its end
 abbrev pub shown_with : Role → ℕ → Shapes → ObjectMembers → MemberSlots
@@ -129,7 +130,7 @@ shape_is Simple.Polygon v = refl
 shape_is Simple.MultiPolygon v = refl
 
 coordinates_is : (simple : Simple) (place : ℕ) (o : Option First)
-    → lesser (least (lacking place G4 o)) (shape_for simple (shapes_from true None None no_shapes o)) ≡ least (R.due_coordinates simple place o)
+    → lesser (least (lacking place G4 o)) (shape_for simple (shapes_from true None None no_shapes o)) ≡ least (R.due_coordinates (Some simple) place o)
 coordinates_is simple place None = rw (no_fault simple) refl
 coordinates_is simple place (Some first) = shape_is simple first.value
 
@@ -158,11 +159,12 @@ members_is rules role place x p a b c d e f g =
 simple_is : (simple : Simple) (place : ℕ) (p : ObjectMembers) (y : Option Fault)
     → y ≡ least (R.optional (p.of Bbox) ++ (lacking place G4 (p.of Coordinates) ++ forbidden_members (Geometry ∷ Properties ∷ Features ∷ []) p))
     → lesser y (shape_for simple (shapes_from true None None no_shapes (p.of Coordinates)))
-    ≡ least (R.optional (p.of Bbox) ++ (forbidden_members (Geometry ∷ Properties ∷ Features ∷ []) p ++ R.due_coordinates simple place (p.of Coordinates)))
+    ≡ least (R.optional (p.of Bbox)
+    ++ (forbidden_members (Geometry ∷ Properties ∷ Features ∷ []) p ++ R.due_coordinates (Some simple) place (p.of Coordinates)))
 simple_is simple place p y e =
     ap (λ (x : Option Fault). lesser x (shape_for simple (shapes_from true None None no_shapes (p.of Coordinates)))) e
     ∙ turned (R.optional (p.of Bbox)) (lacking place G4 (p.of Coordinates)) (forbidden_members (Geometry ∷ Properties ∷ Features ∷ []) p)
-    (R.due_coordinates simple place (p.of Coordinates)) _ (coordinates_is simple place (p.of Coordinates))
+    (R.due_coordinates (Some simple) place (p.of Coordinates)) _ (coordinates_is simple place (p.of Coordinates))
 
 collection_is : (place : ℕ) (p : ObjectMembers) (y : Option Fault)
     → y ≡ least (R.optional (p.of Bbox) ++ (R.due place G5 (p.of Geometries) ++ forbidden_members (Geometry ∷ Properties ∷ Features ∷ []) p))
@@ -230,7 +232,7 @@ rest_is role place p None = none_is role (fault_at place G2) place p
 rest_is role place p (Some value) = typed_is role value.word value.place place p
 
 pub settled_is : (role : Role) (place : ℕ) (p : ObjectMembers)
-    → F.settled (shown_for role place p) ≡ least (R.object_faults role place p.repeated p.type_value p.of)
+    → F.settled (shown_for role place p) ≡ least (p.repeated ++ (R.optional (p.of Bbox) ++ R.by_type p.type_value role place p.of))
 settled_is role place p = also _ p.repeated _ _ refl (rest_is role place p p.type_value)
 
 abbrev pub parts_of : Members → ObjectMembers

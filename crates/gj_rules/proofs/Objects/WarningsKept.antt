@@ -47,7 +47,7 @@ one_more a place xs e =
 
 -- those of an object that depend on its type, given those of its coordinates and of its first members
 typed_is : (word : Word) (role : Role) (place : ℕ) (o : Option Tree) (a b c : Warnings) (xs ys zs : List Warning)
-    → ((simple : Simple) → simple_kept simple o ≡ warnings_of (simple_warnings simple o)) → a ≡ warnings_of xs → b ≡ warnings_of ys → c ≡ warnings_of zs
+    → ((simple : Simple) → simple_kept simple o ≡ warnings_of (simple_warnings (Some simple) o)) → a ≡ warnings_of xs → b ≡ warnings_of ys → c ≡ warnings_of zs
     → typed_kept word role place o a b c ≡ warnings_of (typed_warnings word role place o xs ys zs)
 typed_is Word.Point role place o a b c xs ys zs h e f g = h Simple.Point
 typed_is Word.MultiPoint role place o a b c xs ys zs h e f g = h Simple.MultiPoint
@@ -69,7 +69,7 @@ if_is true a xs e = e
 if_is false a xs e = none_is
 
 by_type_is : (t : Option TypeValue) (role : Role) (place : ℕ) (o : Option Tree) (a b c : Warnings) (xs ys zs : List Warning)
-    → ((simple : Simple) → simple_kept simple o ≡ warnings_of (simple_warnings simple o)) → a ≡ warnings_of xs → b ≡ warnings_of ys → c ≡ warnings_of zs
+    → ((simple : Simple) → simple_kept simple o ≡ warnings_of (simple_warnings (Some simple) o)) → a ≡ warnings_of xs → b ≡ warnings_of ys → c ≡ warnings_of zs
     → by_type_kept t role place o a b c ≡ warnings_of (by_type_warnings t role place o xs ys zs)
 by_type_is None role place o a b c xs ys zs h e f g = none_is
 by_type_is (Some value) role place o a b c xs ys zs h e f g =
@@ -109,7 +109,7 @@ inner_few xs last most h = front_few xs (last ∷ []) most (behind_few (xs ++ la
 module _ (most : ℕ) (law : (simple : Simple) (value : Tree) → length (value_events value) < most
     → coordinates_kept simple value ≡ warnings_of (coordinates_warnings simple value)) where
   simple_is : (simple : Simple) (ms : Members) → length (members_events ms) < most
-      → simple_kept simple (first_value Coordinates ms) ≡ warnings_of (simple_warnings simple (first_value Coordinates ms))
+      → simple_kept simple (first_value Coordinates ms) ≡ warnings_of (simple_warnings (Some simple) (first_value Coordinates ms))
   simple_is simple end_of_object d = none_is
   simple_is simple (member place name end v more) d =
       let k = behind_few (events v ++ members_events more) most d in
@@ -118,9 +118,9 @@ module _ (most : ℕ) (law : (simple : Simple) (value : Tree) → length (value_
       (simple_is simple more (rest_few (events v) (members_events more) most k))
     where
       choose_value : (t : Bool) → coordinates_kept simple v ≡ warnings_of (coordinates_warnings simple v)
-          → simple_kept simple (first_value Coordinates more) ≡ warnings_of (simple_warnings simple (first_value Coordinates more))
+          → simple_kept simple (first_value Coordinates more) ≡ warnings_of (simple_warnings (Some simple) (first_value Coordinates more))
           → simple_kept simple (if t then Some v else first_value Coordinates more) ≡ warnings_of
-          (simple_warnings simple (if t then Some v else first_value Coordinates more))
+          (simple_warnings (Some simple) (if t then Some v else first_value Coordinates more))
       choose_value true e f = e
       choose_value false e f = f
 

@@ -1,5 +1,5 @@
 -- The places that the faults and the warnings of a text name are places of it.
-use Rattle.std.proofs.Common.{◌≡◌, ℕ, zero, suc, ◌+◌, ◌≤◌, Bool, true, false, if◌then◌else◌, List, [], ◌∷◌, ◌++◌, length, take, drop, Option}
+use Rattle.std.proofs.Common.{◌≡◌, ℕ, zero, suc, ◌+◌, ◌≤◌, Bool, true, false, ◌&&◌, if◌then◌else◌, List, [], ◌∷◌, ◌++◌, length, take, drop, Option}
 use Rattle.std.proofs.Common.{Some, None, is_some, subst, arith}
 use Rattle.std.specs.List.{AllByRecursion, flat_map}
 use Rattle.gj_json.specs.declared.constant.Constant.{Constant}
@@ -19,13 +19,13 @@ use Rattle.gj_coords.specs.declared.simple.Simple.{Simple}
 use Rattle.gj_coords.specs.Fault.{fault_at, comes_first, lesser, least}
 use Rattle.gj_coords.specs.Items.{items, elements_of, place_of}
 use Rattle.gj_coords.specs.Box.{is_wrong_length, bbox_faults}
-use Rattle.gj_coords.specs.Shape.{Shape, few, held_number, number_or, position, several, list, line, unclosed, ring, or_empty, shape_of}
+use Rattle.gj_coords.specs.Shape.{Shape, few, held_number, number_or, position, several, list, line, unclosed, ring, shape_of}
 use Rattle.gj_coords.specs.Shape.{coordinates_faults}
 use Rattle.gj_rules.specs.declared.role.Role.{Role}
 use Rattle.gj_rules.specs.declared.member_slots.TypeValue.{TypeValue}
 use Rattle.gj_rules.specs.Faults
-use Rattle.gj_rules.specs.Faults.{First, FirstMembers}
-use Rattle.gj_rules.specs.Members.{same, is_known, mentions, forbidden_by, first_type, again, repeated}
+use Rattle.gj_rules.specs.Faults.{First}
+use Rattle.gj_rules.specs.Members.{same, is_known, mentions, forbidden_by, first_type, repeated, one}
 use Rattle.gj_rules.proofs.Texts.EventOrder.{then_length}
 
 -- ---- the places of a tree
@@ -234,16 +234,13 @@ shape_in n Simple.MultiLineString = several_in n 0 line (several_in n 2 position
 shape_in n Simple.Polygon = several_in n 0 ring (ring_in n)
 shape_in n Simple.MultiPolygon = several_in n 0 (list ring) (several_in n 0 ring (ring_in n))
 
-or_empty_in : (n : ℕ) (shape : Shape) → FitsShape n shape → FitsShape n (or_empty shape)
-or_empty_in n shape one (array place end_of_array close) h = tt
-or_empty_in n shape one (array place (element v more) close) h = one (array place (element v more) close) h
-or_empty_in n shape one (constant which place) h = one (constant which place) h
-or_empty_in n shape one (number place literal end) h = one (number place literal end) h
-or_empty_in n shape one (string place content end) h = one (string place content end) h
-or_empty_in n shape one (object place ms close) h = one (object place ms close) h
-
 coordinates_in : (n : ℕ) (simple : Simple) → FitsShape n (coordinates_faults simple)
-coordinates_in n simple = or_empty_in n (shape_of simple) (shape_in n simple)
+coordinates_in n simple (array place end_of_array close) h = tt
+coordinates_in n simple (array place (element v more) close) h = shape_in n simple (array place (element v more) close) h
+coordinates_in n simple (constant which place) h = shape_in n simple (constant which place) h
+coordinates_in n simple (number place literal end) h = shape_in n simple (number place literal end) h
+coordinates_in n simple (string place content end) h = shape_in n simple (string place content end) h
+coordinates_in n simple (object place ms close) h = shape_in n simple (object place ms close) h
 
 bbox_in : (n : ℕ) → FitsShape n bbox_faults
 bbox_in n (array place es close) h =
@@ -288,7 +285,7 @@ abbrev TypeIn : ℕ → Option TypeValue → Type 0
 TypeIn n None = Unit {0}
 TypeIn n (Some value) = value.place ≤ n
 
-record MembersIn (n : ℕ) (repeats : List Fault) (type_value : Option TypeValue) (m : FirstMembers) : Type 0 where
+record MembersIn (n : ℕ) (repeats : List Fault) (type_value : Option TypeValue) (m : Known → Option First) : Type 0 where
   repeated_in : FaultsIn n repeats
   type_in : TypeIn n type_value
   at : (name : Known) → FirstIn n (m name)
@@ -306,11 +303,12 @@ optional_in n None h = tt
 optional_in n (Some first) h = h.2
 
 due_coordinates_in : (n : ℕ) (simple : Simple) (place : ℕ) (first : Option First) → place ≤ n → FirstIn n first
-    → FaultsIn n (Faults.due_coordinates simple place first)
+    → FaultsIn n (Faults.due_coordinates (Some simple) place first)
 due_coordinates_in n simple place None l h = (l, tt)
 due_coordinates_in n simple place (Some first) l h = coordinates_in n simple first.value h.1
 
-module _ (n place : ℕ) (repeats : List Fault) (type_value : Option TypeValue) (m : FirstMembers) (l : place ≤ n) (h : MembersIn n repeats type_value m) where
+module _ (n place : ℕ) (repeats : List Fault) (type_value : Option TypeValue) (m : Known → Option First) (l : place ≤ n)
+    (h : MembersIn n repeats type_value m) where
   all_forbidden_in : (names : List Known) → FaultsIn n (flat_map (λ name. Faults.forbidden (m name)) names)
   all_forbidden_in [] = tt
   all_forbidden_in (name ∷ more) = all_append (InFault n) _ _ (forbidden_in n (m name) (h.at name)) (all_forbidden_in more)
@@ -339,11 +337,11 @@ module _ (n place : ℕ) (repeats : List Fault) (type_value : Option TypeValue) 
   by_type_in role None k = (l, tt)
   by_type_in role (Some value) k = chosen_in _ value k
 
-  object_in : (role : Role) → FaultsIn n (Faults.object_faults role place repeats type_value m)
+  object_in : (role : Role) → FaultsIn n (repeats ++ (Faults.optional (m Bbox) ++ Faults.by_type type_value role place m))
   object_in role =
       all_append (InFault n) _ _ h.repeated_in (all_append (InFault n) _ _ (optional_in n (m Bbox) (h.at Bbox)) (by_type_in role type_value h.type_in))
 
-again_in : (n : ℕ) (a b : Bool) (place : ℕ) → place ≤ n → FaultsIn n (again a b place)
+again_in : (n : ℕ) (a b : Bool) (place : ℕ) → place ≤ n → FaultsIn n (if a && b then one place Rule.G10 else [])
 again_in n true true place h = (h, tt)
 again_in n true false place h = tt
 again_in n false b place h = tt

@@ -13,10 +13,10 @@ use Rattle.gj_coords.specs.declared.kind.Kind.TheVariants.{W1, W2, W3, W4, W5, W
 use Rattle.gj_coords.specs.declared.simple.Simple.{Simple}
 use Rattle.gj_coords.specs.Items.{elements_of, place_of}
 use Rattle.gj_coords.specs.BoxWarnings.{south_above_north, bbox_warnings}
-use Rattle.gj_coords.specs.CoordinateWarnings.{Concern, warned_if, is_sound, each, is_precise, number_warnings, sound_position_warnings, position_warnings}
-use Rattle.gj_coords.specs.CoordinateWarnings.{ring_warnings, rings_warnings, polygon_warnings, concern_of, or_empty_warning, coordinates_warnings}
+use Rattle.gj_coords.specs.CoordinateWarnings.{Concern, warned_if, each, is_precise, number_warnings, sound_position_warnings, position_warnings}
+use Rattle.gj_coords.specs.CoordinateWarnings.{ring_warnings, rings_warnings, polygon_warnings, concern_of, coordinates_warnings}
 use Rattle.gj_coords.specs.Ring.{exact_value}
-use Rattle.gj_coords.specs.Shape.{position, ring}
+use Rattle.gj_coords.specs.Shape.{is_empty, position, ring}
 use Rattle.gj_coords.specs.Warnings.{Warning, same_kind, places_of, least_place, lesser_place, first_of}
 use Rattle.gj_coords.specs.declared.winding.Turn.{Turn}
 use Rattle.gj_coords.specs.declared.winding.Turn.TheVariants.{Left, Right}
@@ -55,12 +55,12 @@ sound_position_in n t h =
     (all_flat (Within n) (InWarning n) number_warnings (number_in n) (take 3 (elements_of t)) (all_take (Within n) 3 (elements_of t) (elements_within n t h))))
 
 position_in : (n : ℕ) → FitsConcern n position_warnings
-position_in n t h = all_if (InWarning n) (is_sound position t) (sound_position_warnings t) (sound_position_in n t h)
+position_in n t h = all_if (InWarning n) (is_empty (position t)) (sound_position_warnings t) (sound_position_in n t h)
 
 ring_in : (n : ℕ) (wrong : Turn) → FitsConcern n (ring_warnings wrong)
 ring_in n wrong t h =
     all_append (InWarning n) _ (each position_warnings t)
-    (warned_in n (is_sound ring t && same_turn (ring_turn (elements_of t)) wrong) (place_of t) W2 (place_within n t h))
+    (warned_in n (is_empty (ring t) && same_turn (ring_turn (elements_of t)) wrong) (place_of t) W2 (place_within n t h))
     (each_in n position_warnings (position_in n) t h)
 
 rings_in : (n : ℕ) (ts : List Tree) → AllByRecursion (Within n) ts → WarningsIn n (rings_warnings ts)
@@ -80,16 +80,13 @@ concern_in n Simple.MultiLineString = each_in n (each position_warnings) (each_i
 concern_in n Simple.Polygon = polygon_in n
 concern_in n Simple.MultiPolygon = each_in n polygon_warnings (polygon_in n)
 
-or_empty_in : (n : ℕ) (concern : Concern) → FitsConcern n concern → FitsConcern n (or_empty_warning concern)
-or_empty_in n concern one (array place end_of_array close) h = (h.0, tt)
-or_empty_in n concern one (array place (element v more) close) h = one (array place (element v more) close) h
-or_empty_in n concern one (constant which place) h = one (constant which place) h
-or_empty_in n concern one (number place literal end) h = one (number place literal end) h
-or_empty_in n concern one (string place content end) h = one (string place content end) h
-or_empty_in n concern one (object place ms close) h = one (object place ms close) h
-
 coordinates_in : (n : ℕ) (simple : Simple) → FitsConcern n (coordinates_warnings simple)
-coordinates_in n simple = or_empty_in n (concern_of simple) (concern_in n simple)
+coordinates_in n simple (array place end_of_array close) h = (h.0, tt)
+coordinates_in n simple (array place (element v more) close) h = concern_in n simple (array place (element v more) close) h
+coordinates_in n simple (constant which place) h = concern_in n simple (constant which place) h
+coordinates_in n simple (number place literal end) h = concern_in n simple (number place literal end) h
+coordinates_in n simple (string place content end) h = concern_in n simple (string place content end) h
+coordinates_in n simple (object place ms close) h = concern_in n simple (object place ms close) h
 
 bbox_in : (n : ℕ) → FitsConcern n bbox_warnings
 bbox_in n t h = warned_in n (south_above_north (elements_of t)) (place_of t) W8 (place_within n t h)
@@ -111,15 +108,9 @@ first_value_in n name end_of_object h = tt
 first_value_in n name (member place found end v more) h =
     value_if n (same name (known_of found)) (Some v) (TextWarnings.first_value name more) h.1 (first_value_in n name more h.2)
 
-simple_in : (n : ℕ) (simple : Simple) (value : Option Tree) → ValueIn n value → WarningsIn n (TextWarnings.simple_warnings simple value)
+simple_in : (n : ℕ) (simple : Simple) (value : Option Tree) → ValueIn n value → WarningsIn n (TextWarnings.simple_warnings (Some simple) value)
 simple_in n simple None h = tt
 simple_in n simple (Some v) h = coordinates_in n simple v h
-
-nested_in : (n : ℕ) (role : Role) (place : ℕ) → place ≤ n → WarningsIn n (TextWarnings.nested_warnings role place)
-nested_in n Role.Root place h = tt
-nested_in n Role.Geometry place h = tt
-nested_in n Role.Part place h = (h, tt)
-nested_in n Role.Feature place h = tt
 
 typed_in : (n : ℕ) (word : Word) (role : Role) (place : ℕ) (coordinates : Option Tree) (geometries geometry features : List Warning) → place ≤ n
     → ValueIn n coordinates
@@ -131,8 +122,10 @@ typed_in n Word.LineString role place coordinates geometries geometry features l
 typed_in n Word.MultiLineString role place coordinates geometries geometry features l h a b c = simple_in n Simple.MultiLineString coordinates h
 typed_in n Word.Polygon role place coordinates geometries geometry features l h a b c = simple_in n Simple.Polygon coordinates h
 typed_in n Word.MultiPolygon role place coordinates geometries geometry features l h a b c = simple_in n Simple.MultiPolygon coordinates h
-typed_in n Word.GeometryCollection role place coordinates geometries geometry features l h a b c =
-    all_append (InWarning n) _ geometries (nested_in n role place l) a
+typed_in n Word.GeometryCollection Role.Part place coordinates geometries geometry features l h a b c = (l, a)
+typed_in n Word.GeometryCollection Role.Root place coordinates geometries geometry features l h a b c = a
+typed_in n Word.GeometryCollection Role.Geometry place coordinates geometries geometry features l h a b c = a
+typed_in n Word.GeometryCollection Role.Feature place coordinates geometries geometry features l h a b c = a
 typed_in n Word.Feature role place coordinates geometries geometry features l h a b c = b
 typed_in n Word.FeatureCollection role place coordinates geometries geometry features l h a b c = c
 typed_in n Word.Other role place coordinates geometries geometry features l h a b c = tt

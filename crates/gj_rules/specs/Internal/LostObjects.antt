@@ -8,7 +8,7 @@ use Rattle.gj_rules.specs.declared.member_slots.TypeValue.{TypeValue}
 use Rattle.gj_rules.specs.Internal.EventSteps.{Core}
 use Rattle.gj_rules.specs.Internal.MemberRules.{rules_of, without_due}
 use Rattle.gj_rules.specs.Internal.OpenMembers.{members_fault, shape_as}
-use Rattle.gj_rules.specs.Internal.Summaries.{simple_of}
+use Rattle.gj_rules.specs.Members.{simple_of}
 
 -- ---- as one of a type
 

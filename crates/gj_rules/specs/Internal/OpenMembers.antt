@@ -20,7 +20,8 @@ use Rattle.gj_rules.specs.Members.{is_known, same, type_of}
 use Rattle.gj_rules.specs.Role.{is_allowed}
 use Rattle.gj_rules.specs.Faults.{selected, faults, listed}
 use Rattle.gj_rules.specs.Internal.MemberRules.{rules_of, member_fault}
-use Rattle.gj_rules.specs.Internal.Summaries.{no_shapes, shape_for, shapes_of, simple_of, asked}
+use Rattle.gj_rules.specs.Internal.Summaries.{no_shapes, shape_for, shapes_of, asked}
+use Rattle.gj_rules.specs.Members.{simple_of}
 
 -- the faults of the value of a first member
 abbrev pub judge : Known → Tree → List Fault

@@ -2,7 +2,6 @@
 use Rattle.std.specs.Prelude.{List, Option, Some, None}
 use Rattle.gj_json.specs.declared.event.Event.{Event}
 use Rattle.gj_json.specs.Tree.{Tree}
-use Rattle.gj_json.specs.declared.names.Word.{Word}
 use Rattle.gj_coords.specs.declared.coordinates.Coordinates.{Coordinates}
 use Rattle.gj_coords.specs.declared.bbox.Bbox.{Bbox}
 use Rattle.gj_coords.specs.declared.fault.Fault.{Fault}
@@ -14,6 +13,7 @@ use Rattle.gj_coords.specs.Bbox as TheBbox
 use Rattle.gj_coords.specs.declared.warnings.Warnings.{Warnings}
 use Rattle.gj_coords.specs.Internal.KeptWarnings.{no_warnings}
 use Rattle.gj_coords.specs.Internal.CoordinatesKept.{coordinates_kept}
+use Rattle.gj_rules.specs.Members.{simple_of}
 use Rattle.gj_rules.specs.declared.member_slots.TypeValue.{TypeValue}
 use Rattle.gj_rules.specs.Internal.FrameMeaning.{Findings}
 use Rattle.gj_rules.specs.Internal.FrameMeaning.{Shapes}
@@ -78,16 +78,6 @@ shape_found simple shapes = record { fault = shape_for simple shapes; warned = w
 -- as above, for each type
 abbrev pub alike : Findings → Shapes
 alike found = record { point = found; multi_point = found; line_string = found.fault; multi_line_string = found; polygon = found; multi_polygon = found }
-
--- as which an object of a type has its coordinates, where it has some
-abbrev pub simple_of : Word → Option Simple
-simple_of Word.Point = Some Simple.Point
-simple_of Word.MultiPoint = Some Simple.MultiPoint
-simple_of Word.LineString = Some Simple.LineString
-simple_of Word.MultiLineString = Some Simple.MultiLineString
-simple_of Word.Polygon = Some Simple.Polygon
-simple_of Word.MultiPolygon = Some Simple.MultiPolygon
-simple_of _ = None
 
 abbrev pub asked_as : Option Simple → Shapes → Shapes
 asked_as None shapes = no_shapes

@@ -12,7 +12,8 @@ impl MemberSlots {
     ghost use Rattle.gj_coords.specs.Internal.KeptWarnings.{joined};
     ghost use Rattle.gj_coords.specs.Internal.GatheredWarnings.{all_in};
     ghost use Rattle.gj_rules.specs.Members.{is_known};
-    ghost use Rattle.gj_rules.specs.Internal.Summaries.{shape_for, simple_of, warned_for};
+    ghost use Rattle.gj_rules.specs.Internal.Summaries.{shape_for, warned_for};
+    ghost use Rattle.gj_rules.specs.Members.{simple_of};
     ghost use Rattle.gj_rules.specs.Internal.OpenMembers.{fault_of, members_fault, shape_as, as_none, rest_by, settled};
 
     /// The fault of the first `coordinates` for one type.

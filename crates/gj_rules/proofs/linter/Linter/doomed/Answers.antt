@@ -8,14 +8,14 @@ use Rattle.gj_rules.proofs.linter.Linter.doomed.Goals as goal
 
 pub returns-in-Some-clause-sound : goal.returns-in-Some-clause-sound
 unfolding StandsFor
-returns-in-Some-clause-sound c = λ bytes h e more v.
+returns-in-Some-clause-sound c = λ bytes h e more warnings v.
     let self = c.args.self.now in
     c.one_refusal.ensures.never_both _ (bytes ++ more) c.in-Some.field-0 v.0
     (c.refusal.ensures.lasting bytes more c.in-Some.field-0 h.0 (sym c.refusal.ensures.value ∙ c.in-Some.is)) v.1
 
 pub returns-in-None-clause-sound : goal.returns-in-None-clause-sound
 unfolding StandsFor
-returns-in-None-clause-sound c = λ bytes h e more v.
+returns-in-None-clause-sound c = λ bytes h e more warnings v.
     let self = c.args.self.now in
     let n = c.bytes_taken.ensures.«open» self.reader bytes h.0 (sym c.refusal.ensures.value ∙ c.in-None.is) in
     let k = taken_all (RulesStandFor self.rules) bytes _ n h.1 in
