@@ -2,9 +2,8 @@
 
 use crate::walk::framing_by;
 use crate::words::framing_in;
-use clap::{Arg, ArgAction, ArgMatches, Command};
+use clap::ArgMatches;
 use sequence_parts::Share;
-use std::alloc::{AllocError, Global};
 
 /// What is asked for of parts.
 #[derive(Clone, Copy)]
@@ -13,35 +12,6 @@ pub enum Cut {
     Part(Share),
     /// The lines of all parts are joined.
     Join,
-}
-
-/// The command with these words.
-pub fn with_cut<'a>(alloc: Global, command: Command<'a>) -> Result<Command<'a>, AllocError> {
-    let part = Arg::new(alloc, "part")
-        .long("part")
-        .value_name("I/N")
-        .help(
-            "Check the I-th of N parts of a text sequence or of newline-delimited texts, and write a line of JSON about it for --join",
-        )
-        .action(ArgAction::Set)
-        .conflicts_with("split")?
-        .conflicts_with("quick")?;
-    let command = command.arg(part)?;
-    let join = Arg::new(alloc, "join")
-        .long("join")
-        .help(
-            "Report on a file from the lines of all its parts, read from the PATHs or from standard input",
-        )
-        .action(ArgAction::SetTrue)
-        .conflicts_with("part")?
-        .conflicts_with("split")?
-        .conflicts_with("quick")?
-        .conflicts_with("strict")?
-        .conflicts_with("allow")?
-        .conflicts_with("max-bytes")?
-        .conflicts_with("seq")?
-        .conflicts_with("ndjson")?;
-    command.arg(join)
 }
 
 /// What is asked for of parts, or a word that names none.

@@ -14,6 +14,7 @@ ghost use Rattle.std.specs.declared.io.ErrorKind.TheVariants.{BrokenPipe};
 ghost use Rattle.geolint_files.specs.declared.NoOrder.{NoOrder};
 
 mod arguments;
+mod command;
 mod cut;
 mod cut_words;
 mod files;

@@ -1,5 +1,5 @@
-//! The words of the command. `clap` reads them by the command that is built here, which says itself what they mean: clauses on
-//! its building would repeat it, so `.ci/files` tries each word.
+//! The words of the command. `clap` reads them by the table in `command.rt`, which says itself what they mean: clauses on the
+//! command would repeat it, so `.ci/files` tries each word.
 
 ghost use Rattle.std.specs.Prelude.{◌≡◌, List, ℕ, Option, Some, None, IfErr, IfOk, IsSome, Ok, codes, find, true, false};
 ghost use Rattle.std.specs.Str.{str_eq_ignore_ascii_case};
@@ -11,9 +11,10 @@ ghost use Rattle.name_lists.specs.declared.listed.NameEnd.{NameEnd};
 ghost use Rattle.geolint_files.specs.Words.{every_by, format_by, kind_name};
 
 use crate::arguments::to_bytes;
-use crate::cut_words::{Cut, cut_in, with_cut, wrong_cut};
+use crate::command::command;
+use crate::cut_words::{Cut, cut_in, wrong_cut};
 use clap::error::ErrorKind;
-use clap::{Arg, ArgAction, ArgMatches, Command, Error, value_parser};
+use clap::{ArgMatches, Error};
 use gj_coords::{KINDS, Kind};
 use gj_json::Limits;
 use gj_manual::{Topic, named};
@@ -22,17 +23,8 @@ use name_lists::NameEnd;
 use report_forms::options::{Every, Format, Kinds, Options};
 use std::alloc::{AllocError, Global};
 
-/// The most bytes that a file may have.
-const MOST_BYTES: i64 = 1 << 60;
-
 /// The most findings that are listed of a file, where nothing is said.
 const MOST_TOLD: u64 = 1000;
-
-/// What `--version` says of a program from a checkout.
-const VERSION: &str = "0.1.0";
-
-/// The words for the forms of the report.
-const FORMATS: [&str; 5] = ["text", "lines", "json", "github", "sarif"];
 
 /// The options whose words may be wrong, as the line on such a word names them.
 const FOR_KINDS: &str = "'--allow <KINDS>'";
@@ -42,29 +34,6 @@ const FOR_CODE: &str = "'--explain <CODE>': the codes are G1 to G21, W1 to W9 an
 const FOR_ENDING: &str = "'--ending <ENDING>'";
 
 const FOR_PART: &str = "'--part <I/N>': a part is named as 3/8";
-
-/// What `--help` says after the options.
-const AFTER_HELP: &str = "\
-A PATH is a file, a folder, or - for standard input. With no PATH and no --files-from, standard input is checked.
-
-In a folder and the folders below it, files are checked by their endings, in upper or lower case, in the order of their names:
-  *.geojson             one text
-  *.geojsons            a text sequence (RFC 8142)
-  *.ndjson, *.geojsonl  newline-delimited texts, one on each line
-
-Exit status:
-  0    every file is valid; under --strict, with no warnings but those that --allow lets pass
-  1    a file is not valid, or under --strict has a warning that is not allowed
-  2    a file, a folder or a list could not be opened or read; no file was checked, and --allow-empty was not given; the
-       arguments are wrong; or the report could not be written. This takes precedence over 1
-  141  nothing reads the report any more, as in `geolint-files data | head -n 1`
-
-Examples:
-  geolint-files data
-  geolint-files --strict --allow W4,W9 --summary data
-  geolint-files --explain G15
-  geolint-files --format json data | jq -r 'select(.passes | not) | .path'
-  git ls-files -z '*.geojson' | geolint-files --null --files-from -";
 
 /// What the words ask for.
 #[derive(Drop)]
@@ -106,176 +75,6 @@ pub fn order_in(alloc: Global, words: &[String]) -> Result<Order, Error> {
         Ok(order) => Ok(order),
         Err(wrong) => Err(command.error(ErrorKind::InvalidValue, wrong.as_str())?),
     }
-}
-
-/// The command, each word of which is made and given over before the next: what is under way at once is one word.
-fn command<'a>(alloc: Global) -> Result<Command<'a>, AllocError> {
-    let command = Command::new(alloc, "geolint-files")
-        .version(VERSION)
-        .about("Checks GeoJSON files, and says for each that is not valid where and why")
-        .after_help(AFTER_HELP)
-        .no_binary_name(true);
-    let command = with_warnings(alloc, command)?;
-    let command = with_reading(alloc, command)?;
-    let command = with_report(alloc, command)?;
-    let command = with_parts(alloc, command)?;
-    let command = with_cut(alloc, command)?;
-    let command = with_files(alloc, command)?;
-    with_manual(alloc, command)
-}
-
-fn with_warnings<'a>(alloc: Global, command: Command<'a>) -> Result<Command<'a>, AllocError> {
-    let strict = Arg::new(alloc, "strict")
-        .long("strict")
-        .help("A valid file with a warning does not pass")
-        .action(ArgAction::SetTrue);
-    let command = command.arg(strict)?;
-    let allow = Arg::new(alloc, "allow")
-        .long("allow")
-        .value_name("KINDS")
-        .help("Under --strict, warnings of these kinds do not fail a file, such as W4,W9")
-        .value_delimiter(',')
-        .action(ArgAction::Append);
-    command.arg(allow)
-}
-
-fn with_reading<'a>(alloc: Global, command: Command<'a>) -> Result<Command<'a>, AllocError> {
-    let quick = Arg::new(alloc, "quick")
-        .long("quick")
-        .help("Say only whether each file is valid, and stop reading as soon as it cannot be valid")
-        .action(ArgAction::SetTrue);
-    let command = command.arg(quick)?;
-    let sequence = Arg::new(alloc, "seq")
-        .long("seq")
-        .help("Check each file as a text sequence (RFC 8142), whatever its name is")
-        .action(ArgAction::SetTrue);
-    let command = command.arg(sequence)?;
-    let lines = Arg::new(alloc, "ndjson")
-        .long("ndjson")
-        .help("Check each line of each file as a separate text, whatever the file's name is")
-        .action(ArgAction::SetTrue)
-        .conflicts_with("seq")?;
-    let command = command.arg(lines)?;
-    let bytes = Arg::new(alloc, "max-bytes")
-        .long("max-bytes")
-        .value_name("N")
-        .help("Refuse files of more than N bytes")
-        .action(ArgAction::Set)
-        .value_parser(value_parser!(u64).range(1..=MOST_BYTES));
-    command.arg(bytes)
-}
-
-fn with_report<'a>(alloc: Global, command: Command<'a>) -> Result<Command<'a>, AllocError> {
-    let format = Arg::new(alloc, "format")
-        .long("format")
-        .value_name("FORMAT")
-        .help("Write the report in this form")
-        .value_parser(FORMATS.as_slice())
-        .default_value("lines")
-        .action(ArgAction::Set);
-    let command = command.arg(format)?;
-    let summary = Arg::new(alloc, "summary")
-        .long("summary")
-        .help(
-            "Count the files and the rules at the end. With --every, also count the features or records",
-        )
-        .action(ArgAction::SetTrue);
-    let command = command.arg(summary)?;
-    with_features(alloc, command)
-}
-
-fn with_features<'a>(alloc: Global, command: Command<'a>) -> Result<Command<'a>, AllocError> {
-    let every = Arg::new(alloc, "every")
-        .long("every")
-        .value_name("WHAT")
-        .help(
-            "List each feature or record with a fault. --every=warnings also lists the warnings of the others",
-        )
-        .num_args(0..=1)
-        .require_equals(true)
-        .default_missing_value("faults")
-        .value_parser(["faults", "warnings"].as_slice())
-        .action(ArgAction::Set)
-        .conflicts_with("quick")?;
-    let command = command.arg(every)?;
-    let most = Arg::new(alloc, "most")
-        .long("most")
-        .value_name("N")
-        .help(
-            "Under --every, list at most N findings of a file, and count the others. 0 lifts this limit",
-        )
-        .value_parser(value_parser!(u64))
-        .default_value("1000")
-        .action(ArgAction::Set);
-    command.arg(most)
-}
-
-fn with_parts<'a>(alloc: Global, command: Command<'a>) -> Result<Command<'a>, AllocError> {
-    let split = Arg::new(alloc, "split")
-        .long("split")
-        .value_name("PREFIX")
-        .help(
-            "Also write the features or records without a fault to PREFIX.valid.geojsons, the others \
-             to PREFIX.broken.geojsons, and their faults to PREFIX.broken.json",
-        )
-        .action(ArgAction::Set);
-    let command = command.arg(split)?;
-    let force = Arg::new(alloc, "force")
-        .long("force")
-        .help("Overwrite the files of --split if they exist")
-        .action(ArgAction::SetTrue)
-        .requires_arg("split")?;
-    command.arg(force)
-}
-
-fn with_files<'a>(alloc: Global, command: Command<'a>) -> Result<Command<'a>, AllocError> {
-    let list = Arg::new(alloc, "files-from")
-        .long("files-from")
-        .value_name("FILE")
-        .help(
-            "Also check the paths in this file, or in standard input for -. Each path ends with LF",
-        )
-        .action(ArgAction::Set);
-    let command = command.arg(list)?;
-    let null = Arg::new(alloc, "null")
-        .short('0')
-        .long("null")
-        .help(
-            "Each path of --files-from ends with NUL, as `git ls-files -z` and `find -print0` write them",
-        )
-        .action(ArgAction::SetTrue)
-        .requires_arg("files-from")?;
-    let command = command.arg(null)?;
-    let ending = Arg::new(alloc, "ending")
-        .long("ending")
-        .value_name("ENDING")
-        .help(
-            "In a folder, also check files with this ending, such as json. May be given several times",
-        )
-        .action(ArgAction::Append);
-    let command = command.arg(ending)?;
-    let empty = Arg::new(alloc, "allow-empty")
-        .long("allow-empty")
-        .help("Do not fail if there is no file to check")
-        .action(ArgAction::SetTrue);
-    let command = command.arg(empty)?;
-    let path = Arg::new(alloc, "path")
-        .value_name("PATH")
-        .help("A file, a folder, or - for standard input")
-        .num_args(0..)
-        .action(ArgAction::Append);
-    command.arg(path)
-}
-
-fn with_manual<'a>(alloc: Global, command: Command<'a>) -> Result<Command<'a>, AllocError> {
-    let explain = Arg::new(alloc, "explain")
-        .long("explain")
-        .value_name("CODE")
-        .help(
-            "Say what a rule, a warning or a cause means, such as G15, W5 or J1, and check nothing",
-        )
-        .action(ArgAction::Set);
-    command.arg(explain)
 }
 
 /// What was asked for, or the line on a word that is wrong.
