@@ -1,5 +1,5 @@
 -- Lemmas on the verdict of what was read.
-use Rattle.std.proofs.Common.{arith, refl, ◌+◌, ◌-◌, ◌≡◌, ℕ, List, [], ◌++◌, Some, None, ap, sym, ◌∙◌, subst, append-nil}
+use Rattle.std.proofs.Common.{refl, ◌+◌, ◌-◌, ◌≡◌, ℕ, List, [], ◌++◌, Some, None, ap, sym, ◌∙◌, subst, append-nil}
 use Rattle.std.specs.Prelude.{Option}
 use Rattle.std.specs.Io.KnownBytes.{Consumes, IsAtEnd}
 use Rattle.gj_json.specs.Limits.{Allowed}

@@ -1,6 +1,6 @@
 //! The features of a text that comes in pieces, pulled from a handle. Here are the calls over values; `feature_stream` takes
 //! them to C.
-ghost use Rattle.std.specs.Prelude.{◌≡◌, ◌+◌, ◌<◌, ◌≤◌, ◌^◌, length, IsTrue};
+ghost use Rattle.std.specs.Prelude.{◌≡◌, ◌+◌, ◌<◌, ◌^◌, IsTrue};
 ghost use Rattle.geolint_c.specs.Features.{IsLive, IsBegun, IsFed, IsNext, IsFinished, IsOffset, tells_more, is_ready};
 ghost use Rattle.geolint_c.specs.Internal.Pulling.{Begins, Takes, IsPulled, Counted, OfLinter, GoesOn, ShowsOn};
 ghost use Rattle.geolint_c.specs.Handle.{status_of, BegunStatus};

@@ -1,5 +1,5 @@
 //! What a piece shows, and what is found in a feature or in a record, in plain numbers.
-ghost use Rattle.std.specs.Prelude.{◌≡◌, Bool};
+ghost use Rattle.std.specs.Prelude.{◌≡◌};
 ghost use Rattle.gj_rules.specs.FeatureFindings.{FeatureFinding};
 ghost use Rattle.gj_rules.specs.FeaturesTold.{SaysFinding};
 ghost use Rattle.geolint_c.specs.Finding.{IsFeature, IsRecord, IsWhole, finding_with, record_with, clean_finding, no_finding, no_whole};

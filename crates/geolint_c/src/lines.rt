@@ -1,5 +1,5 @@
 //! The line and the column of a place.
-ghost use Rattle.std.specs.Prelude.{◌≡◌, ℕ, ◌++◌, [], List};
+ghost use Rattle.std.specs.Prelude.{ℕ, ◌++◌, [], List};
 ghost use Rattle.geolint_c.specs.Lines.{IsAfter};
 
 use gj_places::Lines;

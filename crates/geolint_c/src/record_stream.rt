@@ -7,7 +7,7 @@ ghost use Rattle.std.specs.Borrow.{full_share, sem};
 ghost use Rattle.std.specs.Ptr.{lies_at, room_at, if_non_null};
 ghost use denote.RawPtr.{Testable};
 ghost use denote.Memory.{lone};
-ghost use prog.Memory.{size, align};
+ghost use prog.Memory.{size};
 ghost use Rattle.geolint_c.specs.contracts.records.RecordHandle.{the_row};
 ghost use Rattle.geolint_c.specs.RecordStream.{BegunAt, FedAt, NextAt, OffsetAt, FinishedAt};
 

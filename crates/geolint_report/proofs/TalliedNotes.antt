@@ -1,5 +1,5 @@
 -- Lemmas on the counts of notes, and of files together.
-use Rattle.std.proofs.Common.{arith, ◌≡◌, ◌<◌, ℕ, ◌+◌, ◌++◌, ◌∷◌, [], List, ap, sym, ◌∙◌, length, get_or, set, inl, inr}
+use Rattle.std.proofs.Common.{arith, ◌≡◌, ◌<◌, ℕ, ◌+◌, List, ap, sym, ◌∙◌, length, get_or, set, inl, inr}
 use Rattle.std.specs.Io.Iter.{u64_saturate}
 use Rattle.std.proofs.lemmas.Bool.Decides.{eqb_tells}
 use Rattle.std.proofs.lemmas.List.{get_or-set_same, get_or-set_other}

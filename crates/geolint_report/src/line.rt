@@ -1,5 +1,5 @@
 //! The bytes of a report, gathered before they are written.
-ghost use Rattle.std.specs.Prelude.{◌≡◌, OnOk, codes};
+ghost use Rattle.std.specs.Prelude.{◌≡◌, OnOk};
 ghost use Rattle.std.specs.Fmt.{decimal};
 ghost use Rattle.geolint_report.specs.Line.{joined, Adds, optional_number, truth};
 

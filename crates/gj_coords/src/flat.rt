@@ -5,7 +5,7 @@ ghost use Rattle.gj_coords.specs.CoordinateWarnings.{is_precise};
 ghost use Rattle.gj_coords.specs.Internal.PositionGather.{precise_with, position_noted, sound_noted};
 ghost use Rattle.gj_coords.specs.Winding.{corner_of};
 ghost use Rattle.gj_coords.specs.Internal.KeptWarnings.{nothing_noted};
-ghost use Rattle.gj_coords.specs.Internal.FlatPosition.{flat_values, flat_position, flat_precise, pair_noted, precise_noted, third_value, third_precise};
+ghost use Rattle.gj_coords.specs.Internal.FlatPosition.{flat_values, flat_position, flat_precise, precise_noted, third_value, third_precise};
 ghost use Rattle.gj_coords.specs.Internal.FlatPosition.{number_precise, flat_count, least_place, flat_misshapen, flat_ring, IsJudged, IsPlain};
 
 use crate::fault::{Fault, Rule};

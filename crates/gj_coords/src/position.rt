@@ -178,7 +178,6 @@ impl Numbers {
     ghost use Rattle.std.specs.Prelude.{◌≡◌};
     ghost use Rattle.gj_json.specs.declared.event.What.TheVariants.{OpenArray, Number};
     ghost use Rattle.gj_coords.specs.Internal.SentEvents.{event_at};
-    ghost use Rattle.gj_coords.specs.declared.kind.Kind.TheVariants.{W3, W4, W5};
     ghost use Rattle.gj_coords.specs.Internal.PositionGather.{number_added, first_judged, array_counted, numbers_start, position_least, position_noted};
     ghost use Rattle.gj_coords.specs.Internal.PositionGather.{judged_noted};
     ghost use Rattle.gj_coords.specs.Internal.SteadyWalk.{IsCounted};

@@ -57,14 +57,13 @@ impl RingRole {
 }
 
 impl Positions {
-    ghost use Rattle.std.specs.Prelude.{◌≡◌, ◌≤◌, List, length, take, IsTrue, false, Some, None};
+    ghost use Rattle.std.specs.Prelude.{◌≡◌, ◌≤◌, List, length, take, false, Some, None};
     ghost use Rattle.gj_json.specs.declared.flat.Flat.{Flat};
-    ghost use Rattle.gj_json.specs.CutPosition.{IsCutPosition, AreCutPositions};
+    ghost use Rattle.gj_json.specs.CutPosition.{AreCutPositions};
     ghost use Rattle.gj_coords.specs.declared.position.Values.{Values};
     ghost use Rattle.gj_coords.specs.Internal.AddedPositions.{positions_added};
-    ghost use Rattle.gj_coords.specs.Internal.PositionGather.{corner_in};
     ghost use Rattle.gj_coords.specs.Internal.WindingGather.{turn_in};
-    ghost use Rattle.gj_coords.specs.Internal.PositionGather.{position_closed, misshapen_at};
+    ghost use Rattle.gj_coords.specs.Internal.PositionGather.{position_closed};
     ghost use Rattle.gj_coords.specs.Internal.FlatPosition.{flat_position, flat_values, IsJudged};
     ghost use Rattle.gj_coords.specs.Internal.PositionsGather.{no_positions, position_added, misshapen_added, sound_joined, ring_closed, ring_noted};
 

@@ -1,6 +1,6 @@
 //! The content of a string or a name, as far as it can be one that RFC 7946 gives a meaning.
 
-ghost use Rattle.std.specs.Prelude.{◌≡◌, ℕ, ◌≤◌, ◌<◌, List, [], ◌∷◌, ◌++◌, length};
+ghost use Rattle.std.specs.Prelude.{◌≡◌, ℕ, ◌≤◌, ◌<◌, List, [], ◌∷◌, ◌++◌};
 ghost use Rattle.std.specs.List.{AllByRecursion};
 
 use crate::names::{Known, Word, name_of, type_of};

@@ -1,5 +1,5 @@
 //! The arrays and objects that are open, a bit for each.
-ghost use Rattle.std.specs.Prelude.{◌≡◌, ℕ, ◌*◌, ◌^◌, ◌<◌, ◌≤◌, [], ◌∷◌, length, IsTrue, Some};
+ghost use Rattle.std.specs.Prelude.{◌≡◌, ◌*◌, ◌^◌, ◌<◌, ◌≤◌, [], ◌∷◌, length, IsTrue, Some};
 ghost use Rattle.gj_json.specs.declared.levels.TheConstants.{WORD, MOST_FULL};
 
 use crate::limits::MOST_LEVELS;

@@ -1,6 +1,6 @@
 //! Sixteen bytes at once.
 ghost use Rattle.std.specs.Prelude.{◌≡◌, ℕ, min, ◌-◌, ◌+◌, ◌*◌, ◌^◌, ◌<◌, ◌≤◌, nat_le, IfSome};
-ghost use Rattle.std.specs.Prelude.{◌++◌, List, [], ◌∷◌, length, map, take, drop, replicate, All, get_or};
+ghost use Rattle.std.specs.Prelude.{◌++◌, [], ◌∷◌, length, map, take, drop, replicate, All, get_or};
 ghost use Rattle.std.specs.List.{fold};
 ghost use Rattle.std.specs.Option.{IsSome};
 ghost use Rattle.std.specs.Simd.Lanes.{Each1, mask_l};

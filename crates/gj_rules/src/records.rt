@@ -1,5 +1,5 @@
 //! The records of an input that comes in pieces, each checked separately.
-ghost use Rattle.std.specs.Prelude.{◌≡◌, ◌↔◌, ℕ, ◌+◌, ◌<◌, ◌≤◌, ◌^◌, ◌++◌, ◌∷◌, [], List, length, take, false, true, None, IsTrue};
+ghost use Rattle.std.specs.Prelude.{◌≡◌, ◌↔◌, ℕ, ◌+◌, ◌<◌, ◌≤◌, ◌++◌, ◌∷◌, [], List, length, take, false, true, IsTrue};
 
 mod framing;
 mod record;
@@ -58,9 +58,8 @@ impl Records {
     ghost use Rattle.gj_rules.specs.Internal.OpenRecord.{StandsFor as RecordStandsFor};
     ghost use Rattle.gj_rules.specs.Internal.ToldRecords.{TellsOne, Keeps, KeepsAll};
     ghost use Rattle.gj_coords.specs.Internal.KeptWarnings.{no_warnings};
-    ghost use Rattle.gj_rules.specs.Linter.{refusal_of};
-    ghost use Rattle.gj_rules.specs.RecordFindings.{AreAllFindings, IsOwnVerdict, IsNumberedVerdict, IsWholeVerdict, whole_of};
-    ghost use Rattle.gj_rules.specs.Records.{Part, part_at, separator_of, counts};
+    ghost use Rattle.gj_rules.specs.RecordFindings.{IsOwnVerdict, IsNumberedVerdict, IsWholeVerdict, whole_of};
+    ghost use Rattle.gj_rules.specs.Records.{part_at, separator_of, counts};
     ghost use Rattle.gj_rules.specs.RecordsStand.{StandsFor, limits_of, framing_of, HaveTold, HaveToldIf, HaveToldAll, HaveToldAllIf};
     ghost use Rattle.gj_rules.specs.SequenceStands.{is_valid_sequence};
 

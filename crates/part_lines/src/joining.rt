@@ -5,7 +5,6 @@ ghost use Rattle.std.specs.List.{All, Contains};
 ghost use Rattle.gj_json.specs.Limits.{Allowed};
 ghost use Rattle.gj_join.specs.Joined.{IsVerdictOf};
 ghost use Rattle.gj_rules.specs.declared.records.framing.Framing.{Framing};
-ghost use Rattle.sequence_parts.specs.Checked.{IsPartOf};
 ghost use Rattle.sequence_parts.specs.declared.checked.CheckedPart.{CheckedPart};
 ghost use Rattle.part_lines.specs.declared.line.PartLine.{PartLine};
 ghost use Rattle.part_lines.specs.Lines.{checked_in, IsLineOf, IsLike, AreAmong, ArePlacedFrom};

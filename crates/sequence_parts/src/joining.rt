@@ -1,6 +1,6 @@
 //! The verdict of an input of records from those of all its parts.
 
-ghost use Rattle.std.specs.Prelude.{◌≡◌, ◌<◌, ◌≤◌, ℕ, [], List, Err, IfOk, IfSome, length, take};
+ghost use Rattle.std.specs.Prelude.{◌≡◌, ◌<◌, ℕ, [], List, Err, IfOk, IfSome, length};
 ghost use Rattle.std.specs.List.{All};
 ghost use Rattle.gj_json.specs.Limits.{Allowed};
 ghost use Rattle.gj_join.specs.Joined.{IsVerdictOf};

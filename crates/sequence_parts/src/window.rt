@@ -1,6 +1,6 @@
 //! The bytes of a source from one place up to another.
 
-ghost use Rattle.std.specs.Prelude.{◌≡◌, ◌≤◌, min, None};
+ghost use Rattle.std.specs.Prelude.{◌≡◌, ◌≤◌, min};
 ghost use Rattle.std.specs.Option.{option_map};
 ghost use Rattle.sequence_parts.specs.Cuts.{bytes_between};
 

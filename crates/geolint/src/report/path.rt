@@ -1,5 +1,5 @@
 //! The line with the path of the value that breaks a rule.
-ghost use Rattle.std.specs.Prelude.{◌≡◌, ◌+◌, ◌*◌, ◌≤◌, length};
+ghost use Rattle.std.specs.Prelude.{◌+◌, ◌*◌, ◌≤◌, length};
 ghost use Rattle.gj_json.specs.Path.{steps_of};
 ghost use Rattle.geolint.specs.Report.{step_text, steps_text, path_line_if};
 ghost use Rattle.geolint.specs.Room.{written_in, Adds};

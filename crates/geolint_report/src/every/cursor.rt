@@ -49,7 +49,7 @@ pub struct Cursor {
 }
 
 impl Cursor {
-    ghost use Rattle.std.specs.Prelude.{◌≡◌, ◌++◌, [], ◌+◌, ◌-◌, ◌^◌, ◌≤◌, ◌<◌, ℕ, List, Option, Some, None, IfOk, IfSome, IsSome, OnOk, take, true, length};
+    ghost use Rattle.std.specs.Prelude.{◌≡◌, ◌++◌, [], ◌+◌, ◌-◌, ◌^◌, ◌≤◌, ◌<◌, ℕ, List, Option, Some, None, IfOk, IfSome, true, length};
     ghost use Rattle.geolint_report.specs.declared.every.cursor.Mark.{Mark};
     ghost use Rattle.geolint_report.specs.Cursors.{StandsBy, Passed};
     ghost use Rattle.geolint_report.specs.Cursors.{StandsIn};

@@ -59,7 +59,7 @@ pub struct Spots {
 }
 
 impl Spots {
-    ghost use Rattle.std.specs.Prelude.{◌≡◌, ℕ, List, [], IfSome, Option};
+    ghost use Rattle.std.specs.Prelude.{◌≡◌, ℕ, List, [], Option};
     ghost use Rattle.std.specs.Option.{IsSome};
     ghost use Rattle.geolint_report.specs.Spots.{AreSpots, IsRight, IsAmongLast};
 

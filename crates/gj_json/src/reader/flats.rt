@@ -1,6 +1,6 @@
 //! Arrays of numbers, taken at once.
 
-ghost use Rattle.std.specs.Prelude.{◌≡◌, ◌+◌, ◌^◌, ◌≤◌, ◌<◌, true, [], length, take, drop, get_or, None, Some, IsTrue, IfSome};
+ghost use Rattle.std.specs.Prelude.{◌≡◌, ◌+◌, ◌^◌, ◌≤◌, ◌<◌, true, length, take, get_or, None, Some, IsTrue};
 ghost use Rattle.gj_json.specs.Bytes.{open_bracket, comma};
 ghost use Rattle.gj_json.specs.Internal.FlatParts.{awaits, IsDueAt};
 ghost use Rattle.gj_json.specs.Internal.OpenLevels.{levels_in, inner_of};

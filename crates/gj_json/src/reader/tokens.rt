@@ -2,13 +2,13 @@
 //! usual kind. Where `HEARS` is false, no event matters: what strings, names and numbers say is then not looked for, and a string or
 //! a name may have any characters.
 
-ghost use Rattle.std.specs.Prelude.{◌≡◌, ◌+◌, ◌-◌, ◌^◌, ◌≤◌, ◌<◌, ◌++◌, ◌∷◌, [], true, List, length, take, get_or, None, Some, IsTrue};
+ghost use Rattle.std.specs.Prelude.{◌≡◌, ◌+◌, ◌-◌, ◌^◌, ◌≤◌, ◌<◌, ◌++◌, ◌∷◌, [], true, List, length, take, get_or, None, Some};
 ghost use Rattle.gj_number.specs.Grammar.{IsNumber};
 ghost use Rattle.gj_number.specs.Value.{value_of};
 ghost use Rattle.gj_json.specs.Internal.QuietBytes.{Leads};
 ghost use Rattle.gj_json.specs.Bytes.{open_bracket, open_brace, quote};
 ghost use Rattle.gj_json.specs.Internal.FlatParts.{awaits};
-ghost use Rattle.gj_json.specs.Internal.OpenLevels.{levels_in, inner_of, outer_of};
+ghost use Rattle.gj_json.specs.Internal.OpenLevels.{levels_in, outer_of};
 ghost use Rattle.gj_json.specs.Internal.ReaderStep.{opened};
 ghost use Rattle.gj_json.specs.Internal.ToldEvents.{event_at, closing_of};
 ghost use Rattle.gj_json.specs.Internal.WholeTokens.{bracket_of, may_begin, names};

@@ -2,7 +2,6 @@
 //!
 //! A bit for each byte that is a comma or a point says where the parts of two numbers end, if two numbers stand there.
 //! What does stand there is checked after that.
-ghost use mir.Val.{bool_byte};
 ghost use Rattle.std.specs.Prelude.{◌≡◌, ◌==◌, ℕ, ◌+◌, ◌*◌, ◌^◌, ◌<◌, ◌≤◌, ◌↔◌, ◌⊎◌, true, get_or, length, map, take, drop, IsTrue, IfSome};
 ghost use Rattle.std.specs.Simd.Lanes.{mask_l};
 ghost use Rattle.std.specs.Option.{IsSome};

@@ -1,5 +1,5 @@
 //! Beginnings of objects that are reported as one event. Mostly they are those of a feature and of its geometry.
-ghost use Rattle.std.specs.Prelude.{◌≡◌, ◌++◌, List};
+ghost use Rattle.std.specs.Prelude.{◌++◌, List};
 ghost use Rattle.gj_json.specs.declared.event.Event.{Event};
 ghost use Rattle.gj_json.specs.Head.{typed_events, located_events};
 

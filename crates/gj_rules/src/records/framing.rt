@@ -1,5 +1,5 @@
 //! What separates the records of an input.
-ghost use Rattle.std.specs.Prelude.{◌≡◌, ℕ, ◌<◌, ◌≤◌, List, length, take, false, ◌&&◌};
+ghost use Rattle.std.specs.Prelude.{◌≡◌, ◌<◌, ◌≤◌, length, take, false, ◌&&◌};
 ghost use Rattle.gj_rules.specs.Records.{separator_of, is_blank, are_blank, is_void, first_number};
 ghost use Rattle.gj_rules.specs.Internal.BytesBefore.{has_byte, begins_with};
 

@@ -31,7 +31,7 @@ fn no_feature(index: u64, place: u64, close: Option<u64>) -> Feature
 }
 
 impl<const FRAMES: usize> FramedRules<FRAMES> {
-    ghost use Rattle.gj_rules.specs.Internal.FeatureSteps.{starts_at, list_tells, element_tells, tells_at, feature_found};
+    ghost use Rattle.gj_rules.specs.Internal.FeatureSteps.{starts_at, tells_at, feature_found};
     ghost use Rattle.gj_rules.specs.Internal.FrameCalls.{settled};
     ghost use Rattle.gj_rules.specs.Internal.RulesState.{core_of};
     ghost use Rattle.gj_rules.specs.Internal.Summaries.{none_found};

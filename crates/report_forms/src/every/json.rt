@@ -1,5 +1,5 @@
 //! The form `json`: an object for each finding, on a separate line.
-ghost use Rattle.std.specs.Prelude.{◌≡◌, ℕ, List, OnOk};
+ghost use Rattle.std.specs.Prelude.{ℕ, List, OnOk};
 ghost use Rattle.gj_places.specs.Strings.{SpellsString};
 ghost use Rattle.report_forms.specs.Forms.Features.{json_entry, json_more, item_members, feature_members, record_member, id_or_null, spot_at, path_at};
 ghost use Rattle.report_forms.specs.Forms.Json.{json_told};

@@ -2,11 +2,11 @@
 ghost use Rattle.std.specs.Prelude.{◌≡◌, ◌||◌, ◌++◌, ℕ, List, OnOk, IfOk, codes, replicate};
 ghost use Rattle.std.specs.Fmt.{decimal};
 ghost use Rattle.gj_places.specs.declared.excerpt.Excerpt.{Excerpt};
-ghost use Rattle.geolint_report.specs.Finding.{word_of, fault_of, warnings_of, record_of};
+ghost use Rattle.geolint_report.specs.Finding.{word_of, fault_of, warnings_of};
 ghost use Rattle.geolint_report.specs.Line.{Adds};
-ghost use Rattle.geolint_report.specs.Report.{spot_of, excerpt_in, path_of};
+ghost use Rattle.geolint_report.specs.Report.{spot_of, excerpt_in};
 ghost use Rattle.report_forms.specs.Forms.Lines.{beginning, ending, and_spot, lines_place, lines_code, record_detail, times_detail, byte_detail, path_detail};
-ghost use Rattle.report_forms.specs.Forms.Lines.{details, in_parentheses, lines_line, lines_warning, lines_kind, lines_warnings, lines_not_valid, lines_rest};
+ghost use Rattle.report_forms.specs.Forms.Lines.{details, in_parentheses, lines_line, lines_kind, lines_warnings, lines_not_valid, lines_rest};
 ghost use Rattle.report_forms.specs.Forms.Lines.{lines_excerpt, found_line, lines_found, hint_line, lines_hint, IsShown, IsExcerpt, AreLines};
 ghost use Rattle.report_forms.specs.Internal.WrittenDetails.{next_details, has_details, separator, end};
 

@@ -4,7 +4,6 @@ ghost use Rattle.std.specs.List.{flat_map};
 ghost use Rattle.gj_json.specs.Path.{steps_of};
 ghost use Rattle.geolint_report.specs.Finding.{record_of};
 ghost use Rattle.geolint_report.specs.Line.{Adds};
-ghost use Rattle.geolint_report.specs.Report.{spot_of};
 ghost use Rattle.report_forms.specs.Forms.Messages.{and_record};
 ghost use Rattle.report_forms.specs.Forms.Sarif.{is_plain_in_uri, percent_of, in_uri, scheme_of, uri_of, id_of, sarif_message, location, region_start};
 ghost use Rattle.report_forms.specs.Forms.Sarif.{region_start_of, region, region_if, logical_location, logical_location_of, sarif_result, break_unless};
