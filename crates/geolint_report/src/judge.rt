@@ -32,7 +32,7 @@ pub enum Finding {
 }
 
 /// How a file is read.
-#[derive(Clone, Copy, Debug, PartialEq, Eq)]
+#[derive(Clone, Copy)]
 pub enum Reading {
     /// As one text, to its end or to the byte that refuses it.
     Text,

@@ -10,7 +10,7 @@ use crate::progress::Meter;
 use gj_json::Limits;
 
 /// Whether what was fed is decided.
-#[derive(Clone, Copy, Debug, PartialEq, Eq)]
+#[derive(Clone, Copy)]
 pub enum Stage {
     /// It depends on what follows.
     Open,

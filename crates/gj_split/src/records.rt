@@ -20,7 +20,7 @@ use std::io::Write;
 const PIECE: usize = 16384;
 
 /// What an input is whose records were split.
-#[derive(Clone, Copy, Debug, PartialEq, Eq)]
+#[derive(Clone, Copy)]
 pub struct Input {
     /// All its records are valid, or this is the first that is not.
     pub verdict: SeqVerdict,

@@ -15,7 +15,7 @@ use sequence_parts::{CheckedPart, Misfit, join_parts};
 use std::alloc::{AllocError, Global};
 
 /// Why the lines are not those of all parts of one file.
-#[derive(Clone, Copy, Debug, PartialEq, Eq)]
+#[derive(Clone, Copy, PartialEq)]
 pub enum Refusal {
     /// There is no line.
     None,

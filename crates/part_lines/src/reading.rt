@@ -51,7 +51,7 @@ use std::alloc::{AllocError, Global};
 const VERSION: u64 = 1;
 
 /// Why a line is not read.
-#[derive(Clone, Copy, Debug, PartialEq, Eq)]
+#[derive(Clone, Copy)]
 pub enum NoLine {
     /// It is not the line of a part.
     NoPart,

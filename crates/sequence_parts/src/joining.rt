@@ -14,7 +14,7 @@ use gj_join::join;
 use gj_rules::SeqVerdict;
 
 /// Why the verdicts of parts are not joined.
-#[derive(Clone, Copy, Debug, PartialEq, Eq)]
+#[derive(Clone, Copy, PartialEq)]
 pub enum Misfit {
     /// One part does not begin where those before it end, or the last one does not end where the text does.
     NotInOrder,

@@ -4,7 +4,7 @@ ghost use Rattle.std.specs.Prelude.{◌≡◌, ◌<◌, ◌≤◌, min};
 ghost use Rattle.sequence_parts.specs.Ranges.{range_begin};
 
 /// One of several parts, counted from 1.
-#[derive(Clone, Copy, Debug, PartialEq, Eq)]
+#[derive(Clone, Copy)]
 pub struct Share {
     /// Which part it is, from 1 to `parts`.
     pub number: u64,

@@ -14,7 +14,7 @@ use gj_rules::{CleanFeature, Feature, FeatureSink, Record, RecordSink, Verdict};
 use std::alloc::{AllocError, Global};
 
 /// A part of a file that is validated separately.
-#[derive(Clone, Copy, Debug, PartialEq, Eq)]
+#[derive(Clone, Copy, PartialEq)]
 pub enum Item {
     /// A feature of a text.
     Feature {
@@ -61,7 +61,7 @@ pub struct Note {
 }
 
 /// What is asked of the features or the records of a file.
-#[derive(Clone, Copy, Debug, PartialEq, Eq)]
+#[derive(Clone, Copy, PartialEq)]
 pub struct Asked {
     /// The warnings of those without a fault are reported too.
     pub with_warnings: bool,
