@@ -4,7 +4,8 @@ use Rattle.std.specs.Io.KnownBytes.{Consumes, IsAtEnd}
 use Rattle.gj_coords.specs.declared.warnings.Warnings.{Warnings}
 use Rattle.gj_rules.specs.declared.verdict.Verdict.{Verdict}
 use Rattle.gj_rules.specs.declared.verdict.Verdict.TheVariants.{Valid, Broken, NotJson}
-use Rattle.gj_rules.specs.Verdict.{IsValidWith, IsVerdict, NeverValid}
+use Rattle.gj_rules.specs.TextWarnings.{text_warnings}
+use Rattle.gj_rules.specs.Verdict.{IsVerdict, NeverValid}
 use Rattle.geolint_report.specs.Judged.{IsQuick, JudgesQuickly, valid_in}
 use Rattle.geolint_report.specs.ReadingLoop.{Ends}
 use Rattle.geolint_report.specs.declared.reading_loop.Stage.TheVariants.{Open, Decided}
@@ -50,11 +51,10 @@ quick-lasting limits (Some all) (Some rest) read took never = record {
   read = read;
   split = took;
   lasting = λ more_is_left. never;
-  of_all = λ warnings valid. never rest (in_any warnings (subst (λ (bytes : List ℕ). IsVerdict limits bytes (Valid warnings)) took valid));
+  of_all = λ warnings is.
+      let here = subst (λ (bytes : List ℕ). IsVerdict limits bytes (Valid warnings)) took is in
+      never rest (text_warnings here.0) (here.0, here.1, here.2, refl);
 }
-  where
-    in_any : (warnings : Warnings) → IsVerdict limits (read ++ rest) (Valid warnings) → IsValidWith limits (read ++ rest) (λ all. Unit {0})
-    in_any warnings is = (is.0, is.1, is.2, tt)
 
 -- the reader was read to its end, or what it gave makes it invalid
 quick-here : HasOne → (Stands : List ℕ → Type 0) (limits : Allowed) (old new : Option (List ℕ)) (verdict : Verdict)

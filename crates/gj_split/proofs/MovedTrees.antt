@@ -1,5 +1,5 @@
 -- A value by its bytes alone: its tree, with each place from the start of the value.
-use Rattle.std.proofs.Common.{◌≡◌, ℕ, ◌+◌, ◌-◌, List, length, refl, ap, subst, arith, add_assoc}
+use Rattle.std.proofs.Common.{◌≡◌, ℕ, ◌+◌, ◌-◌, List, length, refl, ap, subst, arith, add_assoc, [], ◌∷◌}
 use Rattle.gj_json.specs.Tree.{Tree, constant, number, string, array, object, Elements, end_of_array, element, Members, end_of_object, member, depth}
 use Rattle.gj_json.specs.Tree.{elements_depth, members_depth}
 use Rattle.gj_json.specs.Bytes.{close_bracket, close_brace}
