@@ -9,7 +9,7 @@ use Rattle.gj_coords.specs.declared.warnings.Warnings.{Warnings}
 use Rattle.gj_rules.specs.declared.verdict.Verdict.{Verdict}
 use Rattle.gj_rules.specs.declared.verdict.Verdict.TheVariants.{Valid, Broken, NotJson}
 use Rattle.gj_rules.specs.TextWarnings.{text_warnings}
-use Rattle.gj_rules.specs.Verdict.{valid, IsJudgement, IsValidWith, IsVerdict, NeverValid}
+use Rattle.gj_rules.specs.Verdict.{valid, IsJudgement, IsVerdict, NeverValid}
 use Rattle.geolint_report.specs.Judged.{valid_in}
 use Rattle.geolint_report.specs.ReadingLoop.{Ends}
 use Rattle.geolint_report.specs.declared.reading_loop.Stage.TheVariants.{Open, Decided}
@@ -74,14 +74,10 @@ never_quick limits (Some all) (Some rest) read took never = (
   read,
   took,
   (
-    λ warnings is. never rest
-        (in_any warnings (subst (λ (bytes : List ℕ). IsJudgement limits bytes (valid warnings)) took is)),
+    λ warnings is. never rest warnings (subst (λ (bytes : List ℕ). IsJudgement limits bytes (valid warnings)) took is),
     λ more_is_left. never,
   ),
 )
-  where
-    in_any : (warnings : List Warning) → IsJudgement limits (read ++ rest) (valid warnings) → IsValidWith limits (read ++ rest) (λ all. Unit {0})
-    in_any warnings is = (is.0, is.1, is.2, tt)
 
 quick-lasting : (limits : Allowed) (old new : Option (List ℕ)) (read : List ℕ) → Consumes old new read → NeverValid limits read
     → QuicklySays limits old new None

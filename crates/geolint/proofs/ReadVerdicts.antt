@@ -12,7 +12,7 @@ use Rattle.geolint_report.specs.Fed.{IsRefused}
 use Rattle.geolint_report.specs.ReadingLoop.{Ends}
 use Rattle.geolint_report.specs.declared.reading_loop.Stage.{Stage}
 use Rattle.geolint_report.specs.declared.reading_loop.Stage.TheVariants.{Open, Decided}
-use Rattle.geolint.specs.Judged.{JudgesBy, JudgesRead}
+use Rattle.geolint.specs.Judged.{JudgesBy}
 use Rattle.geolint_report.proofs.QuickFiles.{HasOne}
 
 -- the reader has come to its end
@@ -36,7 +36,7 @@ Judges-lasting Is limits (Some all) (Some rest) read verdict took lasts =
 -- ---- a text
 
 abbrev pub SaysRead : Allowed → Option (List ℕ) → Option (List ℕ) → Verdict → Type 0
-SaysRead limits old new verdict = (judgement : Judgement) × Says verdict judgement × JudgesRead limits old new judgement
+SaysRead limits old new verdict = (judgement : Judgement) × Says verdict judgement × JudgesBy IsJudgement limits old new judgement
 
 text-here : HasOne → (Stands : List ℕ → Type 0) (limits : Allowed) (old new : Option (List ℕ)) (stage : Stage) (verdict : Verdict)
     → Ends Stands (IsRefused limits) old new stage

@@ -3,7 +3,7 @@ use Rattle.std.proofs.Common.{◌≡◌, ℕ, false, List, [], ◌∷◌, ◌++�
 use Rattle.std.specs.Prelude.{min, ◌==◌, if◌then◌else◌, Option, Some, None, unwrap_or, codes}
 use Rattle.std.specs.List.{flat_map}
 use Rattle.gj_json.specs.declared.path.Path.{Path}
-use Rattle.gj_coords.specs.Warnings.{Warning, kinds, places_of, greatest_count, least_place}
+use Rattle.gj_coords.specs.Warnings.{Warning, kinds, places_of, greatest_count, count_of, first_of, least_place}
 use Rattle.gj_coords.specs.WarningsStand.{StandsFor}
 use Rattle.gj_coords.specs.Internal.KeptWarnings.{noted_as, noted_of, kept, warnings_of}
 use Rattle.gj_coords.specs.Internal.KeptWarningLaws.{some_least}
@@ -16,7 +16,7 @@ use Rattle.gj_rules.specs.Verdict.{Judgement, valid, broken, refused, Says}
 use Rattle.gj_rules.specs.declared.sequence.verdict.SeqVerdict.{SeqVerdict}
 use Rattle.gj_rules.specs.declared.verdict.Verdict.{Verdict}
 use Rattle.gj_rules.specs.declared.verdict.Verdict.TheVariants.{Valid, Broken, NotJson}
-use Rattle.geolint.specs.Report.{line_if, kind_line, warning_lines, broken_line, refusal_line, path_line_if, report}
+use Rattle.geolint.specs.Report.{warning_line, warning_lines, broken_line, refusal_line, path_line_if, report}
 use Rattle.geolint.specs.Sequence.{record_line, count_line, sequence_report}
 use Rattle.geolint.specs.VerdictReport.{told_line, told_lines, verdict_report, sequence_verdict_report}
 use Rattle.gj_coords.proofs.Lists.ShiftedWarnings.{some_count}
@@ -28,21 +28,22 @@ unfolding warnings_of
 kept_is told all kind stands = ap (λ (w : Warnings). kept w kind) stands ∙ kept_by_kind (λ k. noted_of k all) kind
 
 abbrev line_of : KindWarnings → Kind → List ℕ
-line_of noted kind = line_if (if noted.count == 0 then None else Some noted.first) kind noted.count
+line_of noted kind = warning_line kind noted.count (if noted.count == 0 then None else Some noted.first)
 
 some_line : (kind : Kind) (count place : ℕ) (least : Option ℕ) → (count == 0) ≡ false → least ≡ Some place
-    → line_of (noted_as count (unwrap_or least 0)) kind ≡ line_if least kind count
+    → line_of (noted_as count (unwrap_or least 0)) kind ≡ warning_line kind count least
 some_line kind count place least some found = rw (some, found) refl
 
 line_of_places : (kind : Kind) (places : List ℕ)
-    → line_of (noted_as (min (length places) greatest_count) (unwrap_or (least_place places) 0)) kind ≡ line_if (least_place places) kind
-    (min (length places) greatest_count)
+    → line_of (noted_as (min (length places) greatest_count) (unwrap_or (least_place places) 0)) kind
+    ≡ warning_line kind (min (length places) greatest_count) (least_place places)
 line_of_places kind [] = refl
 line_of_places kind (x ∷ xs) =
     let found : (place : ℕ) × (least_place (x ∷ xs) ≡ Some place) = some_least x xs in
     some_line kind (min (length (x ∷ xs)) greatest_count) found.0 (least_place (x ∷ xs)) (some_count greatest_count (length xs) (omega arith)) found.1
 
-told_is : (told : Warnings) (all : List Warning) (kind : Kind) → StandsFor told all → told_line told kind ≡ kind_line all kind
+told_is : (told : Warnings) (all : List Warning) (kind : Kind) → StandsFor told all
+    → told_line told kind ≡ warning_line kind (count_of kind all) (first_of kind all)
 told_is told all kind stands = ap (λ (noted : KindWarnings). line_of noted kind) (kept_is told all kind stands) ∙ line_of_places kind (places_of kind all)
 
 lines_are : (told : Warnings) (all : List Warning) → StandsFor told all → told_lines told ≡ warning_lines all

@@ -2,8 +2,6 @@
 use Rattle.std.specs.Prelude.{ℕ, List, ◌++◌, Option, IfSome}
 use Rattle.std.specs.Io.KnownBytes.{Consumes, IsAtEnd}
 use Rattle.gj_json.specs.Limits.{Allowed}
-use Rattle.gj_rules.specs.Verdict.{Judgement, IsJudgement}
-use Rattle.geolint_report.specs.Fed.{ShowNoRefusal}
 use Rattle.geolint_report.specs.ReadingLoop.{StopsBy as StopsInRoom}
 
 -- What a reader has to give was `had` and is `left`. The verdict is right of the bytes that were read; and where the reader tells
@@ -13,16 +11,8 @@ JudgesBy Is limits had left verdict =
     (read : List ℕ) × Consumes had left read × Is limits read verdict
     × IfSome had (λ all. Is limits all verdict × ((IsAtEnd left → ⊥) → (more : List ℕ) → Is limits (read ++ more) verdict))
 
--- a text
-abbrev pub JudgesRead : Allowed → Option (List ℕ) → Option (List ℕ) → Judgement → Type 0
-JudgesRead = JudgesBy IsJudgement
-
 -- ---- its end
 
 -- no read follows one whose bytes show what is sought
 abbrev pub StopsBy : (Allowed → List ℕ → Type 0) → Allowed → (had left : Option (List ℕ)) → (reads now_read : ℕ) → Type 0
 StopsBy ShowNone = StopsInRoom ShowNone 8192
-
--- no read follows a refusal
-abbrev pub StopsAtRefusal : Allowed → (had left : Option (List ℕ)) → (reads now_read : ℕ) → Type 0
-StopsAtRefusal = StopsBy ShowNoRefusal

@@ -1,19 +1,17 @@
 -- What a run does that asks only whether an input is valid: nothing is said of an input that is not but that it is not.
-use Rattle.std.specs.Prelude.{◌≡◌, ℕ, Bool, List, length, Option, Some, None, IfSome, ⊤, Result, Ok, Err}
+use Rattle.std.specs.Prelude.{◌≡◌, ℕ, Bool, List, length, Option, Some, None, IfSome, ⊤, Result, Ok, Err, codes}
 use Rattle.std.specs.Io.KnownBytes.{Appends, Consumes, IsAtEnd, Keeps}
 use Rattle.gj_json.specs.Limits.{Allowed}
 use Rattle.gj_coords.specs.Warnings.{Warning}
 use Rattle.gj_coords.specs.WarningsStand.{StandsFor as WarningsStandFor}
 use Rattle.gj_coords.specs.declared.warnings.Warnings.{Warnings}
 use Rattle.gj_rules.specs.Verdict.{valid, IsJudgement, NeverValid}
-use Rattle.geolint_report.specs.Fed.{ShowNoFault}
 use Rattle.geolint.specs.declared.fault.RunFault.{RunFault}
 use Rattle.geolint.specs.declared.fault.RunFault.TheVariants.{Read, Write}
 use Rattle.geolint.specs.declared.options.Options.{Options}
 use Rattle.geolint.specs.declared.options.Outcome.{Outcome}
 use Rattle.geolint.specs.declared.options.Outcome.TheVariants.{Fail}
-use Rattle.geolint.specs.Judged.{StopsBy}
-use Rattle.geolint.specs.Report.{valid_report, not_valid_line}
+use Rattle.geolint.specs.Report.{valid_report}
 use Rattle.geolint.specs.Run.{outcome_of}
 use Rattle.geolint.specs.Written.{IsFrontOut}
 
@@ -33,17 +31,11 @@ JudgesQuickly limits had left None =
     (read : List ℕ) × Consumes had left read
     × IfSome had (λ all. ((warnings : List Warning) → IsJudgement limits all (valid warnings) → ⊥) × ((IsAtEnd left → ⊥) → NeverValid limits read))
 
--- ---- its end
-
--- no read follows one whose bytes show that the input is not valid
-abbrev pub StopsAtOnce : Allowed → (had left : Option (List ℕ)) → (reads now_read : ℕ) → Type 0
-StopsAtOnce = StopsBy ShowNoFault
-
 -- ---- the report
 
 abbrev pub quick_report : Option (List Warning) → List ℕ
 quick_report (Some warnings) = valid_report warnings
-quick_report None = not_valid_line
+quick_report None = codes "not valid\n"
 
 abbrev pub quick_outcome : Bool → Option (List Warning) → Outcome
 quick_outcome strict (Some warnings) = outcome_of strict (valid warnings)

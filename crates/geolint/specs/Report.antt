@@ -24,24 +24,16 @@ abbrev pub broken_line : Fault → List ℕ
 broken_line fault =
     codes "broken G" ++ (decimal (number_of fault.rule) ++ (codes " at " ++ (decimal fault.place ++ (codes ": " ++ (rule_text fault.rule ++ codes "\n")))))
 
--- how many warnings of a kind there are, and the least place
-abbrev pub warning_line : Kind → ℕ → ℕ → List ℕ
-warning_line kind count place =
-    codes "warning W"
-    ++ (decimal (kind_number kind)
-    ++ (codes " count " ++ (decimal count ++ (codes " first " ++ (decimal place ++ (codes ": " ++ (kind_text kind ++ codes "\n")))))))
-
--- nothing where there is none
-abbrev pub line_if : Option ℕ → Kind → ℕ → List ℕ
-line_if None kind count = []
-line_if (Some place) kind count = warning_line kind count place
-
-abbrev pub kind_line : List Warning → Kind → List ℕ
-kind_line warnings kind = line_if (first_of kind warnings) kind (count_of kind warnings)
+-- how many warnings of a kind there are, and the least place; nothing where there is none
+abbrev pub warning_line : Kind → ℕ → Option ℕ → List ℕ
+warning_line kind count None = []
+warning_line kind count (Some place) =
+    codes "warning W" ++ (decimal (kind_number kind) ++ (codes " count " ++ (decimal count
+    ++ (codes " first " ++ (decimal place ++ (codes ": " ++ (kind_text kind ++ codes "\n")))))))
 
 -- in the order of the kinds' numbers
 unfoldable pub warning_lines : List Warning → List ℕ
-warning_lines warnings = flat_map (kind_line warnings) kinds
+warning_lines warnings = flat_map (λ kind. warning_line kind (count_of kind warnings) (first_of kind warnings)) kinds
 
 abbrev pub valid_report : List Warning → List ℕ
 valid_report warnings = codes "valid\n" ++ warning_lines warnings
@@ -56,10 +48,6 @@ abbrev pub report : Judgement → Option Path → List ℕ
 report (valid warnings) path = valid_report warnings
 report (broken fault) path = broken_line fault ++ path_line_if path
 report (refused fault) path = refusal_line fault
-
--- where nothing more is asked than whether an input is valid
-abbrev pub not_valid_line : List ℕ
-not_valid_line = codes "not valid\n"
 
 -- what the program says of itself
 abbrev pub version_line : List ℕ

@@ -3,15 +3,14 @@ use Rattle.std.specs.Prelude.{◌≡◌, ◌⊎◌, ℕ, Bool, if◌then◌else�
 use Rattle.std.specs.Io.KnownBytes.{Appends, Consumes, Keeps}
 use Rattle.gj_json.specs.Limits.{Allowed}
 use Rattle.gj_json.specs.declared.path.Path.{Path}
-use Rattle.gj_coords.specs.declared.fault.Fault.{Fault}
 use Rattle.geolint.specs.declared.fault.RunFault.{RunFault}
 use Rattle.geolint.specs.declared.fault.RunFault.TheVariants.{Read, Write}
 use Rattle.geolint.specs.declared.options.Options.{Options}
 use Rattle.geolint.specs.declared.options.Outcome.{Outcome}
 use Rattle.geolint.specs.declared.options.Outcome.TheVariants.{Pass, Fail}
-use Rattle.gj_rules.specs.Verdict.{Judgement, valid, broken, refused}
+use Rattle.gj_rules.specs.Verdict.{Judgement, valid, broken, IsJudgement}
 use Rattle.geolint_report.specs.ReadingLoop.{one_more}
-use Rattle.geolint.specs.Judged.{JudgesRead}
+use Rattle.geolint.specs.Judged.{JudgesBy}
 use Rattle.geolint.specs.Located.{Locates}
 use Rattle.geolint.specs.Report.{report}
 use Rattle.geolint.specs.Written.{IsFrontOut}
@@ -20,26 +19,22 @@ use Rattle.geolint.specs.Written.{IsFrontOut}
 abbrev pub outcome_of : Bool → Judgement → Outcome
 outcome_of strict (valid []) = Pass
 outcome_of strict (valid (warning ∷ more)) = if strict then Fail else Pass
-outcome_of strict (broken fault) = Fail
-outcome_of strict (refused fault) = Fail
+outcome_of strict _ = Fail
 
 -- a failed read ends a run, by a read fault
 abbrev pub CountsReadFault : ℕ → ℕ → Result Outcome RunFault → Type 0
-CountsReadFault old new (Ok outcome) = new ≡ old
 CountsReadFault old new (Err (Read fault)) = new ≡ one_more old
-CountsReadFault old new (Err (Write fault)) = new ≡ old
+CountsReadFault old new _ = new ≡ old
 
 -- a failed write ends a run, by a write fault
 abbrev pub CountsWriteFault : ℕ → ℕ → Result Outcome RunFault → Type 0
-CountsWriteFault old new (Ok outcome) = new ≡ old
-CountsWriteFault old new (Err (Read fault)) = new ≡ old
 CountsWriteFault old new (Err (Write fault)) = new ≡ one_more old
+CountsWriteFault old new _ = new ≡ old
 
 -- the offset of a read fault is how many bytes the run had from its reader, as far as the reader's count goes
 abbrev pub CountsOffset : ℕ → ℕ → Result Outcome RunFault → Type 0
-CountsOffset old new (Ok outcome) = Unit {0}
 CountsOffset old new (Err (Read fault)) = new < 2 ^ 64 - 1 → new ≡ old + fault.offset
-CountsOffset old new (Err (Write fault)) = Unit {0}
+CountsOffset old new _ = Unit {0}
 
 -- a read fault of a reader: so many bytes had come
 abbrev pub ReadFaultOf : Option (List ℕ) → Option (List ℕ) → (given now_given : ℕ) → RunFault → Type 0
@@ -52,21 +47,19 @@ abbrev pub WriteFaultOf : Option (List ℕ) → Option (List ℕ) → List ℕ �
 WriteFaultOf held holds bytes (Read fault) = ⊥
 WriteFaultOf held holds bytes (Write fault) = IsFrontOut held holds bytes fault.written
 
--- The path to what breaks a rule, sought in a second reader: none where a read of it failed. `had` and `left` are what it has
--- to give before and after, `before` and `after` its counts of failed reads.
-abbrev pub Seeks : Allowed → Option (List ℕ) → Option (List ℕ) → (before after : ℕ) → Option Path → Fault → Type 0
-Seeks limits had left before after path fault = ((after ≡ before) × Locates limits fault.place had left path) ⊎ ((after ≡ one_more before) × (path ≡ None))
-
--- For another input none is sought, and the second reader is not read: `read` and `now_read` are its counts of reads.
+-- `had` and `left` are what a second reader has to give before and after, `before` and `after` its counts of failed reads, `read`
+-- and `now_read` those of all reads.
 abbrev pub SeeksFor : Judgement → Allowed → Option (List ℕ) → Option (List ℕ) → (before after : ℕ) → (read now_read : ℕ) → Option Path → Type 0
-SeeksFor (broken fault) limits had left before after read now_read path = Seeks limits had left before after path fault
+-- the path to what breaks a rule is sought in that reader: none where a read of it failed
+SeeksFor (broken fault) limits had left before after read now_read path =
+    ((after ≡ before) × Locates limits fault.place had left path) ⊎ ((after ≡ one_more before) × (path ≡ None))
+-- for another input none is sought, and the reader is not read
 SeeksFor _ limits had left before after read now_read path = (path ≡ None) × (now_read ≡ read)
 
 -- where the first reader failed, the second is not read
 abbrev pub SparesAtReadFault : (read now_read : ℕ) → Result Outcome RunFault → Type 0
-SparesAtReadFault read now_read (Ok outcome) = Unit {0}
 SparesAtReadFault read now_read (Err (Read fault)) = now_read ≡ read
-SparesAtReadFault read now_read (Err (Write fault)) = Unit {0}
+SparesAtReadFault read now_read _ = Unit {0}
 
 -- `had` and `left` are what the reader has to give before and after, `held` and `holds` what the writer has taken; `Found` says
 -- which path the report has
@@ -74,11 +67,11 @@ abbrev pub RunsBy : (Judgement → Option Path → Type 0) → Options → Optio
     → Result Outcome RunFault → Type 0
 -- the whole report went out
 RunsBy Found options had left held holds (Ok outcome) =
-    (judgement : Judgement) × (path : Option Path) × JudgesRead options.limits had left judgement × Found judgement path
+    (judgement : Judgement) × (path : Option Path) × JudgesBy IsJudgement options.limits had left judgement × Found judgement path
     × Appends held holds (report judgement path) × (outcome ≡ outcome_of options.strict judgement)
 -- a prefix of it did
 RunsBy Found options had left held holds (Err (Write fault)) =
-    (judgement : Judgement) × (path : Option Path) × JudgesRead options.limits had left judgement × Found judgement path
+    (judgement : Judgement) × (path : Option Path) × JudgesBy IsJudgement options.limits had left judgement × Found judgement path
     × IsFrontOut held holds (report judgement path) fault.written
 -- so many bytes came, and nothing went out
 RunsBy Found options had left held holds (Err (Read fault)) = (read : List ℕ) × Consumes had left read × (length read ≡ fault.offset) × Keeps held holds

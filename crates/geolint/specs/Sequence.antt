@@ -3,7 +3,7 @@ use Rattle.std.specs.Prelude.{◌≡◌, ℕ, Bool, List, ◌++◌, length, Opti
 use Rattle.std.specs.Fmt.{decimal}
 use Rattle.std.specs.Io.KnownBytes.{Appends, Consumes, Keeps}
 use Rattle.gj_json.specs.Limits.{Allowed}
-use Rattle.gj_rules.specs.Sequence.{SequenceJudgement, all_valid, failing, IsUndecided}
+use Rattle.gj_rules.specs.Sequence.{SequenceJudgement, all_valid, failing}
 use Rattle.gj_rules.specs.SequenceJudgement.{IsSequenceJudgement}
 use Rattle.gj_rules.specs.Verdict.{valid}
 use Rattle.geolint.specs.declared.fault.RunFault.{RunFault}
@@ -11,7 +11,7 @@ use Rattle.geolint.specs.declared.fault.RunFault.TheVariants.{Read, Write}
 use Rattle.geolint.specs.declared.options.Options.{Options}
 use Rattle.geolint.specs.declared.options.Outcome.{Outcome}
 use Rattle.geolint.specs.declared.options.Outcome.TheVariants.{Fail}
-use Rattle.geolint.specs.Judged.{JudgesBy, StopsBy}
+use Rattle.geolint.specs.Judged.{JudgesBy}
 use Rattle.geolint.specs.Report.{report, warning_lines}
 use Rattle.geolint.specs.Run.{outcome_of}
 use Rattle.geolint.specs.Written.{IsFrontOut}
@@ -21,10 +21,6 @@ use Rattle.geolint.specs.Written.{IsFrontOut}
 -- what was read of a sequence is this, as are all the bytes of the reader
 abbrev pub JudgesSequence : Allowed → Option (List ℕ) → Option (List ℕ) → SequenceJudgement → Type 0
 JudgesSequence = JudgesBy IsSequenceJudgement
-
--- no read follows the byte that decides
-abbrev pub StopsAtDecision : Allowed → (had left : Option (List ℕ)) → (reads now_read : ℕ) → Type 0
-StopsAtDecision = StopsBy IsUndecided
 
 -- ---- the report
 

@@ -10,12 +10,12 @@ use Rattle.gj_coords.specs.declared.warnings.Warnings.{Warnings}
 use Rattle.gj_rules.specs.declared.sequence.verdict.SeqVerdict.{SeqVerdict}
 use Rattle.gj_rules.specs.declared.verdict.Verdict.{Verdict}
 use Rattle.gj_rules.specs.declared.verdict.Verdict.TheVariants.{Valid, Broken, NotJson}
-use Rattle.geolint.specs.Report.{line_if, broken_line, refusal_line, path_line_if}
+use Rattle.geolint.specs.Report.{warning_line, broken_line, refusal_line, path_line_if}
 use Rattle.geolint.specs.Sequence.{record_line, count_line}
 
 -- the count of a kind and its least place, as `Warnings::count` and `Warnings::first` give them
 abbrev pub told_line : Warnings → Kind → List ℕ
-told_line told kind = line_if (first_in kind told) kind (count_in kind told)
+told_line told kind = warning_line kind (count_in kind told) (first_in kind told)
 
 -- in the order of the kinds' numbers
 unfoldable pub told_lines : Warnings → List ℕ

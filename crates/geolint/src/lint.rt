@@ -1,8 +1,9 @@
 ghost use Rattle.std.specs.Prelude.{◌≡◌, ℕ, List, ◌+◌, ◌<◌, ◌≤◌, length, IfOk, IfErr};
 ghost use Rattle.std.specs.Io.KnownBytes.{Consumes};
-ghost use Rattle.gj_rules.specs.Verdict.{Judgement, Says};
+ghost use Rattle.gj_rules.specs.Verdict.{Judgement, IsJudgement, Says};
+ghost use Rattle.geolint_report.specs.Fed.{ShowNoRefusal};
 ghost use Rattle.geolint_report.specs.Judged.{CountsFailure};
-ghost use Rattle.geolint.specs.Judged.{JudgesRead, StopsAtRefusal};
+ghost use Rattle.geolint.specs.Judged.{JudgesBy, StopsBy};
 
 use crate::fault::ReadFault;
 use crate::source::{Source, read};
@@ -18,14 +19,14 @@ use gj_rules::{Linter, Verdict, one_verdict};
 #[inline(never)]
 pub fn lint_reader<S: Source>(reader: &mut S, limits: Limits) -> Result<Verdict, ReadFault>
     ensures few { S.reads reader.new ≤ S.reads reader.old + (limits.bytes + 1) }
-    ensures stops { StopsAtRefusal limits (S.remaining reader.old) (S.remaining reader.new) (S.reads reader.old) (S.reads reader.new) }
+    ensures stops { StopsBy ShowNoRefusal limits (S.remaining reader.old) (S.remaining reader.new) (S.reads reader.old) (S.reads reader.new) }
     ensures failed { CountsFailure (S.failed_reads reader.old) (S.failed_reads reader.new) result }
     ensures given { IfErr result (λ fault. S.bytes_given reader.new < u64.MAX
         → S.bytes_given reader.new ≡ S.bytes_given reader.old + fault.offset) }
     ensures offset { IfErr result (λ fault.
         (read : List ℕ) × Consumes (S.remaining reader.old) (S.remaining reader.new) read × (length read ≡ fault.offset)) }
     ensures verdict { IfOk result (λ verdict. (judgement : Judgement) × Says verdict judgement
-        × JudgesRead limits (S.remaining reader.old) (S.remaining reader.new) judgement) }
+        × JudgesBy IsJudgement limits (S.remaining reader.old) (S.remaining reader.new) judgement) }
 {
     one_verdict();
     let mut linter = Linter::new(limits);

@@ -4,7 +4,9 @@ ghost use Rattle.std.specs.Io.KnownBytes.{Consumes, Appends};
 ghost use Rattle.gj_coords.specs.Warnings.{Warning};
 ghost use Rattle.geolint_report.specs.Judged.{CountsFailure, valid_in};
 ghost use Rattle.geolint_report.specs.ReadingLoop.{one_more};
-ghost use Rattle.geolint.specs.Quick.{SaysValid, JudgesQuickly, StopsAtOnce, QuickRuns, quick_report, quick_outcome};
+ghost use Rattle.geolint_report.specs.Fed.{ShowNoFault};
+ghost use Rattle.geolint.specs.Judged.{StopsBy};
+ghost use Rattle.geolint.specs.Quick.{SaysValid, JudgesQuickly, QuickRuns, quick_report, quick_outcome};
 ghost use Rattle.geolint.specs.Run.{CountsReadFault, CountsWriteFault, CountsOffset, WriteFaultOf};
 ghost use Rattle.geolint.specs.Written.{IsFrontOut};
 
@@ -30,7 +32,7 @@ pub fn lint_quickly<S: Source>(
     limits: Limits,
 ) -> Result<Option<Warnings>, ReadFault>
     ensures few { S.reads reader.new ≤ S.reads reader.old + (limits.bytes + 1) }
-    ensures stops { StopsAtOnce limits (S.remaining reader.old) (S.remaining reader.new) (S.reads reader.old) (S.reads reader.new) }
+    ensures stops { StopsBy ShowNoFault limits (S.remaining reader.old) (S.remaining reader.new) (S.reads reader.old) (S.reads reader.new) }
     ensures failed { CountsFailure (S.failed_reads reader.old) (S.failed_reads reader.new) result }
     ensures given { IfErr result (λ fault. S.bytes_given reader.new < u64.MAX
         → S.bytes_given reader.new ≡ S.bytes_given reader.old + fault.offset) }
@@ -67,7 +69,7 @@ pub fn run_quickly<S: Source, W: Sink>(
     options: Options,
 ) -> Result<Outcome, RunFault>
     ensures few { S.reads reader.new ≤ S.reads reader.old + (options.limits.bytes + 1) }
-    ensures stops { StopsAtOnce options.limits (S.remaining reader.old) (S.remaining reader.new) (S.reads reader.old) (S.reads reader.new) }
+    ensures stops { StopsBy ShowNoFault options.limits (S.remaining reader.old) (S.remaining reader.new) (S.reads reader.old) (S.reads reader.new) }
     ensures reads { CountsReadFault (S.failed_reads reader.old) (S.failed_reads reader.new) result }
     ensures given { CountsOffset (S.bytes_given reader.old) (S.bytes_given reader.new) result }
     ensures writes { CountsWriteFault (W.failed_writes writer.old) (W.failed_writes writer.new) result }

@@ -1,10 +1,10 @@
 //! The report of a verdict.
-ghost use Rattle.std.specs.Prelude.{◌≡◌, ◌+◌, ◌≤◌, length, OnOk, IfErr};
+ghost use Rattle.std.specs.Prelude.{◌≡◌, ◌+◌, ◌≤◌, length, OnOk, IfErr, codes};
 ghost use Rattle.std.specs.Io.KnownBytes.{Appends};
 ghost use Rattle.gj_rules.specs.Sequence.{SequenceJudgement, SequenceSays};
 ghost use Rattle.gj_rules.specs.Verdict.{Judgement, Says};
 ghost use Rattle.geolint_report.specs.Judged.{CountsFailure};
-ghost use Rattle.geolint.specs.Report.{refusal_line, broken_line, not_valid_line, report, version_line};
+ghost use Rattle.geolint.specs.Report.{refusal_line, broken_line, report, version_line};
 ghost use Rattle.geolint.specs.Room.{written_in, Adds};
 ghost use Rattle.geolint.specs.Sequence.{sequence_report};
 ghost use Rattle.geolint.specs.VerdictReport.{verdict_report, sequence_verdict_report};
@@ -128,9 +128,9 @@ pub fn write_seq_report<W: Sink>(verdict: SeqVerdict, writer: &mut W) -> Result<
 
 /// Writes the line of an input that is not valid, where nothing more is reported, as `write_report` does a report.
 pub fn write_not_valid<W: Sink>(writer: &mut W) -> Result<(), WriteFault>
-    ensures whole { OnOk result (Appends (W.taken writer.old) (W.taken writer.new) not_valid_line) }
+    ensures whole { OnOk result (Appends (W.taken writer.old) (W.taken writer.new) (codes "not valid\n")) }
     ensures front { IfErr result (λ fault.
-        IsFrontOut (W.taken writer.old) (W.taken writer.new) not_valid_line fault.written) }
+        IsFrontOut (W.taken writer.old) (W.taken writer.new) (codes "not valid\n") fault.written) }
     ensures failed { CountsFailure (W.failed_writes writer.old) (W.failed_writes writer.new) result }
 {
     write_bytes(b"not valid\n", writer)

@@ -1,11 +1,12 @@
 ghost use Rattle.std.specs.Prelude.{◌≡◌, ◌+◌, ◌≤◌, true, false, MatchResult, IfOk, OnOk, IfErr};
 ghost use Rattle.std.specs.Io.KnownBytes.{Appends};
-ghost use Rattle.gj_rules.specs.Verdict.{Judgement, Says};
-ghost use Rattle.geolint.specs.Judged.{JudgesRead, StopsAtRefusal};
-ghost use Rattle.geolint.specs.Quick.{QuickRuns, StopsAtOnce};
+ghost use Rattle.gj_rules.specs.Verdict.{Judgement, broken, IsJudgement, Says};
+ghost use Rattle.geolint_report.specs.Fed.{ShowNoRefusal, ShowNoFault};
+ghost use Rattle.geolint.specs.Judged.{JudgesBy, StopsBy};
+ghost use Rattle.geolint.specs.Quick.{QuickRuns};
 ghost use Rattle.geolint.specs.Report.{report as report_of};
 ghost use Rattle.geolint_report.specs.ReadingLoop.{one_more};
-ghost use Rattle.geolint.specs.Run.{CountsReadFault, CountsWriteFault, CountsOffset, Runs, RunsBy, Seeks, SeeksFor, SparesAtReadFault, ReadFaultOf};
+ghost use Rattle.geolint.specs.Run.{CountsReadFault, CountsWriteFault, CountsOffset, Runs, RunsBy, SeeksFor, SparesAtReadFault, ReadFaultOf};
 ghost use Rattle.geolint.specs.Run.{WriteFaultOf, outcome_of};
 
 use crate::fault::RunFault;
@@ -39,9 +40,9 @@ pub fn run<S: Source, W: Sink>(
         (W.taken writer.old) (W.taken writer.new) result }
     ensures quick { options.quick ≡ true → QuickRuns options (S.remaining reader.old) (S.remaining reader.new)
         (W.taken writer.old) (W.taken writer.new) result }
-    ensures stops { options.quick ≡ true → StopsAtOnce options.limits (S.remaining reader.old) (S.remaining reader.new)
+    ensures stops { options.quick ≡ true → StopsBy ShowNoFault options.limits (S.remaining reader.old) (S.remaining reader.new)
         (S.reads reader.old) (S.reads reader.new) }
-    ensures refused { options.quick ≡ false → StopsAtRefusal options.limits (S.remaining reader.old) (S.remaining reader.new)
+    ensures refused { options.quick ≡ false → StopsBy ShowNoRefusal options.limits (S.remaining reader.old) (S.remaining reader.new)
         (S.reads reader.old) (S.reads reader.new) }
 {
     if options.quick {
@@ -74,9 +75,9 @@ pub fn run_with_path<S: Source, T: Source, W: Sink>(
         options (S.remaining first.old) (S.remaining first.new) (W.taken writer.old) (W.taken writer.new) result }
     ensures quick { options.quick ≡ true → QuickRuns options (S.remaining first.old) (S.remaining first.new)
         (W.taken writer.old) (W.taken writer.new) result }
-    ensures stops { options.quick ≡ true → StopsAtOnce options.limits (S.remaining first.old) (S.remaining first.new)
+    ensures stops { options.quick ≡ true → StopsBy ShowNoFault options.limits (S.remaining first.old) (S.remaining first.new)
         (S.reads first.old) (S.reads first.new) }
-    ensures refused { options.quick ≡ false → StopsAtRefusal options.limits (S.remaining first.old) (S.remaining first.new)
+    ensures refused { options.quick ≡ false → StopsBy ShowNoRefusal options.limits (S.remaining first.old) (S.remaining first.new)
         (S.reads first.old) (S.reads first.new) }
     ensures unread { options.quick ≡ true → second.new ≡ second.old }
 {
@@ -91,11 +92,11 @@ pub fn run_with_path<S: Source, T: Source, W: Sink>(
 /// The verdict of what a reader gives.
 fn judge<S: Source>(reader: &mut S, limits: Limits) -> Result<Verdict, RunFault>
     ensures few { S.reads reader.new ≤ S.reads reader.old + (limits.bytes + 1) }
-    ensures refused { StopsAtRefusal limits (S.remaining reader.old) (S.remaining reader.new) (S.reads reader.old) (S.reads reader.new) }
+    ensures refused { StopsBy ShowNoRefusal limits (S.remaining reader.old) (S.remaining reader.new) (S.reads reader.old) (S.reads reader.new) }
     ensures reads { MatchResult result (λ verdict. S.failed_reads reader.new ≡ S.failed_reads reader.old)
         (λ fault. S.failed_reads reader.new ≡ one_more (S.failed_reads reader.old)) }
     ensures verdict { IfOk result (λ verdict. (judgement : Judgement) × Says verdict judgement
-        × JudgesRead limits (S.remaining reader.old) (S.remaining reader.new) judgement) }
+        × JudgesBy IsJudgement limits (S.remaining reader.old) (S.remaining reader.new) judgement) }
     ensures fault { IfErr result (λ fault. ReadFaultOf (S.remaining reader.old) (S.remaining reader.new)
         (S.bytes_given reader.old) (S.bytes_given reader.new) fault) }
 {
@@ -140,8 +141,8 @@ fn sought_path<T: Source>(verdict: Verdict, reader: &mut T, limits: Limits) -> O
 
 fn path_to<T: Source>(fault: Fault, reader: &mut T, limits: Limits) -> Option<Path>
     ensures few { T.reads reader.new ≤ T.reads reader.old + (limits.bytes + 1) }
-    ensures sought { Seeks limits (T.remaining reader.old) (T.remaining reader.new)
-        (T.failed_reads reader.old) (T.failed_reads reader.new) result fault }
+    ensures sought { SeeksFor (broken fault) limits (T.remaining reader.old) (T.remaining reader.new)
+        (T.failed_reads reader.old) (T.failed_reads reader.new) (T.reads reader.old) (T.reads reader.new) result }
 {
     match locate_reader(reader, limits, fault.place) {
         Ok(path) => path,

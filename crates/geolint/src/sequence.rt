@@ -1,11 +1,12 @@
 //! A run over a text sequence (RFC 8142).
 ghost use Rattle.std.specs.Prelude.{◌≡◌, ℕ, List, ◌+◌, ◌<◌, ◌≤◌, length, MatchResult, IfOk, OnOk, IfErr};
 ghost use Rattle.std.specs.Io.KnownBytes.{Consumes, Appends};
-ghost use Rattle.gj_rules.specs.Sequence.{SequenceJudgement, SequenceSays};
+ghost use Rattle.gj_rules.specs.Sequence.{SequenceJudgement, SequenceSays, IsUndecided};
 ghost use Rattle.geolint_report.specs.Judged.{CountsFailure};
 ghost use Rattle.geolint_report.specs.ReadingLoop.{one_more};
+ghost use Rattle.geolint.specs.Judged.{StopsBy};
 ghost use Rattle.geolint.specs.Run.{CountsReadFault, CountsWriteFault, CountsOffset, WriteFaultOf};
-ghost use Rattle.geolint.specs.Sequence.{JudgesSequence, StopsAtDecision, SequenceRuns, sequence_report, sequence_outcome};
+ghost use Rattle.geolint.specs.Sequence.{JudgesSequence, SequenceRuns, sequence_report, sequence_outcome};
 
 use crate::fault::{ReadFault, RunFault};
 use crate::options::{Options, Outcome};
@@ -24,7 +25,7 @@ use gj_rules::{SeqVerdict, Sequence, Verdict, one_sequence_verdict};
 #[inline(never)]
 pub fn lint_sequence<S: Source>(reader: &mut S, limits: Limits) -> Result<SeqVerdict, ReadFault>
     ensures few { S.reads reader.new ≤ S.reads reader.old + (limits.bytes + 1) }
-    ensures stops { StopsAtDecision limits (S.remaining reader.old) (S.remaining reader.new) (S.reads reader.old) (S.reads reader.new) }
+    ensures stops { StopsBy IsUndecided limits (S.remaining reader.old) (S.remaining reader.new) (S.reads reader.old) (S.reads reader.new) }
     ensures failed { CountsFailure (S.failed_reads reader.old) (S.failed_reads reader.new) result }
     ensures given { IfErr result (λ fault. S.bytes_given reader.new < u64.MAX
         → S.bytes_given reader.new ≡ S.bytes_given reader.old + fault.offset) }
@@ -50,7 +51,7 @@ pub fn run_sequence<S: Source, W: Sink>(
     options: Options,
 ) -> Result<Outcome, RunFault>
     ensures few { S.reads reader.new ≤ S.reads reader.old + (options.limits.bytes + 1) }
-    ensures stops { StopsAtDecision options.limits (S.remaining reader.old) (S.remaining reader.new) (S.reads reader.old) (S.reads reader.new) }
+    ensures stops { StopsBy IsUndecided options.limits (S.remaining reader.old) (S.remaining reader.new) (S.reads reader.old) (S.reads reader.new) }
     ensures reads { CountsReadFault (S.failed_reads reader.old) (S.failed_reads reader.new) result }
     ensures given { CountsOffset (S.bytes_given reader.old) (S.bytes_given reader.new) result }
     ensures writes { CountsWriteFault (W.failed_writes writer.old) (W.failed_writes writer.new) result }

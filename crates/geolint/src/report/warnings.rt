@@ -1,5 +1,5 @@
 //! The report of a valid text.
-ghost use Rattle.std.specs.Prelude.{◌+◌, ◌*◌, ◌≤◌, ◌++◌, codes, length};
+ghost use Rattle.std.specs.Prelude.{◌+◌, ◌*◌, ◌≤◌, ◌++◌, Some, codes, length};
 ghost use Rattle.gj_coords.specs.Warnings.{kinds};
 ghost use Rattle.geolint.specs.Report.{warning_line};
 ghost use Rattle.geolint.specs.Room.{written_in, Adds};
@@ -13,7 +13,7 @@ use itoa::Buffer;
 /// The line of a kind with this number of warnings, the first of them at this place.
 fn push_warning(kind: Kind, count: u32, place: u64, room: &mut Room)
     requires { length (written_in room.old) + MOST_LINE ≤ CAPACITY }
-    ensures line { Adds room.old room.new (warning_line kind count place) }
+    ensures line { Adds room.old room.new (warning_line kind count (Some place)) }
     ensures short { length (written_in room.new) ≤ length (written_in room.old) + MOST_LINE }
 {
     let mut number_digits = Buffer::new();
