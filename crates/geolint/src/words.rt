@@ -11,6 +11,9 @@ use std::alloc::{AllocError, Global};
 /// The most bytes that an input may have.
 const MOST_BYTES: i64 = 1 << 60;
 
+/// The options without a value.
+static FLAGS: [&str; 3] = ["strict", "quick", "seq"];
+
 /// What the words ask for.
 #[derive(Drop)]
 pub struct Order {
@@ -65,36 +68,36 @@ pub fn read_words(alloc: Global, words: &[String]) -> Result<Order, WordsFault> 
 }
 
 fn command<'a>(alloc: Global) -> Result<Command<'a>, AllocError> {
-    let path = Arg::new(alloc, "path")
-        .required(true)
-        .action(ArgAction::Set);
-    let file = with_options(alloc, Command::new(alloc, "file"))?.arg(path)?;
-    let stdin = with_options(alloc, Command::new(alloc, "stdin"))?;
     // What clap would print of a version is not asked for: `write_version` says it.
-    Command::new(alloc, "geolint")
+    let command = Command::new(alloc, "geolint")
         .version("")
         .no_binary_name(true)
         .subcommand_required(true)
-        .subcommand(file)?
-        .subcommand(stdin)
+        .subcommand(file(alloc)?)?;
+    command.subcommand(with_options(alloc, Command::new(alloc, "stdin"))?)
 }
 
-/// The options of both commands.
+fn file<'a>(alloc: Global) -> Result<Command<'a>, AllocError> {
+    let path = Arg::new(alloc, "path")
+        .required(true)
+        .action(ArgAction::Set);
+    with_options(alloc, Command::new(alloc, "file"))?.arg(path)
+}
+
+/// The options of both commands. Each is given over before the next is made.
 fn with_options<'a>(alloc: Global, command: Command<'a>) -> Result<Command<'a>, AllocError> {
-    let strict = Arg::new(alloc, "strict")
-        .long("strict")
-        .action(ArgAction::SetTrue);
-    let quick = Arg::new(alloc, "quick")
-        .long("quick")
-        .action(ArgAction::SetTrue);
-    let seq = Arg::new(alloc, "seq")
-        .long("seq")
-        .action(ArgAction::SetTrue);
+    let mut command = command;
+    for name in FLAGS.iter() {
+        let flag = Arg::new(alloc, name)
+            .long(name)
+            .action(ArgAction::SetTrue);
+        command = command.arg(flag)?;
+    }
     let bytes = Arg::new(alloc, "max-bytes")
         .long("max-bytes")
         .action(ArgAction::Set)
         .value_parser(value_parser!(u64).range(1..=MOST_BYTES));
-    command.arg(strict)?.arg(quick)?.arg(seq)?.arg(bytes)
+    command.arg(bytes)
 }
 
 fn order_of(alloc: Global, matches: &ArgMatches<'_>) -> Result<Order, WordsFault> {
