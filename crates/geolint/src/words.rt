@@ -88,9 +88,7 @@ fn file<'a>(alloc: Global) -> Result<Command<'a>, AllocError> {
 fn with_options<'a>(alloc: Global, command: Command<'a>) -> Result<Command<'a>, AllocError> {
     let mut command = command;
     for name in FLAGS.iter() {
-        let flag = Arg::new(alloc, name)
-            .long(name)
-            .action(ArgAction::SetTrue);
+        let flag = Arg::new(alloc, name).long(name).action(ArgAction::SetTrue);
         command = command.arg(flag)?;
     }
     let bytes = Arg::new(alloc, "max-bytes")
