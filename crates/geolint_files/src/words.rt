@@ -14,7 +14,7 @@ use crate::arguments::to_bytes;
 use crate::command::command;
 use crate::cut_words::{Cut, cut_in, wrong_cut};
 use clap::error::ErrorKind;
-use clap::{ArgMatches, Error};
+use clap::{ArgMatches, Command, Error};
 use gj_coords::{KINDS, Kind};
 use gj_json::Limits;
 use gj_manual::{Topic, named};
@@ -67,56 +67,73 @@ pub struct Parts {
     pub overwrites: bool,
 }
 
+/// Why words that `clap` takes give no order.
+#[derive(Clone, Copy)]
+enum Wrong<'a> {
+    /// An option does not take this word.
+    Word(&'a str, &'static str),
+    /// Options that do not go together, or not with these paths.
+    Line(&'static str),
+    Memory,
+}
+
+impl<'a> From<AllocError> for Wrong<'a> {
+    fn from(_error: AllocError) -> Wrong<'a> {
+        Wrong::Memory
+    }
+}
+
 /// The order that the words give. An error has the text for standard error, or that of `--help` and `--version`.
 pub fn order_in(alloc: Global, words: &[String]) -> Result<Order, Error> {
     let mut command = command(alloc)?;
     let matches = command.try_get_matches_from_mut(words)?;
-    match order_of(alloc, &matches)? {
+    match order_of(alloc, &matches) {
         Ok(order) => Ok(order),
-        Err(wrong) => Err(command.error(ErrorKind::InvalidValue, wrong.as_str())?),
+        Err(wrong) => Err(refusal(alloc, &mut command, wrong)?),
     }
 }
 
-/// What was asked for, or the line on a word that is wrong.
-fn order_of(alloc: Global, given: &ArgMatches<'_>) -> Result<Result<Order, String>, AllocError> {
+/// The error of words that `clap` takes.
+fn refusal(
+    alloc: Global,
+    command: &mut Command<'_>,
+    wrong: Wrong<'_>,
+) -> Result<Error, AllocError> {
+    let line = match wrong {
+        Wrong::Word(word, option) => invalid(alloc, word, option)?,
+        Wrong::Line(line) => String::from_str(alloc, line)?,
+        Wrong::Memory => return Err(AllocError),
+    };
+    command.error(ErrorKind::InvalidValue, line.as_str())
+}
+
+/// What was asked for. What takes no memory is read first.
+fn order_of<'a>(alloc: Global, given: &ArgMatches<'a>) -> Result<Order, Wrong<'a>> {
     let options = match options_of(given) {
         Ok(options) => options,
-        Err(word) => return Ok(Err(invalid(alloc, word, FOR_KINDS)?)),
+        Err(word) => return Err(Wrong::Word(word, FOR_KINDS)),
     };
     let explained = match explained_in(given) {
         Ok(explained) => explained,
-        Err(word) => return Ok(Err(invalid(alloc, word, FOR_CODE)?)),
+        Err(word) => return Err(Wrong::Word(word, FOR_CODE)),
     };
-    let endings = match endings_in(alloc, given)? {
-        Ok(endings) => endings,
-        Err(wrong) => return Ok(Err(wrong)),
-    };
-    let list = match given.get_str("files-from") {
-        Some(name) => Some(to_bytes(alloc, name)?),
-        None => None,
-    };
-    let paths = paths_in(alloc, given, list.is_some())?;
-    if let Some(wrong) = wrong_split(given, paths.as_slice(), list.is_some()) {
-        return Ok(Err(String::from_str(alloc, wrong)?));
-    }
     let cut = match cut_in(given) {
         Ok(cut) => cut,
-        Err(word) => return Ok(Err(invalid(alloc, word, FOR_PART)?)),
+        Err(word) => return Err(Wrong::Word(word, FOR_PART)),
     };
-    if let Some(wrong) = wrong_cut(given, paths.as_slice(), list.is_some()) {
-        return Ok(Err(String::from_str(alloc, wrong)?));
-    }
-    Ok(Ok(Order {
+    let list = list_in(alloc, given)?;
+    let paths = named_in(alloc, given, list.is_some())?;
+    Ok(Order {
         options,
         explained,
         paths,
         list,
         name_end: name_end_in(given),
-        endings,
+        endings: endings_in(alloc, given)?,
         allows_empty: given.get_flag("allow-empty"),
         parts: parts_in(alloc, given)?,
         cut,
-    }))
+    })
 }
 
 /// The line on a word that an option does not take.
@@ -124,19 +141,50 @@ fn invalid(alloc: Global, word: &str, option: &str) -> Result<String, AllocError
     format!(in alloc; "invalid value '{word}' for {option}")
 }
 
-/// The endings beside the usual ones, or the line on a word that is none.
-fn endings_in(
-    alloc: Global,
-    given: &ArgMatches<'_>,
-) -> Result<Result<Vec<Vec<u8>>, String>, AllocError> {
+/// The file with more names.
+fn list_in(alloc: Global, given: &ArgMatches<'_>) -> Result<Option<Vec<u8>>, AllocError> {
+    match given.get_str("files-from") {
+        Some(name) => Ok(Some(to_bytes(alloc, name)?)),
+        None => Ok(None),
+    }
+}
+
+/// The endings beside the usual ones.
+fn endings_in<'a>(alloc: Global, given: &ArgMatches<'a>) -> Result<Vec<Vec<u8>>, Wrong<'a>> {
     let mut endings = Vec::new(alloc);
     for word in given.get_strs("ending").unwrap_or(&[]) {
-        match ending_in(alloc, word)? {
-            Some(ending) => endings.push(ending)?,
-            None => return Ok(Err(invalid(alloc, word, FOR_ENDING)?)),
+        if !add_ending(alloc, word, &mut endings)? {
+            return Err(Wrong::Word(word, FOR_ENDING));
         }
     }
-    Ok(Ok(endings))
+    Ok(endings)
+}
+
+/// Adds the ending that a word names, and returns whether it names one.
+fn add_ending(alloc: Global, word: &str, endings: &mut Vec<Vec<u8>>) -> Result<bool, AllocError> {
+    match ending_in(alloc, word)? {
+        Some(ending) => {
+            endings.push(ending)?;
+            Ok(true)
+        }
+        None => Ok(false),
+    }
+}
+
+/// The paths that are given, if they can be split, or checked in parts, where that is asked for.
+fn named_in<'a>(
+    alloc: Global,
+    given: &ArgMatches<'a>,
+    has_list: bool,
+) -> Result<Vec<Vec<u8>>, Wrong<'a>> {
+    let paths = paths_in(alloc, given, has_list)?;
+    if let Some(line) = wrong_split(given, paths.as_slice(), has_list) {
+        return Err(Wrong::Line(line));
+    }
+    match wrong_cut(given, paths.as_slice(), has_list) {
+        Some(line) => Err(Wrong::Line(line)),
+        None => Ok(paths),
+    }
 }
 
 /// The paths that are given: standard input where there is none, and no list.
