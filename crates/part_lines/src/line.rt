@@ -7,7 +7,7 @@ use report_forms::options::Kinds;
 use sequence_parts::{CheckedPart, Share};
 
 /// A file as the system showed it when a part of it was checked.
-#[derive(Drop)]
+#[derive(Drop, PartialEq)]
 pub struct FileState {
     /// Its name, as it was given.
     pub path: String,
