@@ -9,3 +9,4 @@ pub mod SteadySteps
 pub mod WarningsOfLevels
 pub mod PreciseNumbers
 pub mod CutPositions
+pub mod PlainPoints

@@ -12,5 +12,6 @@ pub mod Box
 pub mod BoxWarnings
 pub mod SimpleFaults
 pub mod Coordinates
+pub mod PlainPoint
 pub mod Bbox
 pub mod Internal

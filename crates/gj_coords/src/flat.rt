@@ -1,9 +1,10 @@
 //! A position that comes as one `Flat`.
-ghost use Rattle.std.specs.Prelude.{◌≡◌, Some, IfSome, true, false};
+ghost use Rattle.std.specs.Prelude.{◌≡◌, ◌↔◌, ◌≤◌, Some, IfSome, IsTrue, is_some, true, false};
 ghost use Rattle.gj_number.specs.Short.{exact_of};
 ghost use Rattle.gj_coords.specs.CoordinateWarnings.{is_precise};
 ghost use Rattle.gj_coords.specs.Internal.PositionGather.{precise_with, position_noted, sound_noted};
 ghost use Rattle.gj_coords.specs.Winding.{corner_of};
+ghost use Rattle.gj_coords.specs.PlainPoint.{IsNumberShort, IsWrittenShort, IsWrittenPlain};
 ghost use Rattle.gj_coords.specs.Internal.KeptWarnings.{nothing_noted};
 ghost use Rattle.gj_coords.specs.Internal.FlatPosition.{flat_values, flat_position, flat_precise, precise_noted, third_value, third_precise};
 ghost use Rattle.gj_coords.specs.Internal.FlatPosition.{number_precise, flat_count, least_place, flat_misshapen, flat_ring, IsJudged, IsPlain};
@@ -74,6 +75,7 @@ fn is_too_precise(number: Short) -> bool
 fn is_pair_short(first: Short, second: Short) -> bool
     ensures first { result ≡ true → is_precise (Some (exact_of first)) ≡ false }
     ensures second { result ≡ true → is_precise (Some (exact_of second)) ≡ false }
+    ensures written { IsTrue result ↔ (first.places ≤ 7) × (second.places ≤ 7) }
 {
     (first.places | second.places) <= MOST_PLACES
 }
@@ -81,7 +83,8 @@ fn is_pair_short(first: Short, second: Short) -> bool
 /// Whether a number is written with at most seven places, so that it is not too precise.
 #[inline(always)]
 fn is_written_short(number: Short) -> bool
-    ensures { result ≡ true → is_precise (Some (exact_of number)) ≡ false }
+    ensures short { result ≡ true → is_precise (Some (exact_of number)) ≡ false }
+    ensures written { IsTrue result ↔ (number.places ≤ 7) }
 {
     number.places <= MOST_PLACES
 }
@@ -89,7 +92,8 @@ fn is_written_short(number: Short) -> bool
 /// Whether there is no third number, or one that is written with at most seven places.
 #[inline(always)]
 fn is_third_short(third: &Option<Numbered>) -> bool
-    ensures { result ≡ true → (noted : KindWarnings) → third_precise third.now noted ≡ noted }
+    ensures short { result ≡ true → (noted : KindWarnings) → third_precise third.now noted ≡ noted }
+    ensures written { IsTrue result ↔ IfSome third.now IsNumberShort }
 {
     match third {
         Some(number) => is_written_short(number.value),
@@ -100,7 +104,8 @@ fn is_third_short(third: &Option<Numbered>) -> bool
 /// Whether all its numbers are written with at most seven places, so that none is too precise.
 #[inline(always)]
 fn is_all_short(flat: &Flat) -> bool
-    ensures { result ≡ true → flat_precise flat.now ≡ nothing_noted }
+    ensures short { result ≡ true → flat_precise flat.now ≡ nothing_noted }
+    ensures written { IsTrue result ↔ IsWrittenShort flat.now }
 {
     is_pair_short(flat.first.value, flat.second.value) && is_third_short(&flat.third)
 }
@@ -196,7 +201,8 @@ pub fn judged(flat: &Flat) -> Option<JudgedPair>
 #[tactic(auto, using(crate::proofs::Walks::PreciseNumbers::plain_if))]
 #[inline(always)]
 pub fn plain_corner(flat: &Flat) -> Option<Corner>
-    ensures { IfSome result (λ corner. IsPlain flat.now corner) }
+    ensures plain { IfSome result (λ corner. IsPlain flat.now corner) }
+    ensures written { IsTrue (is_some result) ↔ IsWrittenPlain flat.now }
 {
     if is_all_short(flat) {
         corner(flat)

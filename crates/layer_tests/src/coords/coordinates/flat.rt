@@ -1,7 +1,7 @@
 //! Positions given as one `Flat`, or many at a time by their cut values, beside the same given event by event.
 use super::both::{Both, Row, WarnedRow, faults_of, warnings_of};
 use crate::checks::{equal, holds};
-use crate::coords::sample::tell;
+use crate::coords::sample::tell_spaced;
 use gj_coords::{Coordinates, SimpleFaults, Warnings};
 use gj_json::{CutPosition, Event, EventSink, Flat};
 use std::process::Abort;
@@ -81,22 +81,13 @@ impl EventSink for Grouped {
     fn pass(&mut self, _left: u16) {}
 }
 
-/// Reads the text and spaces as one piece, in which the reader looks at each array of numbers as a whole.
-fn read(text: &str, grouped: &mut Grouped) {
-    let mut piece = [b' '; 512];
-    for (to, from) in piece.iter_mut().zip(text.as_bytes()) {
-        *to = *from;
-    }
-    tell(&piece, grouped);
-}
-
 fn expect_same(rt: &impl Abort, text: &str, flats: u64, cuts: usize) {
     let both = Both::of_text(text);
     let mut grouped = Grouped::new();
-    read("[[[1,2],[3,4],[5,6],[7,8],[9,10]", &mut grouped);
+    tell_spaced("[[[1,2],[3,4],[5,6],[7,8],[9,10]", &mut grouped);
     grouped.walk.again();
     grouped.flats = 0;
-    read(text, &mut grouped);
+    tell_spaced(text, &mut grouped);
     equal(rt, grouped.flats, flats, text);
     holds(rt, grouped.cuts == cuts, text);
     grouped.expect_as(rt, &both, text);
@@ -110,11 +101,7 @@ fn expect_whole(rt: &impl Abort, object: &str, value: &str) {
     let mut only = OnlyFlats {
         grouped: Grouped::new(),
     };
-    let mut piece = [b' '; 512];
-    for (to, from) in piece.iter_mut().zip(object.as_bytes()) {
-        *to = *from;
-    }
-    tell(&piece, &mut only);
+    tell_spaced(object, &mut only);
     equal(rt, only.grouped.flats, 1, object);
     only.grouped.expect_as(rt, &both, object);
     only.grouped.expect_at_once(rt, object);

@@ -1,0 +1,52 @@
+-- A value that comes as one plain position breaks no rule as a Point, and deserves no warning.
+use Rattle.std.proofs.Common.{◌≡◌, ◌∙◌, ◌<◌, ◌^◌, [], length, Option, Some, None, IfSome, IsTrue, is_some, refl, sym, ap, subst, arith}
+use Rattle.gj_json.specs.declared.flat.Flat.{Flat}
+use Rattle.gj_json.specs.declared.flat.Numbered.{Numbered}
+use Rattle.gj_json.specs.Flat.{flat_events}
+use Rattle.gj_json.specs.Events.{value_events}
+use Rattle.gj_json.specs.Tree.{Tree}
+use Rattle.gj_coords.specs.declared.simple.Simple.TheVariants.{Point}
+use Rattle.gj_coords.specs.declared.winding.Corner.{Corner}
+use Rattle.gj_coords.specs.Coordinates.{IsAt}
+use Rattle.gj_coords.specs.Fault.{least}
+use Rattle.gj_coords.specs.PlainPoint.{IsPlainPoint}
+use Rattle.gj_coords.specs.Shape.{coordinates_faults}
+use Rattle.gj_coords.specs.Internal.CoordinatesKept.{first_answer, coordinates_kept}
+use Rattle.gj_coords.specs.Internal.FlatPosition.{flat_first, IsPlain}
+use Rattle.gj_coords.specs.Internal.GatheredWarnings.{no_warned, all_in}
+use Rattle.gj_coords.specs.Internal.KeptWarnings.{no_warnings}
+use Rattle.gj_coords.specs.Internal.LevelGather.{level, fault_as, warned_as}
+use Rattle.gj_coords.specs.Internal.Progress.{waiting, done, progress_machine}
+use Rattle.gj_coords.proofs.Lists.KeptOfShortValues.{countable}
+use Rattle.gj_coords.proofs.Readers.RestsOfValues.{reads_on_answers}
+use Rattle.gj_coords.proofs.Walks.AnswersOfWalks.{none_read, flat_read}
+use Rattle.gj_coords.proofs.Walks.FaultsOfLevels.{first_least}
+use Rattle.gj_coords.proofs.Walks.FlatLaws.{flat_value}
+use Rattle.gj_coords.proofs.Walks.HeldPositions.{flat_fault, flat_warned}
+
+few_by : (a b : Numbered) (third : Option Numbered) (f : Flat) → f.first ≡ a → f.second ≡ b → f.third ≡ third → length (flat_events f) < 2 ^ 64
+few_by a b None f i j k = rw k (omega arith)
+few_by a b (Some number) f i j k = rw k (omega arith)
+
+-- its events are few
+few_events : (f : Flat) → length (flat_events f) < 2 ^ 64
+few_events f = few_by f.first f.second f.third f refl refl refl
+
+-- the position is what the walk answers of it
+answer_is : (f : Flat) (v : Tree) → value_events v ≡ flat_events f → level (flat_first f) ≡ first_answer v
+answer_is f v e =
+    let few : length (value_events v) < 2 ^ 64 = rw e (few_events f) in
+    let read : IsAt (flat_events f) (done (flat_first f)) = subst (IsAt (flat_events f)) (flat_value f) (flat_read waiting [] f (none_read waiting refl)) in
+    reads_on_answers progress_machine first_answer (done (flat_first f)) v (subst (λ es. IsAt es (done (flat_first f))) (sym e) read) (countable v few)
+
+no_fault : (f : Flat) (v : Tree) → value_events v ≡ flat_events f → least (coordinates_faults Point v) ≡ None
+no_fault f v e = sym (ap (fault_as Point) (answer_is f v e) ∙ first_least Point v) ∙ sym (flat_fault Point f)
+
+none_kept : (f : Flat) (corner : Corner) (v : Tree) → IsPlain f corner → value_events v ≡ flat_events f → coordinates_kept Point v ≡ no_warnings
+unfolding coordinates_kept
+none_kept f corner v plain e =
+    ap (λ a. all_in (warned_as Point a)) (sym (answer_is f v e)) ∙ (ap all_in (sym (flat_warned Point f)) ∙ ap all_in (plain.quiet no_warned))
+
+pub plain_point : (f : Flat) (corner : Option Corner) → IfSome corner (λ c. IsPlain f c) → IsTrue (is_some corner) → IsPlainPoint f
+plain_point f None plain e = cc
+plain_point f (Some c) plain e = λ v same. (no_fault f v same, none_kept f c v plain same)
