@@ -1,11 +1,14 @@
 -- The beginnings of objects that are reported at once: the events that each stands for.
-use Rattle.std.specs.Prelude.{◌+◌, List, [], ◌∷◌, ◌++◌}
+use Rattle.std.specs.Prelude.{ℕ, ◌+◌, List, [], ◌∷◌, ◌++◌}
 use Rattle.gj_json.specs.declared.event.Event.{Event}
 use Rattle.gj_json.specs.declared.event.What.{What}
+use Rattle.gj_json.specs.declared.flat.Flat.{Flat}
 use Rattle.gj_json.specs.declared.head.Head.{Head}
 use Rattle.gj_json.specs.declared.head.Located.{Located}
+use Rattle.gj_json.specs.declared.head.Opened.{Opened}
 use Rattle.gj_json.specs.declared.head.Typed.{Typed}
-use Rattle.gj_json.specs.declared.names.Known.TheVariants.{TypeName, Geometry, Coordinates}
+use Rattle.gj_json.specs.declared.names.Known.TheVariants.{TypeName, Geometry, Coordinates, Properties}
+use Rattle.gj_json.specs.Flat.{flat_events}
 
 -- the bracket, the name `type` right after it, and the type
 abbrev pub typed_events : Typed → List Event
@@ -19,6 +22,16 @@ located_events located =
     record { place = located.place; what = What.Name Geometry }
     ∷ (typed_events located.typed ++ record { place = located.coordinates; what = What.Name Coordinates } ∷ [])
 
+-- the name `properties` and the bracket after it
+abbrev pub opened_events : Opened → List Event
+opened_events opened =
+    record { place = opened.place; what = What.Name Properties } ∷ record { place = opened.bracket; what = What.OpenObject } ∷ []
+
 abbrev pub head_events : Head → List Event
 head_events (Head.Object typed) = typed_events typed
 head_events (Head.Geometry located) = located_events located
+head_events (Head.Properties opened) = opened_events opened
+
+-- a member `geometry` that is a whole Point: its beginning, its position, and the end of its object
+abbrev pub point_events : Located → Flat → ℕ → List Event
+point_events located flat close = located_events located ++ (flat_events flat ++ record { place = close; what = What.CloseObject } ∷ [])

@@ -1,4 +1,4 @@
-//! The beginnings of features and geometries as most writers put them, each reported as one event.
+//! The beginnings of features and of their members as most writers put them, each reported as one event.
 
 ghost use Rattle.std.specs.Prelude.{◌<◌};
 
@@ -25,6 +25,15 @@ pub struct Located {
     pub coordinates: u64,
 }
 
+/// The beginning of a member `properties` that is an object, as `"properties":{`.
+#[derive(Clone, Copy)]
+pub struct Opened {
+    /// The place of the name `properties`.
+    pub place: u64,
+    /// The place of `{`.
+    pub bracket: u64,
+}
+
 /// A beginning that is reported as one event.
 #[derive(Clone, Copy)]
 pub enum Head {
@@ -32,4 +41,6 @@ pub enum Head {
     Object(Typed),
     /// Of a member `geometry`.
     Geometry(Located),
+    /// Of a member `properties`.
+    Properties(Opened),
 }

@@ -1,8 +1,8 @@
 //! The beginnings of features and geometries as most writers put them, each recognized by a comparison of words.
 
-ghost use Rattle.std.specs.Prelude.{◌≡◌, ◌+◌, ◌<◌, ◌≤◌, ◌∷◌, [], length, take, drop};
+ghost use Rattle.std.specs.Prelude.{◌≡◌, ◌+◌, ◌<◌, ◌≤◌, ◌∷◌, [], length, take, drop, get_or};
 ghost use Rattle.gj_json.specs.Bytes.{close_brace, comma};
-ghost use Rattle.gj_json.specs.Internal.WholeHeads.{IsTyped, IsLocated};
+ghost use Rattle.gj_json.specs.Internal.WholeHeads.{IsTyped, IsLocated, OpensProperties};
 ghost use Rattle.gj_json.specs.declared.heads.TheConstants.{ROOM};
 
 use crate::lanes::{begins, begins_long};
@@ -126,6 +126,25 @@ pub fn next_typed(piece: &[u8]) -> UsualTyped
     NOT_TYPED
 }
 
+/// The beginning of the next feature, after the bracket and the comma that the piece starts with.
+#[inline(always)]
+pub fn following_typed(piece: &[u8]) -> UsualTyped
+    ensures within { 0 < result.count → 2 + result.count ≤ length piece.now }
+    ensures few { result.word_at ≤ result.count }
+    ensures on { 0 < result.count → 0 < result.word_at }
+    ensures bracket { 0 < result.count → get_or piece.now 0 0 ≡ close_brace }
+    ensures comma { 0 < result.count → get_or piece.now 1 0 ≡ comma }
+    ensures usual { 0 < result.count → IsTyped (drop 2 piece.now) result.count result.word_at result.word }
+{
+    if piece.len() < ROOM {
+        return NOT_TYPED;
+    }
+    if piece[0] == b'}' && piece[1] == b',' {
+        return usual_typed(&piece[2..]);
+    }
+    NOT_TYPED
+}
+
 /// The beginning of a member `geometry` of a usual type that the piece starts with, with no white space in it.
 #[inline(always)]
 fn dense_located(piece: &[u8]) -> UsualLocated
@@ -201,4 +220,22 @@ pub fn usual_located(piece: &[u8]) -> UsualLocated
         return dense;
     }
     spaced_located(piece)
+}
+
+/// The beginning of a member `properties` that is an object, with a space after its colon or none: how many bytes, or 0.
+#[inline(always)]
+pub fn properties_run(piece: &[u8]) -> usize
+    ensures within { result ≤ length piece.now }
+    ensures opens { 0 < result → OpensProperties (take result piece.now) }
+{
+    if piece.len() < ROOM {
+        return 0;
+    }
+    if begins(piece, b"\"properties\":{  ", 14) {
+        return 14;
+    }
+    if begins(piece, b"\"properties\": { ", 15) {
+        return 15;
+    }
+    0
 }

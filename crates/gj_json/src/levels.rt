@@ -99,6 +99,15 @@ impl Levels {
         self.count > 0 && self.inner % 2 == 1
     }
 
+    /// Whether the innermost level is that of an element: an object in an array.
+    #[inline(always)]
+    #[tactic(auto, using(crate::proofs::Readers::LevelWords::in_element))]
+    pub fn is_in_element(&self) -> bool
+        ensures { IsTrue result → levels_in self.now ≡ Object ∷ Array ∷ outer_of (outer_of (levels_in self.now)) }
+    {
+        self.count > 1 && self.inner % 4 == 1
+    }
+
     /// Whether the three innermost levels are those of a value in a feature: an object in an object in an array.
     #[inline(always)]
     #[tactic(auto, using(crate::proofs::Readers::LevelWords::in_feature))]

@@ -4,8 +4,8 @@ ghost use Rattle.std.specs.Prelude.{◌≡◌, ℕ, ◌≤◌, ◌<◌, ◌∷�
 use crate::cut_position::CutPosition;
 use crate::event::{Event, What};
 use crate::flat::Flat;
-use crate::head::Head;
-use crate::names::Known;
+use crate::head::{Head, Located};
+use crate::names::{Known, Word};
 use arrayvec::ArrayVec;
 
 /// What a reader reports its events to, in order.
@@ -17,7 +17,8 @@ pub trait EventSink {
     ghost use Rattle.gj_json.specs.Flat.{flat_events};
     ghost use Rattle.gj_json.specs.declared.flat.Flat.{Flat};
     ghost use Rattle.gj_json.specs.CutPosition.{AreCutPositions, Rise, flats_events};
-    ghost use Rattle.gj_json.specs.Head.{head_events};
+    ghost use Rattle.gj_json.specs.Head.{head_events, point_events};
+    ghost use Rattle.gj_json.specs.declared.names.Word.{Word};
     ghost use Rattle.gj_json.specs.Ignored.{Leaves};
 
     /// So many levels have to close before an event matters to it again.
@@ -107,7 +108,31 @@ pub trait EventSink {
                     what: What::Name(Known::Coordinates),
                 });
             }
+            Head::Properties(opened) => {
+                self.tell(Event {
+                    place: opened.place,
+                    what: What::Name(Known::Properties),
+                });
+                self.tell(Event {
+                    place: opened.bracket,
+                    what: What::OpenObject,
+                });
+            }
         }
+    }
+
+    /// When a member `geometry` that is a whole Point is reported at once, it has heard the same as by its events in turn: those of
+    /// its beginning, of its position, and of the bracket that closes its object at this place.
+    fn tell_point(&mut self, located: &Located, flat: &Flat, close: u64)
+        requires point { located.now.typed.word ≡ Word.Point }
+        ensures { (events : List Event) → heard self.old events → heard self.new (events ++ point_events located.now flat.now close) }
+    {
+        self.tell_head(Head::Geometry(*located));
+        self.tell_flat(flat);
+        self.tell(Event {
+            place: close,
+            what: What::CloseObject,
+        });
     }
 
     /// How many levels have to close before an event matters to it again: 0 where each one matters.

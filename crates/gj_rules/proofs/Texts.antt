@@ -9,6 +9,7 @@ pub mod IgnoredValues
 pub mod LinterEvents
 pub mod WiderLimits
 pub mod OneFlatMore
+pub mod WholePoints
 pub mod PositionsMore
 pub mod PlacesOfFaults
 pub mod PlacesOfWarnings

@@ -7,7 +7,7 @@ mod kinds;
 use crate::feature::{FeatureSink, ForgetfulSink};
 use crate::feature_count::FeatureCount;
 use crate::rules::Rules;
-use gj_json::{CutPosition, Event, EventSink, Flat, Head, What};
+use gj_json::{CutPosition, Event, EventSink, Flat, Head, Located, What};
 
 /// Rules that report what is found in each feature of a text, with the last event of the feature.
 ///
@@ -189,6 +189,16 @@ impl<S: FeatureSink> EventSink for FeatureRules<S> {
         match head {
             Head::Object(typed) => self.tell_typed(&typed),
             Head::Geometry(located) => self.tell_located(&located),
+            Head::Properties(opened) => self.tell_properties(&opened),
+        }
+    }
+
+    #[inline(always)]
+    fn tell_point(&mut self, located: &Located, flat: &Flat, close: u64) {
+        if self.count.is_in_members() {
+            self.rules.tell_point(located, flat, close);
+        } else {
+            self.tell_point_in_turn(located, flat, close);
         }
     }
 

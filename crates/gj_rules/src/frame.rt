@@ -1,5 +1,5 @@
 //! What is kept of an open object with a role.
-ghost use Rattle.std.specs.Prelude.{◌≡◌};
+ghost use Rattle.std.specs.Prelude.{◌≡◌, IsTrue};
 
 mod settle;
 
@@ -80,6 +80,14 @@ impl Frame {
     {
         self.gathered.name(Known::Crs, place);
         self.slots.name(Known::Crs, place)
+    }
+
+    /// Whether a name `geometry` that comes next is the first one, and its value is looked at.
+    #[inline(always)]
+    pub fn awaits_geometry(&self) -> bool
+        ensures { IsTrue result → due_after Known.Geometry (frame_in self.now) ≡ Known.Geometry }
+    {
+        self.slots.awaits_geometry()
     }
 
     /// Adds a fault of the value of the first member `name`.

@@ -281,4 +281,15 @@ impl MemberSlots {
             Known::Other
         }
     }
+
+    /// Whether a name `geometry` that comes next is the first one, and its value is looked at.
+    #[inline(always)]
+    pub fn awaits_geometry(&self) -> bool
+        ensures { IsTrue result → due_after Known.Geometry (slots_in self.now) ≡ Known.Geometry }
+    {
+        match self.slot(Known::Geometry) {
+            Some(_) => false,
+            None => self.role.uses(Known::Geometry),
+        }
+    }
 }

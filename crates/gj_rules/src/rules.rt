@@ -8,6 +8,7 @@ mod features;
 mod flats;
 mod heads;
 mod kinds;
+mod points;
 
 use crate::findings::Findings;
 use crate::frame::Frame;
@@ -15,7 +16,7 @@ use crate::mode::Mode;
 use crate::role::Role;
 use gj_coords::laws::kept_warnings;
 use gj_coords::{Bbox, Coordinates, Fault, Warned, Warnings};
-use gj_json::{CutPosition, Event, EventSink, Flat, Head, Known, MOST_LEVELS, What};
+use gj_json::{CutPosition, Event, EventSink, Flat, Head, Known, Located, MOST_LEVELS, What};
 use std::mem::size_of;
 
 /// How many objects with a role can be open in a text within the limits: at most one for each two levels, and one.
@@ -360,6 +361,16 @@ impl<const FRAMES: usize> EventSink for FramedRules<FRAMES> {
         match head {
             Head::Object(typed) => self.tell_typed(&typed),
             Head::Geometry(located) => self.tell_located(&located),
+            Head::Properties(opened) => self.tell_properties(&opened),
+        }
+    }
+
+    #[inline(always)]
+    fn tell_point(&mut self, located: &Located, flat: &Flat, close: u64) {
+        if self.takes_point(flat) {
+            self.name_geometry(located.place);
+        } else {
+            self.tell_point_in_turn(located, flat, close);
         }
     }
 

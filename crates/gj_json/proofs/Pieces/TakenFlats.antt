@@ -248,6 +248,16 @@ flat_is flat start given f =
     (map-append (λ (x : Timed). x.event) (elements_events f.elements) (timed (flat.close + 1) flat.close What.CloseArray ∷ [])
     ∙ ap (λ es. es ++ closing ∷ []) f.told)
 
+-- where it is due
+pub flat_well : (limits : Allowed) (levels : List Level) (start : ℕ) (mode : Mode) (offset : ℕ) (bytes : List ℕ)
+    → StandsWell limits mode levels start offset bytes → awaits mode ≡ true → (flat : Flat) (given : List ℕ) → IsFlat flat offset given
+    → length levels < limits.depth → offset + length given ≤ limits.bytes
+    → After limits levels start ValueDone offset (offset + length given) bytes given (flat_events flat)
+flat_well limits levels start mode offset bytes k due flat given f deep room =
+    let P : List Event → Type 0 = λ es. After limits levels start ValueDone offset (offset + length given) bytes given es in
+    subst P (flat_is flat offset given f)
+    (array_well limits levels start mode offset bytes k due flat.place f.elements flat.close given f.spelled (omega (arith, f.flat, deep)) room)
+
 flat_feeds : {before after : List Event → Type 0} (old new : Reader) (flat : Flat) (given : List ℕ) → old.fault ≡ None → awaits old.mode ≡ true
     → length (levels_in old.levels) < old.limits.depth → old.offset + length given ≤ old.limits.bytes → IsFlat flat old.offset given
     → Passed (length given) ValueDone old new → ((events : List Event) → before events → after (events ++ flat_events flat))

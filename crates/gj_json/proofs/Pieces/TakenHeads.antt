@@ -1,18 +1,21 @@
 -- The beginnings of objects, taken at once: the tokens that they are, one after another.
-use Rattle.std.proofs.Common.{◌≡◌, ℕ, ◌+◌, ◌≤◌, ◌<◌, true, List, [], ◌∷◌, ◌++◌, codes, length, take, take-add, drop, None, refl, sym, ap, subst, ◌∙◌}
-use Rattle.std.proofs.Common.{arith, append_assoc}
-use Rattle.std.proofs.lemmas.List.{length-append, length-take-le}
+use Rattle.std.proofs.Common.{◌≡◌, ℕ, ◌+◌, ◌-◌, ◌≤◌, ◌<◌, true, List, [], ◌∷◌, ◌++◌, codes, get_or, length, take, take-add, drop, None, refl, sym, ap, subst}
+use Rattle.std.proofs.Common.{◌∙◌, arith, append_assoc}
+use Rattle.std.proofs.lemmas.List.{length-append, length-take-le, take_more}
 use Rattle.std.specs.List.{AllByRecursion}
 use Rattle.gj_json.specs.Bytes.{IsWhite, open_brace, close_brace, comma, colon}
 use Rattle.gj_json.specs.declared.class.Class.TheVariants.{CloseObject as close_class, Comma as comma_class, White as white_class}
 use Rattle.gj_json.specs.declared.event.Event.{Event}
 use Rattle.gj_json.specs.declared.event.What.{What}
+use Rattle.gj_json.specs.declared.flat.Flat.{Flat}
+use Rattle.gj_json.specs.declared.head.Located.{Located}
+use Rattle.gj_json.specs.declared.heads.UsualLocated.{UsualLocated}
 use Rattle.gj_json.specs.declared.levels.Level.{Level}
 use Rattle.gj_json.specs.declared.levels.Level.TheVariants.{Array, Object}
 use Rattle.gj_json.specs.declared.mode.Ending.{Ending}
 use Rattle.gj_json.specs.declared.mode.Mode.{Mode}
 use Rattle.gj_json.specs.declared.mode.Mode.TheVariants.{ValueDue, ValueDone, NameDue, ColonDue}
-use Rattle.gj_json.specs.declared.names.Known.TheVariants.{TypeName, Geometry, Coordinates}
+use Rattle.gj_json.specs.declared.names.Known.TheVariants.{TypeName, Geometry, Coordinates, Properties}
 use Rattle.gj_json.specs.declared.names.Word.{Word}
 use Rattle.gj_json.specs.declared.reader.Reader.{Reader}
 use Rattle.gj_json.specs.Limits.{Allowed}
@@ -21,20 +24,24 @@ use Rattle.gj_json.specs.Text.{IsText}
 use Rattle.gj_json.specs.Tree.{string}
 use Rattle.gj_json.specs.Events.{events_by}
 use Rattle.gj_json.specs.Internal.FedReader.{FeedsAll}
-use Rattle.gj_json.specs.Internal.FlatParts.{awaits}
+use Rattle.gj_json.specs.Flat.{flat_events}
+use Rattle.gj_json.specs.Head.{located_events, point_events}
+use Rattle.gj_json.specs.Internal.FlatParts.{awaits, cut}
 use Rattle.gj_json.specs.Internal.OpenLevels.{levels_in}
 use Rattle.gj_json.specs.Internal.QuietBytes.{IsQuiet, Leads}
 use Rattle.gj_json.specs.Internal.ReaderState.{StandsWell}
 use Rattle.gj_json.specs.Internal.ReaderStep.{opened}
+use Rattle.gj_json.specs.Internal.SpelledNumbers.{IsFlat}
 use Rattle.gj_json.specs.Internal.ToldEvents.{event_at}
-use Rattle.gj_json.specs.Internal.WholeHeads.{quoted, named, BeginsTyped, IsTyped, IsLocated}
+use Rattle.gj_json.specs.Internal.WholeHeads.{quoted, named, BeginsTyped, IsTyped, IsFound, IsLocatedAt, OpensProperties}
 use Rattle.gj_json.specs.Internal.WholeTokens.{IsQuoted, Lands, names, may_begin}
 use Rattle.gj_json.proofs.Grammar.ClassOfBytes.{class_is}
 use Rattle.gj_json.proofs.Grammar.SpelledTokens.{colon_by}
 use Rattle.gj_json.proofs.Grammar.UsualTokens.{plain}
 use Rattle.gj_json.proofs.Pieces.QuietModes.{quiet_leads}
 use Rattle.gj_json.proofs.Pieces.QuietRuns.{quiet_run}
-use Rattle.gj_json.proofs.Pieces.TakenFlats.{all_quiet, value_well}
+use Rattle.gj_json.proofs.Pieces.PieceCuts.{cut_length}
+use Rattle.gj_json.proofs.Pieces.TakenFlats.{all_quiet, value_well, flat_well}
 use Rattle.gj_json.proofs.Pieces.TakenTokens.{Moved, lands_feeds, done_go, done_close, as_string, string_leads, name_well, may_begin_due, open_well}
 
 -- ---- bytes that lead from one mode to another, wherever they stand, and what is complete behind them
@@ -42,6 +49,20 @@ use Rattle.gj_json.proofs.Pieces.TakenTokens.{Moved, lands_feeds, done_go, done_
 record Carries (limits : Allowed) (mode : Mode) (levels : List Level) (next : Mode) (after : List Level) (given : List ℕ) (es : ℕ → List Event) : Type 0 where
   pub moved : (start offset : ℕ) (bytes : List ℕ) → StandsWell limits mode levels start offset bytes → offset + length given ≤ limits.bytes
       → Moved limits next after offset (offset + length given) bytes given (es offset)
+
+-- bytes after others
+pub moved_on : (limits : Allowed) (mid next : Mode) (around after : List Level) (from m to : ℕ) (bytes xs ys : List ℕ) (es fs : List Event)
+    → Moved limits mid around from m bytes xs es → Moved limits next after m to (bytes ++ xs) ys fs → Moved limits next after from to bytes (xs ++ ys) (es ++ fs)
+moved_on limits mid next around after from m to bytes xs ys es fs a b =
+    let Q : List ℕ → Type 0 = λ zs. StandsWell limits next after b.start to zs in
+    record {
+      start = b.start;
+      well = subst Q (append_assoc bytes xs ys) b.well;
+      more = λ T rest t.
+          let u : IsText T (((bytes ++ xs) ++ ys) ++ rest) = rw (append_assoc bytes xs ys) t in
+          let v : IsText T ((bytes ++ xs) ++ (ys ++ rest)) = rw (append_assoc (bytes ++ xs) ys rest) at u in
+          b.more T rest u ∙ ap (λ zs. zs ++ fs) (a.more T (ys ++ rest) v) ∙ append_assoc (events_by from T) es fs;
+    }
 
 module _ (limits : Allowed) where
   both : (mode mid next : Mode) (levels around after : List Level) (xs ys : List ℕ) (es fs : ℕ → List Event) → Carries limits mode levels mid around xs es
@@ -53,16 +74,7 @@ module _ (limits : Allowed) where
         let b = g.moved a.start (offset + length xs) (bytes ++ xs) a.well (omega (arith, room, l)) in
         let e : offset + length xs + length ys ≡ offset + length (xs ++ ys) = omega (arith, l) in
         let P : ℕ → Type 0 = λ n. Moved limits next after offset n bytes (xs ++ ys) (es offset ++ fs (offset + length xs)) in
-        let Q : List ℕ → Type 0 = λ zs. StandsWell limits next after b.start (offset + length xs + length ys) zs in
-        subst P e (record {
-          start = b.start;
-          well = subst Q (append_assoc bytes xs ys) b.well;
-          more = λ T rest t.
-              let u : IsText T (((bytes ++ xs) ++ ys) ++ rest) = rw (append_assoc bytes xs ys) t in
-              let v : IsText T ((bytes ++ xs) ++ (ys ++ rest)) = rw (append_assoc (bytes ++ xs) ys rest) at u in
-              b.more T rest u ∙ ap (λ zs. zs ++ fs (offset + length xs)) (a.more T (ys ++ rest) v)
-              ∙ append_assoc (events_by offset T) (es offset) (fs (offset + length xs));
-        });
+        subst P e (moved_on limits mid next around after offset (offset + length xs) _ bytes xs ys (es offset) (fs (offset + length xs)) a b);
   }
 
   quiet : (mode next : Mode) (levels : List Level) (given : List ℕ) → Leads mode given next → Carries limits mode levels next levels given (λ n. [])
@@ -167,6 +179,27 @@ module _ (limits : Allowed) where
       (name_carries NameDue all (codes "coordinates") gap refl coordinates_quoted white)) in
       rw (geometry_known, coordinates_known) at whole
 
+  properties_quoted : IsQuoted (codes "properties") (quoted (codes "properties"))
+  properties_quoted = record { spelled = refl; reads = plain (codes "properties") }
+
+  properties_known : known_of (codes "properties") ≡ Properties
+  unfolding known_of
+  properties_known = refl
+
+  -- a member `properties` up to the bracket of its object, and with it
+  abbrev opened_told : List ℕ → ℕ → List Event
+  opened_told gap n = event_at n (What.Name Properties) ∷ event_at (n + length (named (codes "properties") gap)) What.OpenObject ∷ []
+
+  opened_carries : (mode : Mode) (levels : List Level) (gap : List ℕ) → names mode ≡ true → length levels + 1 ≤ limits.depth → AllByRecursion IsWhite gap
+      → Carries limits mode levels (opened Object) (Object ∷ levels) (named (codes "properties") gap ++ open_brace ∷ []) (opened_told gap)
+  opened_carries mode levels gap w deep white =
+      let all = Object ∷ levels in
+      let name = named (codes "properties") gap in
+      let whole = both mode ValueDue (opened Object) levels levels all name (open_brace ∷ []) (λ n. event_at n (What.Name (known_of (codes "properties"))) ∷ [])
+      (λ n. event_at n What.OpenObject ∷ []) (name_carries mode levels (codes "properties") gap w properties_quoted white)
+      (record { moved = λ start offset bytes k room. open_well limits levels start ValueDue offset bytes k refl Object (omega (arith, room)) deep }) in
+      rw (properties_known) at whole
+
   -- the end of an object in an object, with the end of that and the comma after it, and an object that begins by its type
   close_carries : (levels : List Level) → Carries limits ValueDone (Object ∷ levels) ValueDone levels (close_brace ∷ []) (λ n. event_at n What.CloseObject ∷ [])
   close_carries levels = record {
@@ -175,24 +208,32 @@ module _ (limits : Allowed) where
         (rw (class_is close_class close_brace refl (λ e. cc)) refl);
   }
 
-  next_carries : (around : List Level) (word_at : ℕ) (word : Word) (gap bytes : List ℕ) → length around + 2 ≤ limits.depth → AllByRecursion IsWhite gap
+  -- the end of an element that is an object, the comma after it, and an object that begins by its type
+  following_carries : (around : List Level) (word_at : ℕ) (word : Word) (gap bytes : List ℕ) → length around + 2 ≤ limits.depth → AllByRecursion IsWhite gap
       → BeginsTyped 0 word_at word gap bytes
-      → Carries limits ValueDone (Object ∷ Object ∷ Array ∷ around) NameDue (Object ∷ Array ∷ around) (close_brace ∷ close_brace ∷ comma ∷ bytes)
-      (λ n. event_at n What.CloseObject ∷ event_at (n + 1) What.CloseObject ∷ typed_told gap word (n + 1 + 1 + 1))
-  next_carries around word_at word gap bytes deep white h =
-      let first = Object ∷ Object ∷ Array ∷ around in
+      → Carries limits ValueDone (Object ∷ Array ∷ around) NameDue (Object ∷ Array ∷ around) (close_brace ∷ comma ∷ bytes)
+      (λ n. event_at n What.CloseObject ∷ typed_told gap word (n + 1 + 1))
+  following_carries around word_at word gap bytes deep white h =
       let second = Object ∷ Array ∷ around in
       let third = Array ∷ around in
-      both ValueDone ValueDone NameDue first second second (close_brace ∷ []) (close_brace ∷ comma ∷ bytes) (λ n. event_at n What.CloseObject ∷ [])
-      (λ n. event_at n What.CloseObject ∷ typed_told gap word (n + 1 + 1)) (close_carries second)
-      (both ValueDone ValueDone NameDue second third second (close_brace ∷ []) (comma ∷ bytes) (λ n. event_at n What.CloseObject ∷ [])
+      both ValueDone ValueDone NameDue second third second (close_brace ∷ []) (comma ∷ bytes) (λ n. event_at n What.CloseObject ∷ [])
       (λ n. typed_told gap word (n + 1)) (close_carries third)
       (both ValueDone ValueDue NameDue third third second (comma ∷ []) bytes (λ n. []) (typed_told gap word)
       (record {
         moved = λ start offset bytes k room.
             done_go limits third start offset bytes comma k (omega (arith, room)) ValueDue Ending.Item (rw (class_is comma_class comma refl (λ e. cc)) refl);
       })
-      (typed_carries ValueDue third 0 word_at word gap bytes refl (omega (arith, deep)) white h)))
+      (typed_carries ValueDue third 0 word_at word gap bytes refl (omega (arith, deep)) white h))
+
+  next_carries : (around : List Level) (word_at : ℕ) (word : Word) (gap bytes : List ℕ) → length around + 2 ≤ limits.depth → AllByRecursion IsWhite gap
+      → BeginsTyped 0 word_at word gap bytes
+      → Carries limits ValueDone (Object ∷ Object ∷ Array ∷ around) NameDue (Object ∷ Array ∷ around) (close_brace ∷ close_brace ∷ comma ∷ bytes)
+      (λ n. event_at n What.CloseObject ∷ event_at (n + 1) What.CloseObject ∷ typed_told gap word (n + 1 + 1 + 1))
+  next_carries around word_at word gap bytes deep white h =
+      let second = Object ∷ Array ∷ around in
+      both ValueDone ValueDone NameDue (Object ∷ second) second second (close_brace ∷ []) (close_brace ∷ comma ∷ bytes)
+      (λ n. event_at n What.CloseObject ∷ []) (λ n. event_at n What.CloseObject ∷ typed_told gap word (n + 1 + 1)) (close_carries second)
+      (following_carries around word_at word gap bytes deep white h)
 
 -- ---- from reader to reader
 
@@ -214,36 +255,27 @@ typed_taken {before} {after} old new piece count word_at word live due room w de
     lands_feeds {before = before} {after = after} old new (take count piece) NameDue (Object ∷ levels) (typed_told old.limits h.gap word old.offset) live
     (subst P (sym long) p) refl (λ bytes k. carries.moved old.start old.offset bytes k (omega (arith, long, room, w))) (subst Q e heard)
 
-pub located_taken : {before after : List Event → Type 0} (old new : Reader) (piece : List ℕ) (count bracket word_at coordinates : ℕ) (word : Word)
-    → old.fault ≡ None → names old.mode ≡ true → old.offset + length piece ≤ old.limits.bytes → count ≤ length piece
-    → length (levels_in old.levels) < old.limits.depth → IsLocated piece count bracket word_at coordinates word
-    → Lands count ValueDue (Object ∷ levels_in old.levels) old new
-    → ((events : List Event) → before events → after (events ++ (event_at old.offset (What.Name Geometry)
-    ∷ event_at (old.offset + bracket) What.OpenObject ∷ event_at (old.offset + bracket + 1) (What.Name TypeName)
-    ∷ event_at (old.offset + word_at) (What.Text word) ∷ event_at (old.offset + coordinates) (What.Name Coordinates) ∷ [])))
+pub opened_taken : {before after : List Event → Type 0} (old new : Reader) (piece : List ℕ) (count : ℕ) → old.fault ≡ None → names old.mode ≡ true
+    → old.offset + length piece ≤ old.limits.bytes → count ≤ length piece → length (levels_in old.levels) < old.limits.depth
+    → OpensProperties (take count piece) → Lands count (opened Object) (Object ∷ levels_in old.levels) old new
+    → ((events : List Event) → before events
+    → after (events ++ (event_at old.offset (What.Name Properties) ∷ event_at (old.offset + count - 1) What.OpenObject ∷ [])))
     → FeedsAll before after old new (take count piece)
-located_taken {before} {after} old new piece count bracket word_at coordinates word live due room w deep h p heard =
+opened_taken {before} {after} old new piece count live due room w deep h p heard =
     let levels = levels_in old.levels in
-    let first = named (codes "geometry") h.gap in
-    let long : length (take count piece) ≡ count = length-take-le count piece w in
-    let carries = located_carries old.limits old.mode levels bracket word_at word h.gap h.object_bytes due (omega (arith, deep)) h.white h.begins in
-    let C : List ℕ → Type 0 =
-    λ xs. Carries old.limits old.mode levels ValueDue (Object ∷ levels) xs (located_told old.limits h.gap h.object_bytes word) in
-    let whole : C (take count piece) = subst C (sym h.spelled) carries in
-    let e : old.offset + bracket ≡ old.offset + length first = omega (arith, h.bracket_place) in
-    let f : old.offset + word_at ≡ old.offset + length first + 1 + length (named (codes "type") h.gap) =
-    omega (arith, h.bracket_place, h.begins.word_place) in
-    let g : old.offset + coordinates ≡ old.offset + length first + length h.object_bytes = omega (arith, h.bracket_place, h.coordinates_place) in
-    let P : ℕ → Type 0 = λ n. Lands n ValueDue (Object ∷ levels) old new in
-    let told : ℕ → ℕ → ℕ → List Event =
-    λ m n k. event_at old.offset (What.Name Geometry) ∷ event_at m What.OpenObject ∷ event_at (m + 1) (What.Name TypeName) ∷ event_at n (What.Text word)
-    ∷ event_at k (What.Name Coordinates) ∷ [] in
-    let same : told (old.offset + bracket) (old.offset + word_at) (old.offset + coordinates) ≡ located_told old.limits h.gap h.object_bytes word old.offset =
-    rw (e, f, g) refl in
-    let Q : List Event → Type 0 = λ es. (events : List Event) → before events → after (events ++ es) in
-    lands_feeds {before = before} {after = after} old new (take count piece) ValueDue (Object ∷ levels)
-    (located_told old.limits h.gap h.object_bytes word old.offset) live
-    (subst P (sym long) p) refl (λ bytes k. whole.moved old.start old.offset bytes k (omega (arith, long, room, w))) (subst Q same heard)
+    let given = take count piece in
+    let name = named (codes "properties") h.gap in
+    let long : length given ≡ count = length-take-le count piece w in
+    let told : ℕ → List Event = λ n. event_at old.offset (What.Name Properties) ∷ event_at n What.OpenObject ∷ [] in
+    let parts : length given ≡ length name + 1 = ap length h.spelled ∙ length-append name (open_brace ∷ []) in
+    let e : old.offset + count - 1 ≡ old.offset + length name = omega (arith, long, parts) in
+    let carries = opened_carries old.limits old.mode levels h.gap due (omega (arith, deep)) h.white in
+    let C : List ℕ → Type 0 = λ xs. Carries old.limits old.mode levels (opened Object) (Object ∷ levels) xs (opened_told old.limits h.gap) in
+    let whole : C given = subst C (sym h.spelled) carries in
+    let P : ℕ → Type 0 = λ n. Lands n (opened Object) (Object ∷ levels) old new in
+    let Q : ℕ → Type 0 = λ n. (events : List Event) → before events → after (events ++ told n) in
+    lands_feeds {before = before} {after = after} old new given (opened Object) (Object ∷ levels) (opened_told old.limits h.gap old.offset) live
+    (subst P (sym long) p) refl (λ bytes k. whole.moved old.start old.offset bytes k (omega (arith, long, room, w))) (subst Q e heard)
 
 pub next_taken : {before after : List Event → Type 0} (old new : Reader) (piece : List ℕ) (count word_at : ℕ) (word : Word) (around : List Level)
     → old.fault ≡ None → old.mode ≡ ValueDone → old.offset + length piece ≤ old.limits.bytes → 3 + count ≤ length piece
@@ -280,3 +312,137 @@ next_taken {before} {after} old new piece count word_at word around live done ro
     subst S (sym same)
     (lands_feeds {before = before} {after = after} old new all NameDue (Object ∷ Array ∷ around) all_told live (subst P (sym n) p) refl
     (λ bytes k. carries.moved old.start old.offset bytes (from bytes k) (omega (arith, n, room, w))) (subst Q alike heard))
+
+pub two_bytes : (piece : List ℕ) (a b : ℕ) → 2 ≤ length piece → get_or piece 0 0 ≡ a → get_or piece 1 0 ≡ b → take 2 piece ≡ a ∷ b ∷ []
+two_bytes [] a b l e f = absurd (omega (arith, l))
+two_bytes (x ∷ []) a b l e f = absurd (omega (arith, l))
+two_bytes (x ∷ (y ∷ rest)) a b l e f = rw (e, f) refl
+
+pub following_taken : {before after : List Event → Type 0} (old new : Reader) (piece : List ℕ) (count word_at : ℕ) (word : Word) (around : List Level)
+    → old.fault ≡ None → old.mode ≡ ValueDone → old.offset + length piece ≤ old.limits.bytes → 2 + count ≤ length piece
+    → take 2 piece ≡ close_brace ∷ comma ∷ [] → levels_in old.levels ≡ Object ∷ Array ∷ around
+    → IsTyped (drop 2 piece) count word_at word → Lands (2 + count) NameDue (Object ∷ Array ∷ around) old new
+    → ((events : List Event) → before events → after (events ++ (event_at old.offset What.CloseObject
+    ∷ event_at (old.offset + 2) What.OpenObject ∷ event_at (old.offset + 2 + 1) (What.Name TypeName) ∷ event_at (old.offset + 2 + word_at) (What.Text word)
+    ∷ [])))
+    → FeedsAll before after old new (take (2 + count) piece)
+following_taken {before} {after} old new piece count word_at word around live done room w ends levels h p heard =
+    let given = take count (drop 2 piece) in
+    let all = close_brace ∷ comma ∷ given in
+    let same : take (2 + count) piece ≡ all = take-add 2 count piece ∙ ap (λ xs. xs ++ given) ends in
+    let long : length (take (2 + count) piece) ≡ 2 + count = length-take-le (2 + count) piece w in
+    let deep : length around + 2 ≤ old.limits.depth = omega (arith, old.nested, ap length levels) in
+    let carries = following_carries old.limits around word_at word h.gap given deep h.white h.begins in
+    let e : old.offset + 2 ≡ old.offset + 1 + 1 = omega arith in
+    let f : old.offset + 2 + word_at ≡ old.offset + 1 + 1 + 1 + length (named (codes "type") h.gap) = omega (arith, h.begins.word_place) in
+    let told : ℕ → ℕ → List Event =
+    λ m n. event_at old.offset What.CloseObject ∷ event_at m What.OpenObject ∷ event_at (m + 1) (What.Name TypeName) ∷ event_at n (What.Text word) ∷ [] in
+    let all_told : List Event = event_at old.offset What.CloseObject ∷ typed_told old.limits h.gap word (old.offset + 1 + 1) in
+    let alike : told (old.offset + 2) (old.offset + 2 + word_at) ≡ all_told = rw (f, e) refl in
+    let P : ℕ → Type 0 = λ n. Lands n NameDue (Object ∷ Array ∷ around) old new in
+    let Q : List Event → Type 0 = λ es. (events : List Event) → before events → after (events ++ es) in
+    let S : List ℕ → Type 0 = λ xs. FeedsAll before after old new xs in
+    let n : length all ≡ 2 + count = ap length (sym same) ∙ long in
+    let from : (bytes : List ℕ) → StandsWell old.limits old.mode (levels_in old.levels) old.start old.offset bytes
+    → StandsWell old.limits ValueDone (Object ∷ Array ∷ around) old.start old.offset bytes =
+    λ bytes k. (let M : Mode → Type 0 = λ m. StandsWell old.limits m (Object ∷ Array ∷ around) old.start old.offset bytes in
+    let L : List Level → Type 0 = λ ls. StandsWell old.limits old.mode ls old.start old.offset bytes in
+    subst M done (subst L levels k)) in
+    subst S (sym same)
+    (lands_feeds {before = before} {after = after} old new all NameDue (Object ∷ Array ∷ around) all_told live (subst P (sym n) p) refl
+    (λ bytes k. carries.moved old.start old.offset bytes (from bytes k) (omega (arith, n, room, w))) (subst Q alike heard))
+
+-- the beginning of a member `geometry`, as it is found and reported
+found_told : (limits : Allowed) (start : ℕ) (piece : List ℕ) (usual : UsualLocated) (located : Located) (h : IsFound piece usual)
+    → IsLocatedAt start usual located
+    → located_events located ≡ located_told limits h.located.gap h.located.object_bytes usual.word start
+found_told limits start piece usual located h i =
+    let l = h.located in
+    let first = named (codes "geometry") l.gap in
+    let e : located.typed.place ≡ start + length first = omega (arith, i.bracket, l.bracket_place) in
+    let f : located.typed.word_at ≡ start + length first + 1 + length (named (codes "type") l.gap) =
+    omega (arith, i.word_at, l.bracket_place, l.begins.word_place) in
+    let g : located.coordinates ≡ start + length first + length l.object_bytes = omega (arith, i.coordinates, l.bracket_place, l.coordinates_place) in
+    rw (i.place, e, f, i.word, g) refl
+
+found_moved : (limits : Allowed) (mode : Mode) (levels : List Level) (start offset : ℕ) (bytes piece : List ℕ) (usual : UsualLocated) (h : IsFound piece usual)
+    → names mode ≡ true → length levels < limits.depth → offset + length piece ≤ limits.bytes
+    → StandsWell limits mode levels start offset bytes
+    → Moved limits ValueDue (Object ∷ levels) offset (offset + usual.count) bytes (take usual.count piece)
+    (located_told limits h.located.gap h.located.object_bytes usual.word offset)
+found_moved limits mode levels start offset bytes piece usual h due deep room k =
+    let l = h.located in
+    let long : length (take usual.count piece) ≡ usual.count = length-take-le usual.count piece h.within in
+    let told = located_told limits l.gap l.object_bytes usual.word in
+    let carries = located_carries limits mode levels usual.bracket usual.word_at usual.word l.gap l.object_bytes due (omega (arith, deep)) l.white l.begins in
+    let C : List ℕ → Type 0 = λ xs. Carries limits mode levels ValueDue (Object ∷ levels) xs told in
+    let whole : C (take usual.count piece) = subst C (sym l.spelled) carries in
+    let P : ℕ → Type 0 = λ n. Moved limits ValueDue (Object ∷ levels) offset (offset + n) bytes (take usual.count piece) (told offset) in
+    subst P long (whole.moved start offset bytes k (omega (arith, long, room, h.within)))
+
+pub found_taken : {before after : List Event → Type 0} (old new : Reader) (piece : List ℕ) (usual : UsualLocated) (located : Located)
+    → old.fault ≡ None → names old.mode ≡ true → old.offset + length piece ≤ old.limits.bytes → length (levels_in old.levels) < old.limits.depth
+    → IsFound piece usual → IsLocatedAt old.offset usual located → Lands usual.count ValueDue (Object ∷ levels_in old.levels) old new
+    → ((events : List Event) → before events → after (events ++ located_events located))
+    → FeedsAll before after old new (take usual.count piece)
+found_taken {before} {after} old new piece usual located live due room deep h i p heard =
+    let levels = levels_in old.levels in
+    let long : length (take usual.count piece) ≡ usual.count = length-take-le usual.count piece h.within in
+    let told = located_told old.limits h.located.gap h.located.object_bytes usual.word old.offset in
+    let P : ℕ → Type 0 = λ n. Lands n ValueDue (Object ∷ levels) old new in
+    let M : ℕ → List ℕ → Type 0 = λ n bytes. Moved old.limits ValueDue (Object ∷ levels) old.offset (old.offset + n) bytes (take usual.count piece) told in
+    let Q : List Event → Type 0 = λ es. (events : List Event) → before events → after (events ++ es) in
+    lands_feeds {before = before} {after = after} old new (take usual.count piece) ValueDue (Object ∷ levels) told live (subst P (sym long) p) refl
+    (λ bytes k. subst (λ n. M n bytes) (sym long) (found_moved old.limits old.mode levels old.start old.offset bytes piece usual h due deep room k))
+    (subst Q (found_told old.limits old.offset piece usual located h i) heard)
+
+-- a member `geometry` that is a whole Point
+pub point_taken : {before after : List Event → Type 0} (old new : Reader) (piece : List ℕ) (usual : UsualLocated) (located : Located) (flat : Flat) (end : ℕ)
+    → old.fault ≡ None → names old.mode ≡ true → old.offset + length piece ≤ old.limits.bytes → length (levels_in old.levels) + 1 < old.limits.depth
+    → IsFound piece usual → IsLocatedAt old.offset usual located → usual.count < end → end < length piece → get_or piece end 0 ≡ close_brace
+    → IsFlat flat (old.offset + usual.count) (cut piece usual.count end) → Lands (end + 1) ValueDone (levels_in old.levels) old new
+    → ((events : List Event) → before events → after (events ++ point_events located flat (old.offset + end)))
+    → FeedsAll before after old new (take (end + 1) piece)
+point_taken {before} {after} old new piece usual located flat end live due room deep h i on w closes f p heard =
+    let levels = levels_in old.levels in
+    let limits = old.limits in
+    let xs = take usual.count piece in
+    let ys = cut piece usual.count end in
+    let last = close_brace ∷ [] in
+    let given = xs ++ (ys ++ last) in
+    let nx : length xs ≡ usual.count = length-take-le usual.count piece h.within in
+    let ny : length ys ≡ end - usual.count = cut_length piece usual.count end (omega arith) in
+    let upto : usual.count + (end - usual.count) ≡ end = omega arith in
+    let front : take end piece ≡ xs ++ ys = ap (λ n. take n piece) (sym upto) ∙ take-add usual.count (end - usual.count) piece in
+    let same : take (end + 1) piece ≡ given =
+    take_more piece end 0 w ∙ ap (λ b. take end piece ++ b ∷ []) closes ∙ ap (λ zs. zs ++ last) front ∙ append_assoc xs ys last in
+    let long : length given ≡ end + 1 = ap length (sym same) ∙ length-take-le (end + 1) piece (omega arith) in
+    let told = located_told limits h.located.gap h.located.object_bytes usual.word old.offset in
+    let es : List Event = told ++ (flat_events flat ++ event_at (old.offset + end) What.CloseObject ∷ []) in
+    let P : ℕ → Type 0 = λ n. Lands n ValueDone levels old new in
+    let Q : List Event → Type 0 = λ ls. (events : List Event) → before events
+    → after (events ++ (ls ++ (flat_events flat ++ event_at (old.offset + end) What.CloseObject ∷ []))) in
+    let S : List ℕ → Type 0 = λ zs. FeedsAll before after old new zs in
+    let m = old.offset + usual.count + length ys in
+    let closing : ℕ → Event = λ n. event_at n What.CloseObject in
+    let moved : (bytes : List ℕ) → StandsWell limits old.mode levels old.start old.offset bytes
+    → Moved limits ValueDone levels old.offset (old.offset + length given) bytes given es =
+    λ bytes k. (let a = found_moved limits old.mode levels old.start old.offset bytes piece usual h due (omega (arith, deep)) room k in
+    let b =
+    flat_well limits (Object ∷ levels) a.start ValueDue (old.offset + usual.count) (bytes ++ xs) a.well refl flat ys f (omega (arith, deep))
+    (omega (arith, room, ny, on, w)) in
+    let c = (close_carries limits levels).moved a.start m ((bytes ++ xs) ++ ys) b.well (omega (arith, room, ny, on, w)) in
+    let rest =
+    moved_on limits ValueDone ValueDone (Object ∷ levels) levels (old.offset + usual.count) m (m + 1) (bytes ++ xs) ys last (flat_events flat) (closing m ∷ [])
+    (record { start = a.start; well = b.well; more = b.more }) c in
+    let whole =
+    moved_on limits ValueDue ValueDone (Object ∷ levels) levels old.offset (old.offset + usual.count) (m + 1) bytes xs (ys ++ last) told
+    (flat_events flat ++ closing m ∷ []) a rest in
+    let R : ℕ → Type 0 = λ n. Moved limits ValueDone levels old.offset (n + 1) bytes given (told ++ (flat_events flat ++ closing n ∷ [])) in
+    let T : ℕ → Type 0 = λ n. Moved limits ValueDone levels old.offset n bytes given es in
+    let e : m ≡ old.offset + end = omega (arith, ny, on) in
+    let g : old.offset + end + 1 ≡ old.offset + length given = omega (arith, long) in
+    subst T g (subst R e whole)) in
+    subst S (sym same)
+    (lands_feeds {before = before} {after = after} old new given ValueDone levels es live (subst P (sym long) p) refl moved
+    (subst Q (found_told limits old.offset piece usual located h i) heard))

@@ -59,6 +59,20 @@ pub in_feature : (l : Levels) → 2 < l.count → l.inner % 8 ≡ 3
 unfolding levels_in
 in_feature l few bits = rw (three_inner l.count l.inner (full_levels l.full l.outer) few bits) refl
 
+two_inner : (count inner : ℕ) (around : List Level) → 1 < count → inner % 4 ≡ 1
+    → levels_at count inner ++ around ≡ Object ∷ Array ∷ (levels_at (count - 2) (inner / 2 / 2) ++ around)
+two_inner zero inner around few bits = absurd (omega arith)
+two_inner (suc zero) inner around few bits = absurd (omega arith)
+two_inner (suc (suc count)) inner around few bits =
+    let one : inner % 2 ≡ 1 = omega arith in
+    let two : inner / 2 % 2 ≡ 0 = omega arith in
+    let left : suc (suc count) - 2 ≡ count = omega arith in
+    rw (one, two, left) refl
+
+pub in_element : (l : Levels) → 1 < l.count → l.inner % 4 ≡ 1 → levels_in l ≡ Object ∷ Array ∷ outer_of (outer_of (levels_in l))
+unfolding levels_in
+in_element l few bits = rw (two_inner l.count l.inner (full_levels l.full l.outer) few bits) refl
+
 -- the lowest bit of the word of the innermost levels
 one_inner : (count inner : ℕ) (around : List Level) → 0 < count → inner % 2 ≡ 1
     → levels_at count inner ++ around ≡ Object ∷ (levels_at (count - 1) (inner / 2) ++ around)

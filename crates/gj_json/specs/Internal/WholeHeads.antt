@@ -1,7 +1,9 @@
 -- The beginnings of objects that are reported at once, as they are read.
-use Rattle.std.specs.Prelude.{◌≡◌, ℕ, ◌+◌, List, [], ◌∷◌, ◌++◌, codes, length, take}
+use Rattle.std.specs.Prelude.{◌≡◌, ℕ, ◌+◌, ◌≤◌, ◌<◌, List, [], ◌∷◌, ◌++◌, codes, length, take}
 use Rattle.std.specs.List.{AllByRecursion}
 use Rattle.gj_json.specs.Bytes.{IsWhite, open_brace, comma, colon, quote}
+use Rattle.gj_json.specs.declared.head.Located.{Located}
+use Rattle.gj_json.specs.declared.heads.UsualLocated.{UsualLocated}
 use Rattle.gj_json.specs.declared.names.Word.{Word}
 use Rattle.gj_json.specs.Names.{word_of}
 use Rattle.gj_json.specs.Internal.WholeTokens.{IsQuoted}
@@ -38,3 +40,26 @@ pub record IsLocated (piece : List ℕ) (count bracket word_at coordinates : ℕ
   pub spelled : take count piece ≡ named (codes "geometry") gap ++ (object_bytes ++ named (codes "coordinates") gap)
   pub bracket_place : bracket ≡ length (named (codes "geometry") gap)
   pub coordinates_place : coordinates ≡ bracket + length object_bytes
+
+-- such a beginning was found at the start of a piece
+pub record IsFound (piece : List ℕ) (usual : UsualLocated) : Type 0 where
+  pub some : 0 < usual.count
+  pub within : usual.count ≤ length piece
+  pub bracket : usual.bracket < usual.word_at
+  pub word : usual.word_at ≤ usual.count
+  pub coordinates : usual.coordinates ≤ usual.count
+  pub located : IsLocated piece usual.count usual.bracket usual.word_at usual.coordinates usual.word
+
+-- as it is reported where the piece begins at a place
+pub record IsLocatedAt (start : ℕ) (usual : UsualLocated) (located : Located) : Type 0 where
+  pub place : located.place ≡ start
+  pub bracket : located.typed.place ≡ start + usual.bracket
+  pub word_at : located.typed.word_at ≡ start + usual.word_at
+  pub word : located.typed.word ≡ usual.word
+  pub coordinates : located.coordinates ≡ start + usual.coordinates
+
+-- a member `properties` up to the bracket of its object
+pub record OpensProperties (bytes : List ℕ) : Type 0 where
+  pub gap : List ℕ
+  pub white : AllByRecursion IsWhite gap
+  pub spelled : bytes ≡ named (codes "properties") gap ++ open_brace ∷ []

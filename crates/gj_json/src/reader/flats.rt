@@ -18,7 +18,7 @@ use gj_number::Signs;
 
 /// Whether an array may begin here, in a text that has begun.
 #[inline(always)]
-fn is_due(mode: Mode) -> bool
+pub(super) fn is_due(mode: Mode) -> bool
     ensures { result ≡ awaits mode }
 {
     match mode {
@@ -48,7 +48,7 @@ fn signs_of(flat: &Flat) -> Signs {
 
 /// Whether an opening bracket follows.
 #[inline(always)]
-fn begins_array(piece: &[u8]) -> bool
+pub(super) fn begins_array(piece: &[u8]) -> bool
     ensures within { IsTrue result → 1 ≤ length piece.now }
     ensures bracket { IsTrue result → get_or piece.now 0 0 ≡ open_bracket }
 {

@@ -1,17 +1,29 @@
 //! The beginnings of features and geometries, taken at once.
 
 ghost use Rattle.std.specs.Prelude.{◌≡◌, ◌+◌, ◌^◌, ◌≤◌, ◌<◌, true, length, take, get_or, None};
-ghost use Rattle.gj_json.specs.Bytes.{open_brace};
-ghost use Rattle.gj_json.specs.Internal.FlatParts.{awaits};
+ghost use Rattle.gj_json.specs.Bytes.{open_bracket, open_brace, close_brace};
+ghost use Rattle.gj_json.specs.Internal.FlatParts.{awaits, cut};
+ghost use Rattle.gj_json.specs.Internal.OpenLevels.{levels_in};
+ghost use Rattle.gj_json.specs.Internal.SpelledNumbers.{IsFlat};
+ghost use Rattle.gj_json.specs.Internal.WholeHeads.{IsFound, IsLocatedAt};
 ghost use Rattle.gj_json.specs.Internal.WholeTokens.{names};
-ghost use Rattle.gj_json.specs.declared.mode.Mode.TheVariants.{ValueDue, ValueDone};
+ghost use Rattle.gj_json.specs.declared.limits.TheConstants.{MOST_LEVELS};
+ghost use Rattle.gj_json.specs.declared.mode.Mode.TheVariants.{ValueDone};
+ghost use Rattle.gj_json.specs.declared.names.Word.{Word};
 
 use super::Reader;
+use super::flats::begins_array;
 use crate::event::{Event, What};
-use crate::head::{Head, Located, Typed};
-use crate::heads::{next_typed, usual_located, usual_typed};
+use crate::flat::Flat;
+use crate::flats::read_flat;
+use crate::gaps::Gaps;
+use crate::head::{Head, Located, Opened, Typed};
+use crate::heads::{
+    UsualLocated, following_typed, next_typed, properties_run, usual_located, usual_typed,
+};
 use crate::levels::Level;
 use crate::mode::Mode;
+use crate::names::Word;
 use crate::sink::EventSink;
 
 /// Whether a byte looks like the first of the name of an object's type.
@@ -30,6 +42,37 @@ fn may_end_feature(piece: &[u8]) -> bool {
 #[inline(always)]
 fn may_be_geometry(piece: &[u8]) -> bool {
     piece.len() > 13 && piece[1] == b'g' && (piece[12] == b'"' || piece[13] == b'"')
+}
+
+/// Whether a few bytes look like the name `properties` with the bracket of an object after it.
+#[inline(always)]
+fn may_be_properties(piece: &[u8]) -> bool {
+    piece.len() > 14 && piece[1] == b'p' && (piece[13] == b'{' || piece[14] == b'{')
+}
+
+/// Reads the position of a Point that stands at an index, right before the bracket that closes its object, in a piece that begins at
+/// the place `start`: the index of that bracket, or 0.
+#[inline(always)]
+fn point_end(piece: &[u8], at: usize, start: u64, flat: &mut Flat) -> usize
+    requires within { at ≤ length piece.now }
+    requires small { start + length piece.now ≤ 2 ^ 60 }
+    ensures on { 0 < result → at < result }
+    ensures within { 0 < result → result < length piece.now }
+    ensures bracket { 0 < result → get_or piece.now result 0 ≡ close_brace }
+    ensures flat { 0 < result → IsFlat flat.new (start + at) (cut piece.now at result) }
+{
+    let rest = &piece[at..];
+    if !begins_array(rest) {
+        return 0;
+    }
+    let Some(count) = read_flat(rest, start + at as u64, &mut Gaps::none(), flat) else {
+        return 0;
+    };
+    let end = at + count;
+    if end >= piece.len() || piece[end] != b'}' {
+        return 0;
+    }
+    end
 }
 
 impl Reader {
@@ -129,7 +172,132 @@ impl Reader {
         self.take_end(piece, sink)
     }
 
-    /// Takes a name and its colon, where it is that of a geometry with what comes before its coordinates: how many bytes, or 0.
+    /// Takes a name and its colon, where it is `properties` with the bracket that opens its object, and the whole tokens in that
+    /// object if their events do not matter to the sink: how many bytes, or 0.
+    #[inline(never)]
+    fn take_properties<S: EventSink>(&mut self, piece: &[u8], sink: &mut S) -> usize
+        requires some { 0 < length piece.now }
+        requires live { self.old.fault ≡ None }
+        requires due { names self.old.mode ≡ true }
+        requires room { self.old.offset + length piece.now ≤ self.old.limits.bytes }
+        requires small { self.old.limits.bytes ≤ 2 ^ 60 }
+        ensures within { result ≤ length piece.now }
+        ensures feeds { FeedsAll (S.heard sink.old) (S.heard sink.new) self.old self.new (take result piece.now) }
+    {
+        let count = properties_run(piece);
+        if count == 0 || self.levels.len() >= self.limits.depth() {
+            return self.take_named(piece, sink);
+        }
+        sink.tell_head(Head::Properties(Opened {
+            place: self.offset,
+            bracket: self.offset + count as u64 - 1,
+        }));
+        self.levels.push(Level::Object);
+        self.skip(count, Mode::ObjectOpened);
+        count + self.pass_ignored(&piece[count..], sink)
+    }
+
+    /// Takes the end of a feature with the comma after it and the beginning of the next: how many bytes, or 0.
+    #[inline(always)]
+    fn take_feature_end<S: EventSink>(&mut self, piece: &[u8], sink: &mut S) -> usize
+        requires live { self.old.fault ≡ None }
+        requires done { self.old.mode ≡ ValueDone }
+        requires room { self.old.offset + length piece.now ≤ self.old.limits.bytes }
+        requires small { self.old.limits.bytes ≤ 2 ^ 60 }
+        ensures within { result ≤ length piece.now }
+        ensures feeds { FeedsAll (S.heard sink.old) (S.heard sink.new) self.old self.new (take result piece.now) }
+    {
+        let typed = following_typed(piece);
+        if typed.count == 0 || !self.levels.is_in_element() {
+            return 0;
+        }
+        sink.tell(Event {
+            place: self.offset,
+            what: What::CloseObject,
+        });
+        sink.tell_head(Head::Object(Typed {
+            place: self.offset + 2,
+            word_at: self.offset + 2 + typed.word_at as u64,
+            word: typed.word,
+        }));
+        self.skip(2 + typed.count, Mode::NameDue)
+    }
+
+    /// The beginning of a member `geometry`, which starts at the next byte.
+    #[inline(always)]
+    fn located_here(&self, usual: &UsualLocated) -> Located
+        requires within { self.now.offset + usual.now.count ≤ 2 ^ 60 }
+        requires bracket { usual.now.bracket < usual.now.word_at }
+        requires word { usual.now.word_at ≤ usual.now.count }
+        requires coordinates { usual.now.coordinates ≤ usual.now.count }
+        ensures { IsLocatedAt self.now.offset usual.now result }
+    {
+        Located {
+            place: self.offset,
+            typed: Typed {
+                place: self.offset + usual.bracket as u64,
+                word_at: self.offset + usual.word_at as u64,
+                word: usual.word,
+            },
+            coordinates: self.offset + usual.coordinates as u64,
+        }
+    }
+
+    /// Takes the beginning of a member `geometry`: how many bytes.
+    #[inline(always)]
+    fn take_located<S: EventSink>(
+        &mut self,
+        piece: &[u8],
+        usual: &UsualLocated,
+        sink: &mut S,
+    ) -> usize
+        requires live { self.old.fault ≡ None }
+        requires due { names self.old.mode ≡ true }
+        requires deep { length (levels_in self.old.levels) < self.old.limits.depth }
+        requires shallow { self.old.limits.depth ≤ MOST_LEVELS }
+        requires room { self.old.offset + length piece.now ≤ self.old.limits.bytes }
+        requires small { self.old.limits.bytes ≤ 2 ^ 60 }
+        requires found { IsFound piece.now usual.now }
+        ensures within { result ≤ length piece.now }
+        ensures feeds { FeedsAll (S.heard sink.old) (S.heard sink.new) self.old self.new (take result piece.now) }
+    {
+        sink.tell_head(Head::Geometry(self.located_here(usual)));
+        self.levels.push(Level::Object);
+        self.skip(usual.count, Mode::ValueDue)
+    }
+
+    /// Takes a member `geometry` that is a whole Point, with the end of the feature and the beginning of the next where they
+    /// follow: how many bytes. Where its position is not taken at once, only its beginning is taken.
+    #[inline(always)]
+    fn take_point<S: EventSink>(
+        &mut self,
+        piece: &[u8],
+        usual: &UsualLocated,
+        sink: &mut S,
+    ) -> usize
+        requires live { self.old.fault ≡ None }
+        requires due { names self.old.mode ≡ true }
+        requires deep { length (levels_in self.old.levels) < self.old.limits.depth }
+        requires shallow { self.old.limits.depth ≤ MOST_LEVELS }
+        requires room { self.old.offset + length piece.now ≤ self.old.limits.bytes }
+        requires small { self.old.limits.bytes ≤ 2 ^ 60 }
+        requires found { IsFound piece.now usual.now }
+        requires point { usual.now.word ≡ Word.Point }
+        ensures within { result ≤ length piece.now }
+        ensures feeds { FeedsAll (S.heard sink.old) (S.heard sink.new) self.old self.new (take result piece.now) }
+    {
+        let mut flat = Flat::blank();
+        let end = point_end(piece, usual.count, self.offset, &mut flat);
+        if end == 0 || self.levels.len() + 1 >= self.limits.depth() {
+            return self.take_located(piece, usual, sink);
+        }
+        sink.tell_point(&self.located_here(usual), &flat, self.offset + end as u64);
+        let taken = self.skip(end + 1, Mode::ValueDone);
+        taken + self.take_feature_end(&piece[taken..], sink)
+    }
+
+    /// Takes a name and its colon, where it is that of a geometry with what comes before its coordinates, or with all of a Point:
+    /// how many bytes, or 0.
     #[inline(never)]
     fn take_geometry<S: EventSink>(&mut self, piece: &[u8], sink: &mut S) -> usize
         requires some { 0 < length piece.now }
@@ -138,27 +306,20 @@ impl Reader {
         requires room { self.old.offset + length piece.now ≤ self.old.limits.bytes }
         requires small { self.old.limits.bytes ≤ 2 ^ 60 }
         ensures within { result ≤ length piece.now }
-        ensures mode { 0 < result → self.new.mode ≡ ValueDue }
         ensures feeds { FeedsAll (S.heard sink.old) (S.heard sink.new) self.old self.new (take result piece.now) }
     {
-        let located = usual_located(piece);
-        if located.count == 0 || self.levels.len() >= self.limits.depth() {
+        let usual = usual_located(piece);
+        if usual.count == 0 || self.levels.len() >= self.limits.depth() {
             return self.take_named(piece, sink);
         }
-        sink.tell_head(Head::Geometry(Located {
-            place: self.offset,
-            typed: Typed {
-                place: self.offset + located.bracket as u64,
-                word_at: self.offset + located.word_at as u64,
-                word: located.word,
-            },
-            coordinates: self.offset + located.coordinates as u64,
-        }));
-        self.levels.push(Level::Object);
-        self.skip(located.count, Mode::ValueDue)
+        match usual.word {
+            Word::Point => self.take_point(piece, &usual, sink),
+            _ => self.take_located(piece, &usual, sink),
+        }
     }
 
-    /// Takes a name and its colon, with what comes at once after them where it is the name of a geometry: how many bytes, or 0.
+    /// Takes a name and its colon, with what comes at once after them where it is the name of a geometry or of properties: how many
+    /// bytes, or 0.
     #[inline(always)]
     pub(super) fn take_member<S: EventSink>(&mut self, piece: &[u8], sink: &mut S) -> usize
         requires some { 0 < length piece.now }
@@ -167,11 +328,13 @@ impl Reader {
         requires room { self.old.offset + length piece.now ≤ self.old.limits.bytes }
         requires small { self.old.limits.bytes ≤ 2 ^ 60 }
         ensures within { result ≤ length piece.now }
-        ensures mode { 0 < result → self.new.mode ≡ ValueDue }
         ensures feeds { FeedsAll (S.heard sink.old) (S.heard sink.new) self.old self.new (take result piece.now) }
     {
         if may_be_geometry(piece) {
             return self.take_geometry(piece, sink);
+        }
+        if may_be_properties(piece) {
+            return self.take_properties(piece, sink);
         }
         self.take_named(piece, sink)
     }

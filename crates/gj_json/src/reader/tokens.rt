@@ -16,6 +16,7 @@ ghost use Rattle.gj_json.specs.declared.levels.Level.TheVariants.{Array};
 ghost use Rattle.gj_json.specs.declared.mode.Mode.TheVariants.{ValueDone, ValueDue, ColonDue};
 
 use super::Reader;
+use super::flats::is_due;
 use crate::constant::Constant;
 use crate::event::{Event, What};
 use crate::flats::{space_end, white_end};
@@ -594,7 +595,7 @@ impl Reader {
                     return 0;
                 }
                 let named = self.take_member(piece, sink);
-                if named == 0 || named == piece.len() {
+                if named == piece.len() || !is_due(self.mode) {
                     return named;
                 }
                 named + self.take_usual_value(&piece[named..], sink)

@@ -5,14 +5,15 @@ use Rattle.std.proofs.lemmas.Bool.Decides.{nat_tests}
 use Rattle.std.proofs.lemmas.List.{length-append}
 use Rattle.gj_json.specs.declared.event.Event.{Event}
 use Rattle.gj_json.specs.declared.event.What.{What}
-use Rattle.gj_json.specs.declared.names.Known.TheVariants.{Id, TypeName, Geometry, Coordinates}
+use Rattle.gj_json.specs.declared.names.Known.TheVariants.{Id, TypeName, Geometry, Coordinates, Properties}
 use Rattle.gj_json.specs.declared.flat.Flat.{Flat}
 use Rattle.gj_json.specs.declared.flat.Numbered.{Numbered}
 use Rattle.gj_json.specs.Flat.{number_event, numbers_of, flat_events}
 use Rattle.gj_json.specs.CutPosition.{flats_events}
 use Rattle.gj_json.specs.declared.head.Located.{Located}
+use Rattle.gj_json.specs.declared.head.Opened.{Opened}
 use Rattle.gj_json.specs.declared.head.Typed.{Typed}
-use Rattle.gj_json.specs.Head.{typed_events, located_events}
+use Rattle.gj_json.specs.Head.{typed_events, located_events, opened_events, point_events}
 use Rattle.gj_json.specs.Ignored.{levels_behind, Leaves}
 use Rattle.gj_rules.specs.declared.feature.Feature.{Feature}
 use Rattle.gj_rules.specs.declared.feature_count.FeatureCount.{FeatureCount}
@@ -229,6 +230,28 @@ located_inside Says located c events m h =
     (ap (λ es. es ++ last ∷ []) (append_assoc events (name ∷ []) (typed_events located.typed))
     ∙ append_assoc events (name ∷ typed_events located.typed) (last ∷ []))
     all
+
+pub opened_inside : (Says : List Feature → Type 0) (start : Opened) (c : FeatureCount) (events : List Event) → InMembers c → FeaturesAre Says c events
+    → FeaturesAre Says (opened c) (events ++ opened_events start)
+opened_inside Says start c events m h =
+    let name : Event = record { place = start.place; what = What.Name Properties } in
+    let bracket : Event = record { place = start.bracket; what = What.OpenObject } in
+    let inside = one_passed Says c bracket (events ++ name ∷ []) (rw (m.0, m.1) (opens_quiet c.inner)) (one_passed Says c name events refl h) in
+    subst (λ es. FeaturesAre Says (opened c) es) (append_assoc events (name ∷ []) (bracket ∷ [])) inside
+
+-- a member `geometry` that is a whole Point
+pub point_inside : (Says : List Feature → Type 0) (located : Located) (flat : Flat) (close : ℕ) (c : FeatureCount) (events : List Event) → InMembers c
+    → FeaturesAre Says c events → FeaturesAre Says c (events ++ point_events located flat close)
+point_inside Says located flat close c events m h =
+    let last : Event = record { place = close; what = What.CloseObject } in
+    let begun = located_inside Says located c events m h in
+    let placed = quiet_flat Says flat (opened c) (events ++ located_events located) (omega arith) begun in
+    let closed = one_quiet Says (opened c) last ((events ++ located_events located) ++ flat_events flat) c.inner (omega arith) placed in
+    let back : levels_behind What.CloseObject (suc c.inner) ≡ c.inner = omega arith in
+    subst (λ es. FeaturesAre Says c es)
+    (append_assoc (events ++ located_events located) (flat_events flat) (last ∷ [])
+    ∙ append_assoc events (located_events located) (flat_events flat ++ last ∷ []))
+    (subst (λ n. FeaturesAre Says (with_levels n c) (((events ++ located_events located) ++ flat_events flat) ++ last ∷ [])) back closed)
 
 -- an element that is an object begins
 pub typed_element : (Says : List Feature → Type 0) (typed : Typed) (c : FeatureCount) (events : List Event) → c.inner ≡ 0 → c.stage ≡ Stage.List

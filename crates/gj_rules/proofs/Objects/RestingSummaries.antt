@@ -1,7 +1,7 @@
 -- Where no value that a summary takes is due.
 use Rattle.std.proofs.Common.{◌≡◌, ℕ, zero, suc, ◌<◌, false, List, [], refl, arith}
 use Rattle.gj_json.specs.declared.event.What.{What}
-use Rattle.gj_json.specs.declared.names.Known.TheVariants.{Coordinates, Bbox, Geometry, TypeName}
+use Rattle.gj_json.specs.declared.names.Known.TheVariants.{Coordinates, Bbox, Geometry, Properties, TypeName}
 use Rattle.gj_json.specs.declared.names.Word.{Word}
 use Rattle.gj_coords.specs.declared.coordinates.Coordinates as C
 use Rattle.gj_coords.specs.declared.bbox.Bbox as B
@@ -11,7 +11,7 @@ use Rattle.gj_rules.specs.declared.mode.Mode.TheVariants.{RootDue, Names, Due, E
 use Rattle.gj_rules.specs.declared.role.Role.{Role}
 use Rattle.gj_rules.specs.declared.rules.FramedRules.{FramedRules}
 use Rattle.gj_rules.specs.Internal.RulesState.{core_of, top_of, Holds, HoldsIn}
-use Rattle.gj_rules.specs.Internal.EventSteps.{Core, pushed, names_step, due_step, core_step, is_feeding, skip}
+use Rattle.gj_rules.specs.Internal.EventSteps.{Core, pushed, names_step, begun, due_step, core_step, is_feeding, skip}
 
 holds : (k : ℕ) (m : Mode) (c : C.Coordinates) (b : B.Bbox) → is_feeding 0 m ≡ false → HoldsIn k m c b []
 holds (suc k) m c b e = tt
@@ -67,6 +67,17 @@ pub opens_feature : {frames : ℕ} (rules : FramedRules frames) (place : ℕ) �
     → pushed Role.Feature place (core_of rules) ≡ core_step (record { place = place; what = What.OpenObject }) (core_of rules)
 opens_feature rules place p q =
     feature_at rules.skipped rules.mode place (top_of rules) (core_of rules).outer (core_of rules).answer (core_of rules) refl p q
+
+-- where an object of properties may open
+properties_at : (k : ℕ) (m : Mode) (place : ℕ) (f : Frame) (o : List Frame) (a : Findings) (s : Core)
+    → s ≡ record { skipped = k; mode = m; top = f; outer = o; answer = a } → k ≡ 0 → m ≡ Due Properties
+    → begun Properties What.OpenObject place s ≡ core_step (record { place = place; what = What.OpenObject }) s
+properties_at k m place f o a s e p q = rw (e, p, q) refl
+
+pub opens_properties : {frames : ℕ} (rules : FramedRules frames) (place : ℕ) → rules.skipped ≡ 0 → rules.mode ≡ Due Properties
+    → begun Properties What.OpenObject place (core_of rules) ≡ core_step (record { place = place; what = What.OpenObject }) (core_of rules)
+opens_properties rules place p q =
+    properties_at rules.skipped rules.mode place (top_of rules) (core_of rules).outer (core_of rules).answer (core_of rules) refl p q
 
 -- where the value of a type is due
 type_at : (k : ℕ) (m : Mode) (word : Word) (place : ℕ) (f : Frame) (o : List Frame) (a : Findings) (s : Core)

@@ -28,7 +28,7 @@ use Rattle.gj_rules.proofs.Texts.OneEventMore.{core, with_feed, step_fed, fits_o
 
 -- ---- the events that were reported
 
-split_told : (done : List Told) (events fs : List Event) → map event_of done ≡ events ++ fs → (front : List Told) × (xs : List Told) × (done ≡ front ++ xs)
+pub split_told : (done : List Told) (events fs : List Event) → map event_of done ≡ events ++ fs → (front : List Told) × (xs : List Told) × (done ≡ front ++ xs)
     × (map event_of front ≡ events) × (map event_of xs ≡ fs)
 split_told done [] fs e = ([], done, refl, refl, e)
 split_told [] (y ∷ ys) fs e = cc
@@ -45,7 +45,7 @@ run-append (x ∷ xs) ys s = run-append xs ys (step x s)
 
 -- ---- events of a value, one after another
 
-abbrev outcome : List Event → Tree → List Event → Core → State
+abbrev pub outcome : List Event → Tree → List Event → Core → State
 outcome [] v taken c = record { core = ended v c; feed = idle }
 outcome (y ∷ ys) v taken c = record { core = c; feed = record { value = v; taken = taken; left = y ∷ ys } }
 
@@ -54,10 +54,10 @@ fed_is : (left : List Event) (event : Event) (v : Tree) (taken : List Event) (c 
 fed_is [] event v taken c = refl
 fed_is (y ∷ ys) event v taken c = refl
 
-abbrev feeding : Tree → List Event → List Event → Feed
+abbrev pub feeding : Tree → List Event → List Event → Feed
 feeding v taken left = record { value = v; taken = taken; left = left }
 
-run_fed : (x : Told) (xs : List Told) (left : List Event) (v : Tree) (taken : List Event) (k : ℕ) (m : Mode) (f : Frame) (o : List Frame) (a : Findings)
+pub run_fed : (x : Told) (xs : List Told) (left : List Event) (v : Tree) (taken : List Event) (k : ℕ) (m : Mode) (f : Frame) (o : List Frame) (a : Findings)
     → is_feeding k m ≡ true
     → run (x ∷ xs) (with_feed (core k m f o a) (feeding v taken (map event_of (x ∷ xs) ++ left))) ≡ outcome left v (taken ++ map event_of (x ∷ xs))
     (core k m f o a)

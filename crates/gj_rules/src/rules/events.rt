@@ -147,7 +147,7 @@ impl<const FRAMES: usize> FramedRules<FRAMES> {
 
     /// A value begins that holds no value with a role.
     #[inline(always)]
-    fn begin(&mut self, name: Known, what: What, place: u64)
+    pub(super) fn begin(&mut self, name: Known, what: What, place: u64)
         ensures rests { is_feeding 0 self.new.mode ≡ false }
         ensures core { core_of self.new ≡ begun name what place (core_of self.old) }
     {

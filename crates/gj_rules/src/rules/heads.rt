@@ -3,12 +3,12 @@
 ghost use Rattle.std.specs.Prelude.{◌≡◌, ◌+◌, ◌++◌, ◌∷◌, [], List, IsTrue};
 ghost use Rattle.gj_json.specs.declared.event.Event.{Event};
 ghost use Rattle.gj_json.specs.declared.event.What.TheVariants as W;
-ghost use Rattle.gj_json.specs.Head.{typed_events, located_events};
+ghost use Rattle.gj_json.specs.Head.{typed_events, located_events, opened_events};
 
 use super::FramedRules;
 use crate::mode::Mode;
 use crate::role::Role;
-use gj_json::{Known, Located, Typed};
+use gj_json::{Known, Located, Opened, Typed, What};
 
 impl<const FRAMES: usize> FramedRules<FRAMES> {
     ghost use Rattle.gj_rules.specs.Rules.{StandsFor};
@@ -109,5 +109,43 @@ impl<const FRAMES: usize> FramedRules<FRAMES> {
             self.tell_inner_typed(&located.typed);
         }
         self.tell_member(Known::Coordinates, located.coordinates);
+    }
+
+    /// Whether a value that comes next is that of the first member `properties`.
+    #[inline(always)]
+    fn is_at_properties(&self) -> bool
+        ensures skipped { IsTrue result → self.now.skipped ≡ 0 }
+        ensures mode { IsTrue result → self.now.mode ≡ Mode.Due Known.Properties }
+    {
+        if self.skipped > 0 {
+            return false;
+        }
+        match self.mode {
+            Mode::Due(Known::Properties) => true,
+            _ => false,
+        }
+    }
+
+    /// The object of a member `properties` opens.
+    #[inline(always)]
+    fn open_properties(&mut self, place: u64)
+        requires skipped { self.old.skipped ≡ 0 }
+        requires mode { self.old.mode ≡ Mode.Due Known.Properties }
+        ensures { (events : List Event) → StandsFor self.old events → StandsFor self.new (events ++ record { place = place; what = W.OpenObject } ∷ []) }
+    {
+        self.begin(Known::Properties, What::OpenObject, place);
+    }
+
+    /// The beginning of a member `properties`. Mostly it is the first one of a feature.
+    #[inline(always)]
+    pub(crate) fn tell_properties(&mut self, opened: &Opened)
+        ensures { (events : List Event) → StandsFor self.old events → StandsFor self.new (events ++ opened_events opened.now) }
+    {
+        self.tell_member(Known::Properties, opened.place);
+        if self.is_at_properties() {
+            self.open_properties(opened.bracket);
+        } else {
+            self.tell_open_object(opened.bracket);
+        }
     }
 }

@@ -15,3 +15,9 @@ returns-in-Geometry g c = λ events h.
     let new = c.tell_located.new.self in
     subst (λ (head : Head). Stand (g.S.FeatureSink.told new.sink) new.rules new.count (events ++ head_events head)) (sym c.in-Geometry.is)
     (c.tell_located.ensures events h)
+
+pub returns-in-Properties : goal.returns-in-Properties
+returns-in-Properties g c = λ events h.
+    let new = c.tell_properties.new.self in
+    subst (λ (head : Head). Stand (g.S.FeatureSink.told new.sink) new.rules new.count (events ++ head_events head)) (sym c.in-Properties.is)
+    (c.tell_properties.ensures events h)

@@ -1,0 +1,23 @@
+-- A whole Point, and what follows it.
+use Rattle.std.proofs.Common.{◌+◌, arith}
+use Rattle.gj_json.specs.declared.mode.Mode.TheVariants.{ValueDone}
+use Rattle.gj_json.proofs.Pieces.TakenHeads.{point_taken}
+use Rattle.gj_json.proofs.Pieces.TakenTokens.{passed_lands}
+use Rattle.gj_json.proofs.Readers.CallsInTurn.{piece_all, rest_all}
+use Rattle.gj_json.proofs.reader.Reader.take_point.Goals as goal
+
+pub returns-clause-feeds : goal.returns-clause-feeds
+returns-clause-feeds g c =
+    let reader = c.args.self.now in
+    let mid = c.skip-taken.new.self in
+    let last = c.take_feature_end in
+    let piece = c.args.piece.now in
+    let end = c.point_end-end.result in
+    let found = c.point_end-end.ensures in
+    piece_all reader mid last.new.self piece c.skip-taken.result last.result
+    (rw (c.skip-taken.ensures.count)
+    (point_taken reader mid piece c.args.usual.now c.located_here.result c.point_end-end.new.flat end c.requires.live c.requires.due c.requires.room
+    (omega (arith, c.if-len-depth.false, c.len.ensures.value, c.depth.ensures.value)) c.requires.found c.located_here.ensures (found.on (omega arith))
+    (found.within (omega arith)) (found.bracket (omega arith)) (found.flat (omega arith))
+    (passed_lands (end + 1) ValueDone reader mid c.skip-taken.ensures.passed) (λ events h. c.tell_point.ensures events h)))
+    (rest_all mid last.new.self piece c.skip-taken.result last.result last.ensures.feeds)

@@ -1,0 +1,17 @@
+-- The beginning, the position and the end, one after another.
+use Rattle.std.proofs.Common.{◌≡◌, ◌++◌, List, subst, append_assoc, ◌∙◌}
+use Rattle.gj_json.specs.declared.event.Event.{Event}
+use Rattle.gj_json.specs.Flat.{flat_events}
+use Rattle.gj_json.specs.Head.{located_events}
+use Rattle.gj_rules.specs.Internal.FeatureSteps.{Stand}
+use Rattle.gj_rules.proofs.feature_rules.FeatureRules.tell_point_in_turn.Goals as goal
+
+by_parts : (xs ys zs ws : List Event) → ((xs ++ ys) ++ zs) ++ ws ≡ xs ++ (ys ++ (zs ++ ws))
+by_parts xs ys zs ws = append_assoc (xs ++ ys) zs ws ∙ append_assoc xs ys (zs ++ ws)
+
+pub returns : goal.returns
+returns g c = λ events h.
+    let last = c.tell.new.self in
+    let H : List Event → Type 0 = λ es. Stand (g.S.FeatureSink.told last.sink) last.rules last.count es in
+    subst H (by_parts events (located_events c.args.located.now) (flat_events c.args.flat.now) _)
+    (c.tell.ensures _ (c.tell_flat.ensures _ (c.tell_located.ensures events h)))

@@ -1,0 +1,16 @@
+-- The beginning, the position and the end, one after another.
+use Rattle.std.proofs.Common.{◌≡◌, ◌++◌, List, subst, append_assoc, ◌∙◌}
+use Rattle.gj_json.specs.declared.event.Event.{Event}
+use Rattle.gj_json.specs.Flat.{flat_events}
+use Rattle.gj_json.specs.Head.{located_events}
+use Rattle.gj_rules.specs.Rules.{StandsFor}
+use Rattle.gj_rules.proofs.rules.FramedRules.tell_point_in_turn.Goals as goal
+
+by_parts : (xs ys zs ws : List Event) → ((xs ++ ys) ++ zs) ++ ws ≡ xs ++ (ys ++ (zs ++ ws))
+by_parts xs ys zs ws = append_assoc (xs ++ ys) zs ws ∙ append_assoc xs ys (zs ++ ws)
+
+pub returns : goal.returns
+returns g c = λ events h.
+    let H : List Event → Type 0 = λ es. StandsFor c.tell_close_object.new.self es in
+    subst H (by_parts events (located_events c.args.located.now) (flat_events c.args.flat.now) _)
+    (c.tell_close_object.ensures _ (c.tell_flat.ensures _ (c.tell_located.ensures events h)))
