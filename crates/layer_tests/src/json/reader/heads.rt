@@ -1,11 +1,11 @@
-//! Beginnings of features and geometries that come at once, beside their bytes in turn, in texts and in changed ones.
+//! Beginnings of features and of their members, and whole Points, that come at once, beside their bytes in turn, in texts and in changed ones.
 
 use super::flats::{expect_same, padded};
 use gj_json::Limits;
 use std::process::Abort;
 
-/// A feature and a geometry without white space, the same with spaces, a name that is twice there, and other orders.
-static TEXTS: [&str; 9] = [
+/// A feature and its members without white space, the same with spaces, a name that is twice there, and other orders.
+static TEXTS: [&str; 11] = [
     "[{\"type\":\"Feature\",\"id\":1},{\"type\":\"Feature\",\"geometry\":{\"type\":\"Point\",\"coordinates\":[1,2]}}]",
     "[{\"type\": \"Feature\", \"geometry\": {\"type\": \"LineString\", \"coordinates\": [[1, 2], [3, 4]]}}]",
     "{\"geometry\":{\"type\":\"Polygon\",\"coordinates\":[[]]},\"geometry\":{\"type\":\"Feature\",\"coordinates\":{}}}",
@@ -14,6 +14,8 @@ static TEXTS: [&str; 9] = [
     "[{\"a\":{\"b\":1}},{\"type\":\"Feature\",\"c\":[{\"d\":{}},{\"type\": \"Feature\", \"e\":2}]}]",
     "[[{\"a\":{}},{\"type\":\"Feature\",\"b\":{}}],{\"c\":{\"d\":{\"e\":1}},\"type\":\"Feature\"}]",
     "{\"a\":{\"b\":{\"c\":1}},\"d\":[{\"e\":{\"f\":[]}}, {\"type\":\"Feature\",\"g\":0}]}",
+    "{\"properties\":{\"a\":[1]},\"properties\": {\"b\":2},\"geometry\":{\"type\":\"Point\",\"coordinates\":[1,2]}}",
+    "[{\"geometry\":{\"type\":\"Point\",\"coordinates\":[1,2]}},{\"type\":\"Feature\",\"geometry\": {\"type\": \"Point\", \"coordinates\": [1, 2]}}]",
     "{\"geometry\":{\"type\":\"MultiPoint\",\"coordinates\":[]},\"g\":{\"type\":\"Pointy\",\"coordinates\":[]}}",
 ];
 

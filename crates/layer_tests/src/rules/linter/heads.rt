@@ -1,10 +1,10 @@
-//! Beginnings of features and geometries that are reported at once: the verdict is that of each cutting.
+//! Beginnings of features and of their members, and whole Points, that are reported at once: the verdict is that of each cutting.
 
 use super::{by_bytes, in_two};
 use crate::checks::{holds, holds_at};
 use crate::rows::Wanted;
 use crate::rows::Wanted::{Broken, Valid};
-use gj_coords::Rule;
+use gj_coords::{Kind, Rule};
 use gj_json::Limits;
 use gj_rules::{Linter, Verdict};
 use std::process::Abort;
@@ -36,7 +36,7 @@ fn expect(rt: &impl Abort, text: &str, expected: Verdict) {
     }
 }
 
-static HEADS: [(&str, Wanted); 9] = [
+static HEADS: [(&str, Wanted); 15] = [
     (
         "{\"type\":\"Feature\",\"properties\":null,\"geometry\":{\"type\":\"Point\",\"coordinates\":[1,2]}}",
         Valid(&[]),
@@ -79,6 +79,36 @@ static HEADS: [(&str, Wanted); 9] = [
     (
         "{\"type\":\"Point\",\"coordinates\":[1,2],\"a\":[{\"type\":\"Feature\",\"geometry\":{\"type\":\"Point\",\"coordinates\":[1]}}]}",
         Valid(&[]),
+    ),
+    // A number of eight places: its place.
+    (
+        "{\"type\":\"Feature\",\"properties\":{\"a\":[1]},\"geometry\":{\"type\":\"Point\",\"coordinates\":[1.12345678,2]}}",
+        Valid(&[(Kind::W4, 83)]),
+    ),
+    // A longitude beyond 180 degrees: the position.
+    (
+        "{\"type\":\"Feature\",\"properties\":{\"a\":[1]},\"geometry\":{\"type\":\"Point\",\"coordinates\":[181,2,3]}}",
+        Valid(&[(Kind::W5, 82)]),
+    ),
+    // A FeatureCollection has no `geometry`: the place of its name.
+    (
+        "{\"type\":\"FeatureCollection\",\"features\":[],\"geometry\":{\"type\":\"Point\",\"coordinates\":[1,2]}}",
+        Broken(Rule::G9, 42),
+    ),
+    // The second of two whole Points.
+    (
+        "{\"type\":\"Feature\",\"properties\":{},\"geometry\":{\"type\":\"Point\",\"coordinates\":[1,2]},\"geometry\":{\"type\":\"Point\",\"coordinates\":[3,4]}}",
+        Broken(Rule::G10, 82),
+    ),
+    // The second `properties`.
+    (
+        "{\"type\":\"Feature\",\"properties\":{\"a\":1},\"geometry\":null,\"properties\":{\"b\":{}}}",
+        Broken(Rule::G10, 55),
+    ),
+    // A geometry has no `properties`: the place of its name.
+    (
+        "{\"type\":\"Point\",\"coordinates\":[1,2],\"properties\": {\"a\":[1]}}",
+        Broken(Rule::G9, 36),
     ),
 ];
 
