@@ -68,7 +68,7 @@ impl MemberRules {
         }
     }
 
-    /// The same, where each member may still come.
+    /// These rules, where each member may still come.
     pub fn without_due(self) -> MemberRules
         ensures { result ≡ without_due self }
     {

@@ -28,7 +28,7 @@ impl MemberSlots {
         }
     }
 
-    /// The same for an object's type, where it has coordinates.
+    /// The fault of the first `coordinates` for an object's type, where it has coordinates.
     #[inline(always)]
     pub(super) fn word_fault(&self, word: Word) -> Option<Fault>
         ensures { result ≡ shape_as (simple_of word) (slots_in self.now).shapes }
