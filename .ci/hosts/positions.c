@@ -52,25 +52,66 @@ static void add_number(int negative, uint32_t natural, uint32_t fraction, int is
         add_usual(is_odd ? (int)below(2) : negative, is_odd && below(4) == 0 ? 1 + below(4) : natural, is_odd ? 1 + below(16) : fraction);
 }
 
-/* A position, odd in one of `rare` cases. */
-static void add_position(const int *negative, uint32_t fraction, uint32_t rare) {
-    int is_odd = below(rare) == 0;
-    add_byte('[');
-    add_number(negative[0], 1 + below(3), fraction, is_odd);
-    add(is_odd && below(4) == 0 ? ", " : ",");
-    add_number(negative[1], 1 + below(2), fraction, is_odd);
-    if (is_odd && below(3) == 0) {
-        add_byte(',');
-        add_number(0, 1 + below(3), fraction, below(2) == 0);
+/* How the positions of a text are written: with a space inside the brackets, a space after each comma, a third number. */
+struct form {
+    int inside, after_comma, third;
+};
+
+/* What stands after an opening bracket, before a closing one, or after a comma: mostly what the form says. */
+static void add_gap(int spaced, int is_odd) {
+    if (is_odd && below(6) == 0)
+        add(below(2) == 0 ? "  " : "\n");
+    else if (spaced != (is_odd && below(6) == 0))
+        add_byte(' ');
+}
+
+/* A height of up to four digits before the point, whole now and then, with up to nine places. */
+static void add_height(int is_odd) {
+    static const uint32_t places[] = {0, 1, 1, 2, 3, 7, 8, 9};
+    uint32_t natural = 1 + below(4), fraction = is_odd ? places[below(8)] : 1 + below(2);
+    if (below(5) == 0)
+        add_byte('-');
+    add_byte((char)(natural > 1 ? '1' + below(9) : '0' + below(10)));
+    add_digits(natural - 1);
+    if (fraction > 0) {
+        add_byte('.');
+        add_digits(fraction);
     }
+}
+
+/* A position, odd in one of `rare` cases. */
+static void add_position(const struct form *form, const int *negative, uint32_t fraction, uint32_t rare) {
+    int is_odd = below(rare) == 0, has_third = form->third != (is_odd && below(3) == 0);
+    add_byte('[');
+    add_gap(form->inside, is_odd);
+    add_number(negative[0], 1 + below(3), fraction, is_odd);
+    add_byte(',');
+    add_gap(form->after_comma, is_odd);
+    add_number(negative[1], 1 + below(2), fraction, is_odd);
+    if (has_third) {
+        add_byte(',');
+        add_gap(form->after_comma, is_odd);
+        if (is_odd && below(2) == 0)
+            add_odd();
+        else
+            add_height(is_odd);
+    }
+    add_gap(form->inside, is_odd);
     add_byte(']');
+}
+
+/* A comma between two positions, and what stands after it. */
+static void add_comma(const struct form *form, uint32_t rare) {
+    add_byte(',');
+    add_gap(form->after_comma, below(rare) == 0);
 }
 
 static void make_text(void) {
     static const char *const types[] = {"LineString", "MultiPoint", "Polygon", "MultiLineString", "MultiPolygon"};
     static const uint32_t depths[] = {0, 0, 1, 1, 2};
     uint32_t type = below(5), depth = depths[type], fraction = 1 + below(15), rare = below(3) == 0 ? 8 : 300;
-    int negative[2] = {(int)below(2), (int)below(2)};
+    int negative[2] = {(int)below(2), (int)below(2)}, inside = below(4) == 0;
+    struct form form = {inside, inside || below(3) == 0, below(3) == 0};
     size_t first, length;
     size = 0;
     add("{\"type\":\"");
@@ -79,23 +120,23 @@ static void make_text(void) {
     for (uint32_t level = 0; level < depth; level++)
         add_byte('[');
     first = size;
-    add_position(negative, fraction, rare);
+    add_position(&form, negative, fraction, rare);
     length = size - first;
     for (uint32_t count = 2; count < POSITIONS; count++) {
         /* The ring's first position again, or one that differs from it in its last byte, now and then. */
-        add_byte(',');
+        add_comma(&form, rare);
         if (below(60) == 0) {
             memcpy(text + size, text + first, length);
             size += length;
             if (below(2) == 0)
-                text[size - 2] = (char)('0' + below(10));
+                text[size - 2 - form.inside] = (char)('0' + below(10));
         } else {
-            add_position(negative, fraction, rare);
+            add_position(&form, negative, fraction, rare);
         }
         if (below(50) == 0)
             negative[below(2)] ^= 1;
     }
-    add_byte(',');
+    add_comma(&form, rare);
     memcpy(text + size, text + first, length);
     size += length;
     for (uint32_t level = 0; level <= depth; level++)
