@@ -202,10 +202,10 @@ InMembers c = (c.stage ≡ Stage.Element) × (c.id_due ≡ false)
 
 -- the type of an object, of which neither part concerns an element
 typed_passed : (Says : List Feature → Type 0) (typed : Typed) (c : FeatureCount) (events : List Event) → InMembers c → FeaturesAre Says c events
-    → FeaturesAre Says c (events ++ record { place = typed.place + 1; what = What.Name TypeName } ∷ record
+    → FeaturesAre Says c (events ++ record { place = typed.name_at; what = What.Name TypeName } ∷ record
     { place = typed.word_at; what = What.Text typed.word } ∷ [])
 typed_passed Says typed c events m h =
-    let name : Event = record { place = typed.place + 1; what = What.Name TypeName } in
+    let name : Event = record { place = typed.name_at; what = What.Name TypeName } in
     let text : Event = record { place = typed.word_at; what = What.Text typed.word } in
     let two = one_passed Says c text (events ++ name ∷ []) (rw (m.0, m.1) refl) (one_passed Says c name events refl h) in
     subst (λ es. FeaturesAre Says c es) (append_assoc events (name ∷ []) (text ∷ [])) two

@@ -252,14 +252,14 @@ five_told (p ∷ (q ∷ (r ∷ (s ∷ (t ∷ (u ∷ us)))))) a b c d e h = cc
 
 -- the frame of the object at the name `coordinates`
 abbrev framed : Located → Frame
-framed located = the_frame located.typed.place (located.typed.place + 1) located.typed.word_at located.coordinates
+framed located = the_frame located.typed.place located.typed.name_at located.typed.word_at located.coordinates
 
 -- the events up to the name `coordinates`
 head_run : (x1 x2 x3 x4 x5 : Told) (located : Located) (feed : Feed) (f : Frame) (o : List Frame) (a : Findings) → due_after Geometry f ≡ Geometry
     → located.typed.word ≡ Word.Point
     → event_of x1 ≡ at located.place (What.Name Geometry)
     → event_of x2 ≡ at located.typed.place What.OpenObject
-    → event_of x3 ≡ at (located.typed.place + 1) (What.Name TypeName)
+    → event_of x3 ≡ at located.typed.name_at (What.Name TypeName)
     → event_of x4 ≡ at located.typed.word_at (What.Text located.typed.word)
     → event_of x5 ≡ at located.coordinates (What.Name Coordinates)
     → run (x1 ∷ (x2 ∷ (x3 ∷ (x4 ∷ (x5 ∷ []))))) (with_feed (core 0 Names f o a) feed)
@@ -267,13 +267,13 @@ head_run : (x1 x2 x3 x4 x5 : Told) (located : Located) (feed : Feed) (f : Frame)
 head_run x1 x2 x3 x4 x5 located feed f o a d w e1 e2 e3 e4 e5 =
     let os : List Frame = named Geometry located.place f ∷ o in
     let opened : Frame = blank Role.Geometry located.typed.place in
-    let typing : Frame = named TypeName (located.typed.place + 1) opened in
+    let typing : Frame = named TypeName located.typed.name_at opened in
     ap (λ (s : State). run (x2 ∷ (x3 ∷ (x4 ∷ (x5 ∷ [])))) s) (geometry_named x1 located.place feed f o a d e1)
     ∙ (ap (λ (s : State). run (x3 ∷ (x4 ∷ (x5 ∷ []))) s) (geometry_opened x2 located.typed.place (named Geometry located.place f) o a e2)
-    ∙ (ap (λ (s : State). run (x4 ∷ (x5 ∷ [])) s) (type_named x3 (located.typed.place + 1) located.typed.place os a e3)
+    ∙ (ap (λ (s : State). run (x4 ∷ (x5 ∷ [])) s) (type_named x3 located.typed.name_at located.typed.place os a e3)
     ∙ (ap (λ (s : State). step x5 s) (type_told x4 located.typed.word_at located.typed.word typing os a e4)
     ∙ (ap (λ (word : Word). step x5 (st 0 Names (type_set located.typed.word_at word typing) os a)) w
-    ∙ coordinates_named x5 located.coordinates located.typed.place (located.typed.place + 1) located.typed.word_at os a e5))))
+    ∙ coordinates_named x5 located.coordinates located.typed.place located.typed.name_at located.typed.word_at os a e5))))
 
 -- the events from the position on
 tail_run : (frames : ℕ) (x5 : Told) (ys rest : List Told) (located : Located) (flat : Flat) (close : ℕ) (f : Frame) (o : List Frame) (a z : Findings)
@@ -292,7 +292,7 @@ tail_run frames x5 ys rest located flat close f o a z plain e h =
     ∙ (run-append k.0 k.1 before
     ∙ (ap (λ (s : State). run k.1 s) p.2
     ∙ (ap (λ (ts : List Told). run ts (st 0 Names (filled Coordinates p.0 (framed located)) (f ∷ o) a)) lone.1
-    ∙ geometry_closed lone.0 close located.typed.place (located.typed.place + 1) located.typed.word_at located.coordinates p.0 f o a clean.0 clean.1 lone.2)))
+    ∙ geometry_closed lone.0 close located.typed.place located.typed.name_at located.typed.word_at located.coordinates p.0 f o a clean.0 clean.1 lone.2)))
 
 point_run : (frames : ℕ) (xs rest : List Told) (located : Located) (flat : Flat) (close : ℕ) (feed : Feed) (f : Frame) (o : List Frame) (a z : Findings)
     → due_after Geometry f ≡ Geometry → located.typed.word ≡ Word.Point → IsPlainPoint flat → map event_of xs ≡ point_events located flat close

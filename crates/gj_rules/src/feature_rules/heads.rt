@@ -37,7 +37,7 @@ impl<S: FeatureSink> FeatureRules<S> {
             what: What::OpenObject,
         });
         self.tell(Event {
-            place: typed.place + 1,
+            place: typed.name_at,
             what: What::Name(Known::TypeName),
         });
         self.tell(Event {

@@ -67,10 +67,10 @@ impl<const FRAMES: usize> FramedRules<FRAMES> {
     #[inline(always)]
     fn tell_type(&mut self, typed: &Typed)
         ensures { (events : List Event) → StandsFor self.old events
-            → StandsFor self.new (events ++ record { place = typed.now.place + 1; what = W.Name Known.TypeName }
+            → StandsFor self.new (events ++ record { place = typed.now.name_at; what = W.Name Known.TypeName }
             ∷ record { place = typed.now.word_at; what = W.Text typed.now.word } ∷ []) }
     {
-        self.tell_member(Known::TypeName, typed.place + 1);
+        self.tell_member(Known::TypeName, typed.name_at);
         self.tell_type_value(typed.word, typed.word_at);
     }
 
@@ -92,7 +92,7 @@ impl<const FRAMES: usize> FramedRules<FRAMES> {
         ensures { (events : List Event) → StandsFor self.old events → StandsFor self.new (events ++ typed_events typed.now) }
     {
         self.tell_open_object(typed.place);
-        self.tell_name(Known::TypeName, typed.place + 1);
+        self.tell_name(Known::TypeName, typed.name_at);
         self.tell_text(typed.word, typed.word_at);
     }
 
