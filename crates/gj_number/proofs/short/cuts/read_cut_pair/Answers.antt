@@ -1,0 +1,73 @@
+use Rattle.std.proofs.Common.{◌≡◌, ◌+◌, ◌-◌, ◌%◌, ◌∙◌, ◌≤◌, ℕ, IsTrue, get_or, drop, refl, sym, ap, subst, rules, w64, arith}
+use mir.Val.{SFits}
+use Rattle.std.proofs.lemmas.Int.{to_z-of_z}
+use Rattle.std.proofs.lemmas.Bool.Decides.{nat_tests}
+use Rattle.gj_number.specs.Bytes.{space}
+use Rattle.gj_number.specs.Cuts.{second_after}
+use Rattle.gj_number.specs.Exact.{signed}
+use Rattle.gj_number.specs.Internal.NumberMachine.{class_of}
+use Rattle.gj_number.specs.Internal.DigitRuns.{StartsSigned}
+use Rattle.gj_number.proofs.Shorts.CutPairs.{number_is, pair_is, point_of, after_other}
+use Rattle.gj_number.proofs.Shorts.NumberPairs.{comma_other}
+use Rattle.gj_number.proofs.Shorts.NumberPrefixes.{sign_length}
+use Rattle.gj_number.proofs.short.cuts.read_cut_pair.Goals as goal
+use Rattle.gj_number.proofs.short.cuts.read_cut_pair.Goals.{else-form-via-then-form+else-piece-marks-ne32, else-form-via-else-form}
+
+abbrev end_before : ℕ → ℕ → ℕ
+end_before next bytes = (next + (18446744073709551616 - bytes)) % 18446744073709551616
+
+pub are_whole-requires-clause-comma : goal.are_whole-requires-clause-comma
+are_whole-requires-clause-comma c =
+    let s = c.in-Some.ensures.span in
+    let one = c.in-Some.one in
+    let some = c.placed_digits-first.ensures.some
+    (point_of c.args.piece.now 0 c.args.signs.first one.first one.natural one.fraction c.first_marks-marks.result.comma 44 s)
+    (c.are_digits.ensures.first c.if-not-are_digits.false) in
+    let a = some.0 in
+    let b = some.1 in
+    let d = s.end_is in
+    omega arith
+
+pub returns-clause-numbers : goal.returns-clause-numbers
+returns-clause-numbers c =
+    let piece = c.args.piece.now in
+    let form = c.args.form in
+    let fits = c.type_inv.piece in
+    let marks = c.first_marks-marks.result in
+    let one = c.in-Some.one in
+    let other = c.in-Some-span_between.other in
+    let s = c.in-Some.ensures.span in
+    let t = c.in-Some-span_between.ensures.span in
+    let rests = c.rests_of-precise.result in
+    let told = c.rests_of-precise.ensures in
+    let comma_few : marks.comma ≤ 20 =
+    (let a = s.end_is in let b = s.first_is in let d = s.few in let e = s.few_after in omega (arith, sign_length c.args.signs.first)) in
+    let behind = c.byte.result in
+    let at = second_after form marks.comma in
+    let at_few : at ≤ 32 = omega (arith, sign_length form.spaced) in
+    let end = end_before marks.next c.before_comma.result in
+    let ordered : at ≤ end = (let a = t.end_is in let b = t.first_is in omega arith) in
+    let between : IsTrue form.spaced → get_or piece (marks.comma + 1) 0 ≡ space = elim c.else-form.branch [
+      | else-form-via-then-form+else-piece-marks-ne32 w ↦ λ _. (let e = w.if-piece-marks-ne32 in grind (arith, nat_tests))
+      | else-form-via-else-form w ↦ λ spaced. (let none = w.if-form in cc)
+    ] in
+    let small = c.are_digits.ensures.first c.if-not-are_digits.false in
+    let more_small = c.are_digits.ensures.second c.if-not-are_digits.false in
+    let some = c.placed_digits-first.ensures.some (point_of piece 0 c.args.signs.first one.first one.natural one.fraction marks.comma 44 s) small in
+    let others = c.placed_digits-second.ensures.some (point_of piece at c.args.signs.second other.first other.natural other.fraction end behind t)
+    more_small in
+    let first = number_is piece fits 0 c.args.signs.first one.first one.natural one.fraction marks.comma 44 s some.0 some.1 (omega arith) c.requires comma_other
+    c.placed_digits-first.result (c.placed_digits-first.ensures.digits some.0 some.1) small rests.0
+    (c.are_whole.ensures.first c.if-not-are_whole.false) told.first_some told.first_none in
+    let second = number_is piece fits at c.args.signs.second other.first other.natural other.fraction end behind t
+    others.0 others.1 at_few c.requires
+    (ap class_of c.byte.ensures ∙ after_other form.after) c.placed_digits-second.result (c.placed_digits-second.ensures.digits others.0 others.1) more_small rests.1
+    (c.are_whole.ensures.second c.if-not-are_whole.false) told.second_some told.second_none in
+    let fits_one : SFits w64 c.with_sign.result = search rules in
+    let fits_other : SFits w64 c.with_sign-2.result = search rules in
+    let value = ap (signed c.args.signs.first) (sym c.cuts_of-value.ensures.first) ∙ sym c.with_sign.ensures
+    ∙ sym (to_z-of_z w64 c.with_sign.result fits_one) in
+    let more = ap (signed c.args.signs.second) (sym c.cuts_of-value.ensures.second) ∙ sym c.with_sign-2.ensures
+    ∙ sym (to_z-of_z w64 c.with_sign-2.result fits_other) in
+    pair_is piece form marks.comma end c.args.signs.first c.args.signs.second _ _ rests.0 rests.1 first second _ _ value more s.ends between
+    (t.ends ∙ c.byte.ensures) ordered
