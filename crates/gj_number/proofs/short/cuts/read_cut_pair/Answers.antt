@@ -10,6 +10,7 @@ use Rattle.gj_number.specs.Internal.DigitRuns.{StartsSigned}
 use Rattle.gj_number.proofs.Shorts.CutPairs.{number_is, pair_is, point_of, after_other}
 use Rattle.gj_number.proofs.Shorts.NumberPairs.{comma_other}
 use Rattle.gj_number.proofs.Shorts.NumberPrefixes.{sign_length}
+use Rattle.gj_number.proofs.Shorts.UsualMarks.{pair_marks, one_span, other_span, one_small, other_small, second_there, space_there}
 use Rattle.gj_number.proofs.short.cuts.read_cut_pair.Goals as goal
 use Rattle.gj_number.proofs.short.cuts.read_cut_pair.Goals.{else-form-via-then-form+else-piece-marks-ne32, else-form-via-else-form}
 
@@ -71,3 +72,74 @@ returns-clause-numbers c =
     ∙ sym (to_z-of_z w64 c.with_sign-2.result fits_other) in
     pair_is piece form marks.comma end c.args.signs.first c.args.signs.second _ _ rests.0 rests.1 first second _ _ value more s.ends between
     (t.ends ∙ c.byte.ensures) ordered
+pub returns-in_default-clause-taken : goal.returns-in_default-clause-taken
+returns-in_default-clause-taken c = λ u sign other_sign.
+    let piece = c.args.piece.now in
+    let form = c.args.form in
+    let marks = c.first_marks-marks.result in
+    let h = c.first_marks-marks.ensures.first _ _ _ _ (pair_marks piece form u (omega (arith, c.requires))) in
+    let few = c.first_marks-marks.ensures.next in
+    c.in_default.ensures.taken (one_span piece form u _ _ _ _ _ _ h refl few refl) sign
+
+pub returns-then-piece-marks-ne32-clause-taken : goal.returns-then-piece-marks-ne32-clause-taken
+returns-then-piece-marks-ne32-clause-taken c = λ u sign other_sign.
+    let piece = c.args.piece.now in
+    let form = c.args.form in
+    let marks = c.first_marks-marks.result in
+    let h = c.first_marks-marks.ensures.first _ _ _ _ (pair_marks piece form u (omega (arith, c.requires))) in
+    let few = c.first_marks-marks.ensures.next in
+    let is = space_there piece form u _ _ _ _ _ _ h refl few refl c.if-form.true in
+    let differs = c.if-piece-marks-ne32.true in
+    grind (arith, nat_tests)
+
+pub returns-in_default-span_between-clause-taken : goal.returns-in_default-span_between-clause-taken
+returns-in_default-span_between-clause-taken c = λ u sign other_sign.
+    let piece = c.args.piece.now in
+    let form = c.args.form in
+    let marks = c.first_marks-marks.result in
+    let h = c.first_marks-marks.ensures.first _ _ _ _ (pair_marks piece form u (omega (arith, c.requires))) in
+    let few = c.first_marks-marks.ensures.next in
+    let end = ap (end_before marks.next) c.before_comma.ensures in
+    c.in_default-span_between.ensures.taken (other_span piece form u _ _ _ _ _ _ h end few c.byte.ensures)
+    (let P : ℕ → Type 0 = λ k. StartsSigned (drop k piece) c.args.signs.second in
+    subst P (second_there piece form u _ _ _ _ _ _ h end few c.byte.ensures) other_sign)
+
+pub returns-then-not-are_digits-clause-taken : goal.returns-then-not-are_digits-clause-taken
+returns-then-not-are_digits-clause-taken c = λ u sign other_sign.
+    let piece = c.args.piece.now in
+    let form = c.args.form in
+    let marks = c.first_marks-marks.result in
+    let h = c.first_marks-marks.ensures.first _ _ _ _ (pair_marks piece form u (omega (arith, c.requires))) in
+    let few = c.first_marks-marks.ensures.next in
+    let end = ap (end_before marks.next) c.before_comma.ensures in
+    let one = c.in-Some.one in
+    let other = c.in-Some-span_between.other in
+    let first = one_small piece form u _ _ _ _ _ _ h end few c.byte.ensures c.type_inv.piece
+    c.args.signs.first one.first one.natural one.fraction c.requires c.placed_digits-first.result
+    c.placed_digits-first.ensures.digits c.in-Some.ensures.span c.in-Some.ensures.point in
+    let second = other_small piece form u _ _ _ _ _ _ h end few c.byte.ensures c.type_inv.piece
+    c.args.signs.second other.first other.natural other.fraction c.requires
+    c.placed_digits-second.result c.placed_digits-second.ensures.digits c.in-Some-span_between.ensures.span c.in-Some-span_between.ensures.point in
+    let yes = c.are_digits.ensures.taken first.0 second.0 in
+    let no = c.if-not-are_digits.true in
+    cc
+
+pub returns-then-not-are_whole-clause-taken : goal.returns-then-not-are_whole-clause-taken
+returns-then-not-are_whole-clause-taken c = λ u sign other_sign.
+    let piece = c.args.piece.now in
+    let form = c.args.form in
+    let marks = c.first_marks-marks.result in
+    let h = c.first_marks-marks.ensures.first _ _ _ _ (pair_marks piece form u (omega (arith, c.requires))) in
+    let few = c.first_marks-marks.ensures.next in
+    let end = ap (end_before marks.next) c.before_comma.ensures in
+    let one = c.in-Some.one in
+    let other = c.in-Some-span_between.other in
+    let first = one_small piece form u _ _ _ _ _ _ h end few c.byte.ensures c.type_inv.piece
+    c.args.signs.first one.first one.natural one.fraction c.requires c.placed_digits-first.result
+    c.placed_digits-first.ensures.digits c.in-Some.ensures.span c.in-Some.ensures.point in
+    let second = other_small piece form u _ _ _ _ _ _ h end few c.byte.ensures c.type_inv.piece
+    c.args.signs.second other.first other.natural other.fraction c.requires
+    c.placed_digits-second.result c.placed_digits-second.ensures.digits c.in-Some-span_between.ensures.span c.in-Some-span_between.ensures.point in
+    let yes = c.are_whole.ensures.taken first.1 second.1 in
+    let no = c.if-not-are_whole.true in
+    cc
