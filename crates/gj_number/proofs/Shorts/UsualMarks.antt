@@ -146,7 +146,7 @@ module _ (xs : List ℕ) (n behind : ℕ) (u : StartsUsual xs n behind) where
   marks_are marked =
       let within = u.number.within in
       let P : ℕ → ℕ → Type 0 = λ a m. map is_mark xs ≡ replicate (bool_byte negative + before) false
-          ++ true ∷ (replicate a false ++ true ∷ map is_mark (drop (suc m) xs)) in
+      ++ true ∷ (replicate a false ++ true ∷ map is_mark (drop (suc m) xs)) in
       let none : n + 0 ≡ n = omega arith in
       let no_more : after + 0 ≡ after = omega arith in
       let there : is_mark (get_or xs (n + 0) 0) ≡ true = ap (λ k. is_mark (get_or xs k 0)) none ∙ ap is_mark u.ends ∙ marked in

@@ -5,7 +5,7 @@
 ghost use Rattle.std.specs.Prelude.{◌≡◌, ◌==◌, ℕ, ◌+◌, ◌*◌, ◌^◌, ◌<◌, ◌≤◌, ◌↔◌, ◌⊎◌, true, get_or, length, map, take, drop, IsTrue, IfSome};
 ghost use Rattle.std.specs.Simd.Lanes.{mask_l};
 ghost use Rattle.std.specs.Option.{IsSome};
-ghost use Rattle.gj_number.specs.Bytes.{zero_digit};
+ghost use Rattle.gj_number.specs.Bytes.{space, zero_digit};
 ghost use Rattle.gj_number.specs.Cuts.{StartsWithCutPair, StartsUsualCuts, second_after};
 ghost use Rattle.gj_number.specs.Internal.DigitRuns.{StartsSigned};
 ghost use Rattle.gj_number.specs.Internal.CutLanes.{is_mark, AreMarks, HasMarks, IsMarkedSpan, IsSpan, IsWhole};
@@ -193,6 +193,15 @@ fn span_between(
     })
 }
 
+/// Whether a space stands at an index, if one is to stand there.
+#[inline(always)]
+fn is_spaced(piece: &[u8], at: usize, spaced: bool) -> bool
+    requires { at < length piece.now }
+    ensures { IsTrue result ↔ (IsTrue spaced → get_or piece.now at 0 ≡ space) }
+{
+    !spaced || piece[at] == b' '
+}
+
 /// Whether digits of a number that are in no lane say nothing more, once they are known to be digits.
 #[inline(always)]
 fn is_judged(fraction: usize, precise: bool) -> bool
@@ -243,12 +252,13 @@ pub fn read_cut_pair(piece: &[u8], signs: Signs, form: PairForm) -> Option<CutPa
     let Some(one) = span_between(piece, 0, signs.first, marks.point, marks.comma, b',') else {
         return None;
     };
-    if form.spaced && piece[marks.comma + 1] != b' ' {
+    if !is_spaced(piece, marks.comma + 1, form.spaced) {
         return None;
     }
     let at = marks.comma + 1 + form.spaced as usize;
     let end = marks.next.wrapping_sub(form.after.before_comma());
-    let Some(other) = span_between(piece, at, signs.second, marks.other_point, end, form.after.byte()) else {
+    let behind = form.after.byte();
+    let Some(other) = span_between(piece, at, signs.second, marks.other_point, end, behind) else {
         return None;
     };
     let first = placed_digits(&piece[one.first..], one.natural, one.fraction);
