@@ -7,7 +7,7 @@
 //!
 //! A [`Short`] is an ordinary number, of at most eighteen digits and no exponent, which [`read_short`] reads whole from
 //! the start of a piece. What its methods say of it, they say of its decimal. [`read_decimal`] reads longer numbers too,
-//! and gives their decimal. [`read_pair`] reads two ordinary numbers at once, and [`read_inner_cut_pair`] two of
+//! and gives their decimal. [`read_pair`] reads two ordinary numbers at once, and [`read_cut_pair`] two of
 //! which no more is needed than their cut values. [`unsigned_run`] only counts the bytes of a number without a sign.
 #![tactic(auto)]
 
@@ -28,7 +28,7 @@ pub use decimal::Decimal;
 pub use literal::{Literal, Step};
 pub use prefix::read_decimal;
 pub use short::Short;
-pub use short::cuts::{Cut, CutPair, Signs, read_inner_cut_pair};
+pub use short::cuts::{After, Cut, CutPair, PairForm, Signs, read_cut_pair};
 pub use short::pair::{Pair, read_last_pair, read_pair};
 pub use short::prefix::read_short;
 pub use short::unsigned::unsigned_run;

@@ -1,12 +1,12 @@
 -- Two numbers as their cut values, from where they stand and their lanes.
 use Rattle.std.proofs.Common.{◌≡◌, ◌↔◌, ℕ, ◌+◌, ◌-◌, ◌^◌, ◌<◌, ◌≤◌, Bool, true, false, IsTrue, List, length, map, take, drop, get_or, Fits}
-use Rattle.std.proofs.Common.{Some, refl, inl, sym, ◌∙◌, ap, subst, arith, length-drop, ℤ, w8}
+use Rattle.std.proofs.Common.{Some, refl, sym, ◌∙◌, ap, subst, arith, length-drop, ℤ, w8}
 use mir.Val.{bool_byte}
 use lib.Lanes.{Each1}
 use Rattle.std.proofs.lemmas.List.{drop-drop, get_or-drop, take_rest}
 use Rattle.std.proofs.lemmas.List.Sums.{fold-append}
-use Rattle.gj_number.specs.Bytes.{comma, close_bracket, decimal_point, IsDigit}
-use Rattle.gj_number.specs.Cuts.{StartsWithCutPair}
+use Rattle.gj_number.specs.Bytes.{comma, space, decimal_point, IsDigit}
+use Rattle.gj_number.specs.Cuts.{StartsWithCutPair, byte_after, second_after}
 use Rattle.gj_number.specs.Exact.{signed, cut_magnitude, places_of}
 use Rattle.gj_number.specs.Short.{short_value, StartsWithNumber}
 use Rattle.gj_number.specs.Value.{with_digit, number_of}
@@ -17,11 +17,20 @@ use Rattle.gj_number.specs.Internal.KeptParts.{limited_cut}
 use Rattle.gj_number.specs.Internal.MovedPoint.{SpellsPlain}
 use Rattle.gj_number.specs.Internal.NumberMachine.{class_of}
 use Rattle.gj_number.specs.declared.short.Short.{Short}
+use Rattle.gj_number.specs.declared.short.cuts.After.{After}
+use Rattle.gj_number.specs.declared.short.cuts.After.TheVariants.{Comma, Bracket, Space}
+use Rattle.gj_number.specs.declared.short.cuts.PairForm.{PairForm}
 use Rattle.gj_number.specs.declared.state.Class.TheVariants.{Other}
+use Rattle.gj_number.proofs.Shorts.NumberPairs.{comma_other, bracket_other, space_other}
 use Rattle.gj_number.proofs.Shorts.CutPlaces.{natural_digits, fraction_digits, whole, whole_small, cut_is, precise_found}
 use Rattle.gj_number.proofs.Shorts.NumberPrefixes.{sign_length, sign_at, one_of, point_plain}
 use Rattle.gj_number.proofs.Shorts.ShortDecimals.{cut_some}
 use Rattle.gj_number.proofs.Shorts.WrittenExponents.{plain_front}
+
+pub after_other : (after : After) → class_of (byte_after after) ≡ Other
+after_other Comma = comma_other
+after_other Bracket = bracket_other
+after_other Space = space_other
 
 -- A number that stands in a piece from an index to another, with its cut value without the sign.
 pub record IsCutNumber (piece : List ℕ) (at : ℕ) (negative : Bool) (end value : ℕ) (precise : Bool) : Type 0 where
@@ -147,28 +156,28 @@ module _ (piece : List ℕ) (fits : (k : ℕ) → Fits w8 (get_or piece k 0)) (a
             (λ t z. found t (subst Q (sym there) z)) (λ t. subst Q there (none t)) w.other;
       }
 
-module _ (piece : List ℕ) (end_one end_other : ℕ) (negative minus : Bool) (value more : ℕ) (precise more_precise : Bool)
-    (one : IsCutNumber piece 0 negative end_one value precise) (other : IsCutNumber piece (end_one + 1) minus end_other more more_precise) where
+module _ (piece : List ℕ) (form : PairForm) (end_one end_other : ℕ) (negative minus : Bool) (value more : ℕ) (precise more_precise : Bool)
+    (one : IsCutNumber piece 0 negative end_one value precise)
+    (other : IsCutNumber piece (second_after form end_one) minus end_other more more_precise) where
   abbrev short_one : Short
   short_one = record { digits = one.digits; places = one.places; negative = negative; small = one.small; few = one.few }
 
   abbrev short_other : Short
   short_other = record { digits = other.digits; places = other.places; negative = minus; small = other.small; few = other.few }
 
-  pub pair_is : (v w : ℤ) → signed negative value ≡ v → signed minus more ≡ w → get_or piece end_one 0 ≡ comma → get_or piece end_other 0 ≡ close_bracket
-      → end_one + 1 ≤ end_other → StartsWithCutPair piece
+  pub pair_is : (v w : ℤ) → signed negative value ≡ v → signed minus more ≡ w → get_or piece end_one 0 ≡ comma
+      → (IsTrue form.spaced → get_or piece (end_one + 1) 0 ≡ space) → get_or piece end_other 0 ≡ byte_after form.after
+      → second_after form end_one ≤ end_other → StartsWithCutPair piece form
       (record { first = record { value = v; precise = precise }; second = record { value = w; precise = more_precise }; comma = end_one; end = end_other })
-  pair_is v w first_is second_is at_comma at_end ordered = let back : end_one - 0 ≡ end_one = omega arith in record {
+  pair_is v w first_is second_is at_comma between at_end ordered = let back : end_one - 0 ≡ end_one = omega arith in record {
     one = short_one;
     other = short_other;
-    starts = record {
-      one = subst (λ k. StartsWithNumber piece (short_value negative one.digits one.places) k) back one.starts;
-      comma = at_comma;
-      between = inl refl;
-      ordered = ordered;
-      other = other.starts;
-      closing = at_end;
-    };
+    starts = subst (λ k. StartsWithNumber piece (short_value negative one.digits one.places) k) back one.starts;
+    comma = at_comma;
+    between = between;
+    ordered = ordered;
+    ends = other.starts;
+    after = at_end;
     first = record { value = sym (cut_some negative one.digits one.places value one.small one.cut) ∙ ap Some first_is; precise = one.rest };
     second = record { value = sym (cut_some minus other.digits other.places more other.small other.cut) ∙ ap Some second_is; precise = other.rest };
   }

@@ -1,5 +1,5 @@
 -- Where two usual numbers have their marks, and that they are found.
-use Rattle.std.proofs.Common.{zero, suc, ◌≡◌, ℕ, ◌+◌, ◌-◌, ◌%◌, ◌<◌, ◌≤◌, ◌==◌, ◌++◌, Bool, true, false, List, [], ◌∷◌}
+use Rattle.std.proofs.Common.{zero, suc, ◌≡◌, ℕ, ◌+◌, ◌-◌, ◌%◌, ◌<◌, ◌≤◌, ◌==◌, ◌++◌, Bool, true, false, IsTrue, List, [], ◌∷◌}
 use Rattle.std.proofs.Common.{length, map, take, drop, get_or, All, Fits}
 use Rattle.std.proofs.Common.{replicate, refl, inl, inr, sym, ◌∙◌, ap, subst, arith, append_assoc, length-drop, length-append, w8}
 use mir.Val.{bool_byte}
@@ -10,13 +10,16 @@ use Rattle.std.proofs.lemmas.Bool.Decides.{nat_tests}
 use Rattle.std.proofs.lemmas.List.Elements.{All-get_or}
 use Rattle.std.proofs.lemmas.List.{drop-drop, get_or-drop, get_or-take, length-take-le}
 use Rattle.std.proofs.lemmas.List.{map-append, replicate-append-replicate, take-append-drop, take-map, take_rest}
-use Rattle.gj_number.specs.Bytes.{comma, minus_sign, decimal_point, close_bracket, IsDigit}
+use Rattle.gj_number.specs.Bytes.{comma, minus_sign, decimal_point, space, close_bracket, IsDigit}
 use Rattle.gj_number.specs.Denotation.{SpellsSign}
-use Rattle.gj_number.specs.Short.{StartsUsual, StartsUsualPair}
-use Rattle.gj_number.specs.Cuts.{BeginsNext}
+use Rattle.gj_number.specs.Short.{StartsUsual}
+use Rattle.gj_number.specs.Cuts.{StartsUsualCuts, byte_after, before_comma, second_after}
 use Rattle.gj_number.specs.Internal.CutLanes.{is_mark, before_point, after_point, in_lanes, AreMarks, HasMarks, IsMarkedSpan, IsSpan}
 use Rattle.gj_number.specs.Internal.DigitLanes.{lane_of}
 use Rattle.gj_number.specs.Internal.DigitRuns.{IsPointed}
+use Rattle.gj_number.specs.declared.short.cuts.After.{After}
+use Rattle.gj_number.specs.declared.short.cuts.After.TheVariants.{Comma, Bracket, Space}
+use Rattle.gj_number.specs.declared.short.cuts.PairForm.{PairForm}
 use Rattle.gj_number.proofs.Grammar.FoundParts.{natural_digits, all_digits}
 use Rattle.gj_number.proofs.Shorts.CutPlaces.{lanes_small}
 use Rattle.gj_number.proofs.Shorts.NumberPrefixes.{sign_length}
@@ -57,6 +60,33 @@ take_past (suc k) (suc a) ms h =
     let e : k - (a + 1) ≡ suc k - (suc a + 1) = omega arith in
     ap (λ zs. false ∷ zs) (take_past k a ms (omega arith) ∙ ap (λ n. replicate a false ++ true ∷ take n ms) e)
 
+-- ---- the bytes beside the numbers
+
+-- a space, or none
+space_past : (spaced : Bool) (xs : List ℕ) → 0 < length xs → (IsTrue spaced → get_or xs 0 0 ≡ space)
+    → map is_mark xs ≡ replicate (bool_byte spaced) false ++ map is_mark (drop (bool_byte spaced) xs)
+space_past false xs some is = refl
+space_past true [] some is = absurd (omega arith)
+space_past true (x ∷ xs) some is = let e : is_mark x ≡ false = ap is_mark (is refl) in (λ i. e i ∷ map is_mark xs)
+
+-- those before the comma after the second number
+ends_unmarked : (after : After) (xs : List ℕ) → before_comma after ≤ length xs → get_or xs 0 0 ≡ byte_after after
+    → (after ≡ Space → get_or xs 1 0 ≡ close_bracket) → map is_mark (take (before_comma after) xs) ≡ replicate (before_comma after) false
+ends_unmarked Comma xs room first second = refl
+ends_unmarked Bracket [] room first second = absurd (omega arith)
+ends_unmarked Bracket (x ∷ xs) room first second = let e : is_mark x ≡ false = ap is_mark first in (λ i. e i ∷ [])
+ends_unmarked Space [] room first second = absurd (omega arith)
+ends_unmarked Space (x ∷ []) room first second = absurd (omega arith)
+ends_unmarked Space (x ∷ (y ∷ xs)) room first second =
+    let e : is_mark x ≡ false = ap is_mark first in
+    let f : is_mark y ≡ false = ap is_mark (second refl) in
+    (λ i. e i ∷ (f i ∷ []))
+
+few_ends : (after : After) → before_comma after ≤ 2
+few_ends Comma = omega arith
+few_ends Bracket = omega arith
+few_ends Space = omega arith
+
 -- ---- one usual number
 
 module _ (xs : List ℕ) (n behind : ℕ) (u : StartsUsual xs n behind) where
@@ -75,61 +105,52 @@ module _ (xs : List ℕ) (n behind : ℕ) (u : StartsUsual xs n behind) where
   pub digits : IsPointed (drop (bool_byte negative) xs) before after
   digits = pointed xs negative n behind refl u
 
+  -- so many bytes after it are no marks, and the next is one
+  pub marks_past : (k : ℕ) → map is_mark (take k (drop n xs)) ≡ replicate k false → is_mark (get_or xs (n + k) 0) ≡ true → n + k < length xs
+      → map is_mark xs ≡ replicate (bool_byte negative + before) false
+      ++ true ∷ (replicate (after + k) false ++ true ∷ map is_mark (drop (suc (n + k)) xs))
+  marks_past k unmarked marked within =
+      let x = u.number.ordinary in
+      let between = take k (drop n xs) in
+      let more = drop (suc (n + k)) xs in
+      let b = get_or xs (n + k) 0 in
+      let rest_is : drop n xs ≡ between ++ (b ∷ more) =
+      sym (take-append-drop k (drop n xs)) ∙ ap (λ ys. between ++ ys) (drop-drop k n xs ∙ drop-cons xs (n + k) 0 within) in
+      let whole : xs ≡ x.sign ++ (x.natural ++ (x.after_natural ++ (between ++ (b ∷ more)))) =
+      sym (take-append-drop n xs) ∙ (λ i. x.joined i ++ rest_is i) ∙ simp append_assoc in
+      elim x.spells_fraction [
+        | inl h ↦ absurd (let some = u.some_after in omega (arith, ap length h.1))
+        | inr h ↦
+            let tail : List ℕ = x.fraction ++ between in
+            let rest : List ℕ = x.natural ++ ((decimal_point ∷ tail) ++ (b ∷ more)) in
+            let all : xs ≡ x.sign ++ rest =
+            whole ∙ ap (λ ys. x.sign ++ (x.natural ++ (ys ++ (between ++ (b ∷ more))))) h.0
+            ∙ ap (λ ys. x.sign ++ (x.natural ++ (decimal_point ∷ ys))) (sym (append_assoc x.fraction between (b ∷ more))) in
+            let e : (get_or (x.sign ++ rest) 0 0 == minus_sign) ≡ negative = ap (λ ys. get_or ys 0 0 == minus_sign) (sym all) in
+            let size = sign_size negative x.negative x.sign rest x.spells_sign e (first_digit x.natural _ x.spells_natural) in
+            let room : k ≤ length (drop n xs) = omega (arith, length-drop n xs) in
+            let long : length tail ≡ after + k = length-append x.fraction between ∙ ap (λ m. after + m) (length-take-le k (drop n xs) room) in
+            let off : map is_mark tail ≡ replicate (length tail) false =
+            map-append is_mark x.fraction between ∙ (λ i. digits_unmarked x.fraction (all_digits x.fraction h.1) i ++ unmarked i)
+            ∙ replicate-append-replicate (length x.fraction) k false ∙ ap (λ m. replicate m false) (sym long) in
+            ap (map is_mark) all
+            ∙ number_marks x.sign x.natural tail more b (sign_unmarked x.negative x.sign x.spells_sign) (natural_digits x.natural x.spells_natural)
+            off marked
+            ∙ ap (λ m. replicate (m + before) false ++ true ∷ (replicate (length tail) false ++ true ∷ map is_mark more)) size
+            ∙ ap (λ m. replicate (bool_byte negative + before) false ++ true ∷ (replicate m false ++ true ∷ map is_mark more)) long
+      ]
+
+  -- the byte after it is a mark
   pub marks_are : is_mark behind ≡ true → map is_mark xs ≡ replicate (bool_byte negative + before) false
       ++ true ∷ (replicate after false ++ true ∷ map is_mark (drop (suc n) xs))
   marks_are marked =
-      let x = u.number.ordinary in
-      let more = drop (suc n) xs in
-      let b = get_or xs n 0 in
-      let whole : xs ≡ x.sign ++ (x.natural ++ (x.after_natural ++ (b ∷ more))) =
-      sym (take-append-drop n xs) ∙ (λ i. x.joined i ++ drop-cons xs n 0 u.number.within i) ∙ simp append_assoc in
-      elim x.spells_fraction [
-        | inl h ↦ absurd (let some = u.some_after in omega (arith, ap length h.1))
-        | inr h ↦
-            let rest : List ℕ = x.natural ++ ((decimal_point ∷ x.fraction) ++ (b ∷ more)) in
-            let all : xs ≡ x.sign ++ rest = whole ∙ ap (λ ys. x.sign ++ (x.natural ++ (ys ++ (b ∷ more)))) h.0 in
-            let e : (get_or (x.sign ++ rest) 0 0 == minus_sign) ≡ negative = ap (λ ys. get_or ys 0 0 == minus_sign) (sym all) in
-            let size = sign_size negative x.negative x.sign rest x.spells_sign e (first_digit x.natural _ x.spells_natural) in
-            ap (map is_mark) all
-            ∙ number_marks x.sign x.natural x.fraction more b (sign_unmarked x.negative x.sign x.spells_sign) (natural_digits x.natural x.spells_natural)
-            (digits_unmarked x.fraction (all_digits x.fraction h.1)) (ap is_mark u.ends ∙ marked)
-            ∙ ap (λ k. replicate (k + before) false ++ true ∷ (replicate after false ++ true ∷ map is_mark more)) size
-      ]
-
-  -- the byte after it is no mark, and the next is one
-  pub marks_past : is_mark behind ≡ false → (c : ℕ) → get_or xs (n + 1) 0 ≡ c → is_mark c ≡ true → n + 1 < length xs
-      → map is_mark xs ≡ replicate (bool_byte negative + before) false
-      ++ true ∷ (replicate (after + 1) false ++ true ∷ map is_mark (drop (suc (suc n)) xs))
-  marks_past unmarked c there marked within =
-      let x = u.number.ordinary in
-      let more = drop (suc (suc n)) xs in
-      let b = get_or xs n 0 in
-      let d = get_or xs (suc n) 0 in
-      let at : get_or xs (suc n) 0 ≡ c = ap (λ k. get_or xs k 0) {x = suc n} {y = n + 1} (omega arith) ∙ there in
-      let two : drop n xs ≡ b ∷ (d ∷ more) = drop-cons xs n 0 u.number.within ∙ ap (λ ys. b ∷ ys) (drop-cons xs (suc n) 0 (omega arith)) in
-      let whole : xs ≡ x.sign ++ (x.natural ++ (x.after_natural ++ (b ∷ (d ∷ more)))) =
-      sym (take-append-drop n xs) ∙ (λ i. x.joined i ++ two i) ∙ simp append_assoc in
-      elim x.spells_fraction [
-        | inl h ↦ absurd (let some = u.some_after in omega (arith, ap length h.1))
-        | inr h ↦
-            let tail : List ℕ = x.fraction ++ (b ∷ []) in
-            let rest : List ℕ = x.natural ++ ((decimal_point ∷ tail) ++ (d ∷ more)) in
-            let all : xs ≡ x.sign ++ rest =
-            whole ∙ ap (λ ys. x.sign ++ (x.natural ++ (ys ++ (b ∷ (d ∷ more))))) h.0
-            ∙ ap (λ ys. x.sign ++ (x.natural ++ (decimal_point ∷ ys))) (sym (append_assoc x.fraction (b ∷ []) (d ∷ more))) in
-            let e : (get_or (x.sign ++ rest) 0 0 == minus_sign) ≡ negative = ap (λ ys. get_or ys 0 0 == minus_sign) (sym all) in
-            let size = sign_size negative x.negative x.sign rest x.spells_sign e (first_digit x.natural _ x.spells_natural) in
-            let long : length tail ≡ after + 1 = length-append x.fraction (b ∷ []) in
-            let none : map is_mark (b ∷ []) ≡ replicate 1 false = ap (λ m. m ∷ []) (ap is_mark u.ends ∙ unmarked) in
-            let off : map is_mark tail ≡ replicate (length tail) false =
-            map-append is_mark x.fraction (b ∷ []) ∙ (λ i. digits_unmarked x.fraction (all_digits x.fraction h.1) i ++ none i)
-            ∙ replicate-append-replicate (length x.fraction) 1 false ∙ ap (λ k. replicate k false) (sym long) in
-            ap (map is_mark) all
-            ∙ number_marks x.sign x.natural tail more d (sign_unmarked x.negative x.sign x.spells_sign) (natural_digits x.natural x.spells_natural)
-            off (ap is_mark at ∙ marked)
-            ∙ ap (λ k. replicate (k + before) false ++ true ∷ (replicate (length tail) false ++ true ∷ map is_mark more)) size
-            ∙ ap (λ k. replicate (bool_byte negative + before) false ++ true ∷ (replicate k false ++ true ∷ map is_mark more)) long
-      ]
+      let within = u.number.within in
+      let P : ℕ → ℕ → Type 0 = λ a m. map is_mark xs ≡ replicate (bool_byte negative + before) false
+      ++ true ∷ (replicate a false ++ true ∷ map is_mark (drop (suc m) xs)) in
+      let none : n + 0 ≡ n = omega arith in
+      let no_more : after + 0 ≡ after = omega arith in
+      let there : is_mark (get_or xs (n + 0) 0) ≡ true = ap (λ k. is_mark (get_or xs k 0)) none ∙ ap is_mark u.ends ∙ marked in
+      subst (λ a. P a n) no_more (subst (P (after + 0)) none (marks_past 0 refl there (omega arith)))
 
 -- where it stands in a piece
 module _ (piece : List ℕ) (at point end n behind : ℕ) (u : StartsUsual (drop at piece) n behind)
@@ -229,11 +250,26 @@ module _ (piece : List ℕ) (at point end n behind : ℕ) (u : StartsUsual (drop
 
 -- ---- both
 
-module _ (piece : List ℕ) (u : StartsUsualPair piece) (tight : u.second_at ≡ u.comma_at + 1)
-    (follows : BeginsNext piece (u.second_at + u.length_other)) where
-  second_small : u.second_at ≤ 18
+module _ (piece : List ℕ) (form : PairForm) (u : StartsUsualCuts piece form) where
+  abbrev second_at : ℕ
+  second_at = second_after form u.comma_at
+
+  abbrev second : List ℕ
+  second = drop second_at piece
+
+  abbrev behind : ℕ
+  behind = byte_after form.after
+
+  abbrev ends : ℕ
+  ends = before_comma form.after
+
+  abbrev spaces : ℕ
+  spaces = bool_byte form.spaced
+
+  second_small : second_at ≤ 18
   second_small =
       let s = sign_length (negative piece u.comma_at comma u.one) in
+      let t = sign_length form.spaced in
       let l = length_is piece u.comma_at comma u.one in
       let few = u.one.few in
       let few_after = u.one.few_after in
@@ -246,54 +282,87 @@ module _ (piece : List ℕ) (u : StartsUsualPair piece) (tight : u.second_at ≡
   places = after piece u.comma_at comma u.one
 
   abbrev pub other_point_at : ℕ
-  other_point_at = bool_byte (negative (drop u.second_at piece) u.length_other close_bracket u.other)
-      + before (drop u.second_at piece) u.length_other close_bracket u.other
+  other_point_at = bool_byte (negative second u.length_other behind u.other) + before second u.length_other behind u.other
 
   abbrev pub other_places : ℕ
-  other_places = after (drop u.second_at piece) u.length_other close_bracket u.other
+  other_places = after second u.length_other behind u.other
 
-  comma_follows : get_or (drop u.second_at piece) (u.length_other + 1) 0 ≡ comma
+  other_small_enough : u.length_other ≤ 16
+  other_small_enough =
+      let s = sign_length (negative second u.length_other behind u.other) in
+      let l = length_is second u.length_other behind u.other in
+      let few = u.other.few in
+      let few_after = u.other.few_after in
+      omega arith
+
+  comma_follows : get_or second (u.length_other + ends) 0 ≡ comma
   comma_follows =
-      get_or-drop u.second_at piece (u.length_other + 1) 0
-      ∙ ap (λ k. get_or piece k 0) {x = u.second_at + (u.length_other + 1)} {y = u.second_at + u.length_other + 1} (omega arith) ∙ follows.comma
+      get_or-drop second_at piece (u.length_other + ends) 0
+      ∙ ap (λ k. get_or piece k 0) {x = second_at + (u.length_other + ends)} {y = second_at + u.length_other + ends} (omega arith) ∙ u.next
 
-  pub pair_marks : 48 ≤ length piece → AreMarks (map is_mark (take 48 piece)) point_at places other_point_at (other_places + 1)
+  bracket_follows : form.after ≡ Space → get_or second (u.length_other + 1) 0 ≡ close_bracket
+  bracket_follows is =
+      get_or-drop second_at piece (u.length_other + 1) 0
+      ∙ ap (λ k. get_or piece k 0) {x = second_at + (u.length_other + 1)} {y = second_at + u.length_other + 1} (omega arith) ∙ u.bracket is
+
+  -- from the byte after the comma on
+  marks_between : 48 ≤ length piece → map is_mark (drop (suc u.comma_at) piece) ≡ replicate spaces false ++ map is_mark second
+  marks_between long =
+      let room = second_small in
+      let after_comma : List ℕ = drop (u.comma_at + 1) piece in
+      let is : IsTrue form.spaced → get_or after_comma 0 0 ≡ space = λ t. get_or-drop (u.comma_at + 1) piece 0 0
+      ∙ ap (λ k. get_or piece k 0) {x = u.comma_at + 1 + 0} {y = u.comma_at + 1} (omega arith) ∙ u.between t in
+      ap (λ k. map is_mark (drop k piece)) {x = suc u.comma_at} {y = u.comma_at + 1} (omega arith)
+      ∙ space_past form.spaced after_comma (omega (arith, length-drop (u.comma_at + 1) piece)) is
+      ∙ ap (λ xs. replicate spaces false ++ map is_mark xs) (drop-drop spaces (u.comma_at + 1) piece)
+
+  pub pair_marks : 48 ≤ length piece → AreMarks (map is_mark (take 48 piece)) point_at places (spaces + other_point_at) (other_places + ends)
   pair_marks long =
-      let end : List Bool = map is_mark (drop (suc (suc u.length_other)) (drop u.second_at piece)) in
-      let fours : List Bool = replicate (other_places + 1) false ++ true ∷ end in
-      let threes : List Bool = replicate other_point_at false ++ true ∷ fours in
+      let end : List Bool = map is_mark (drop (suc (u.length_other + ends)) second) in
+      let fours : List Bool = replicate (other_places + ends) false ++ true ∷ end in
+      let threes : List Bool = replicate (spaces + other_point_at) false ++ true ∷ fours in
       let twos : List Bool = replicate places false ++ true ∷ threes in
       let room = second_small in
-      let size = length_is (drop u.second_at piece) u.length_other close_bracket u.other in
-      let sign = sign_length (negative (drop u.second_at piece) u.length_other close_bracket u.other) in
-      let before_few = u.other.few in
-      let after_few = u.other.few_after in
-      let more_left : u.length_other + 1 < length (drop u.second_at piece) = omega (arith, length-drop u.second_at piece) in
+      let other_room = other_small_enough in
+      let few = few_ends form.after in
+      let size = length_is second u.length_other behind u.other in
+      let size_one = length_is piece u.comma_at comma u.one in
+      let left = length-drop second_at piece in
+      let left_after = length-drop u.length_other second in
+      let bytes_after : map is_mark (take ends (drop u.length_other second)) ≡ replicate ends false =
+      ends_unmarked form.after (drop u.length_other second) (omega arith) (get_or-drop u.length_other second 0 0
+      ∙ ap (λ k. get_or second k 0) {x = u.length_other + 0} {y = u.length_other} (omega arith) ∙ u.other.ends)
+      (λ is. get_or-drop u.length_other second 1 0 ∙ bracket_follows is) in
+      let past : map is_mark second ≡ replicate other_point_at false ++ true ∷ fours =
+      marks_past second u.length_other behind u.other ends bytes_after (ap is_mark comma_follows) (omega arith) in
+      let joined : replicate spaces false ++ map is_mark second ≡ threes =
+      ap (λ ms. replicate spaces false ++ ms) past ∙ sym (append_assoc (replicate spaces false) (replicate other_point_at false) (true ∷ fours))
+      ∙ ap (λ ms. ms ++ true ∷ fours) (replicate-append-replicate spaces other_point_at false) in
       let whole : map is_mark piece ≡ replicate point_at false ++ true ∷ twos =
       marks_are piece u.comma_at comma u.one refl
-      ∙ ap (λ ms. replicate point_at false ++ true ∷ (replicate places false ++ true ∷ ms))
-      (ap (λ i. map is_mark (drop i piece)) {x = suc u.comma_at} {y = u.second_at} (omega arith)
-      ∙ marks_past (drop u.second_at piece) u.length_other close_bracket u.other refl comma comma_follows refl more_left) in
-      let a = u.one.few in
-      let b = u.one.few_after in
-      let c = u.other.few in
-      let d = u.other.few_after in
-      let s = sign_length (negative piece u.comma_at comma u.one) in
-      let t = sign_length (negative (drop u.second_at piece) u.length_other close_bracket u.other) in
+      ∙ ap (λ ms. replicate point_at false ++ true ∷ (replicate places false ++ true ∷ ms)) (marks_between long ∙ joined) in
       let k : ℕ = 48 - (point_at + 1) in
       let l : ℕ = k - (places + 1) in
-      let m : ℕ = l - (other_point_at + 1) in (
-        take (m - (other_places + 1 + 1)) end,
+      let m : ℕ = l - (spaces + other_point_at + 1) in (
+        take (m - (other_places + ends + 1)) end,
         sym (take-map is_mark 48 piece) ∙ ap (take 48) whole ∙ take_past 48 point_at twos (omega arith)
             ∙ ap (λ ms. replicate point_at false ++ true ∷ ms) (take_past k places threes (omega arith)
-            ∙ ap (λ ms. replicate places false ++ true ∷ ms) (take_past l other_point_at fours (omega arith)
-            ∙ ap (λ ms. replicate other_point_at false ++ true ∷ ms) (take_past m (other_places + 1) end (omega arith)))),
+            ∙ ap (λ ms. replicate places false ++ true ∷ ms) (take_past l (spaces + other_point_at) fours (omega arith)
+            ∙ ap (λ ms. replicate (spaces + other_point_at) false ++ true ∷ ms) (take_past m (other_places + ends) end (omega arith)))),
       )
 
-  module _ (point comma_is other_point next end_is : ℕ) (h : HasMarks point comma_is other_point next point_at places other_point_at (other_places + 1))
-      (before_next : next ≤ 64 → end_is ≡ (next + 18446744073709551615) % 18446744073709551616) (few_next : next ≤ 64) where
-    pub second_there : u.second_at ≡ comma_is + 1
-    second_there = let a = h.comma_is in let l = length_is piece u.comma_at comma u.one in omega arith
+  module _ (point comma_is other_point next end_is behind_is : ℕ)
+      (h : HasMarks point comma_is other_point next point_at places (spaces + other_point_at) (other_places + ends))
+      (before_next : end_is ≡ (next + (18446744073709551616 - ends)) % 18446744073709551616) (few_next : next ≤ 64)
+      (behind_same : behind_is ≡ behind) where
+    comma_there : u.comma_at ≡ comma_is
+    comma_there = let a = h.comma_is in let l = length_is piece u.comma_at comma u.one in omega arith
+
+    pub second_there : second_at ≡ second_after form comma_is
+    second_there = ap (second_after form) comma_there
+
+    pub space_there : IsTrue form.spaced → get_or piece (comma_is + 1) 0 ≡ space
+    space_there spaced = ap (λ k. get_or piece (k + 1) 0) (sym comma_there) ∙ u.between spaced
 
     one_point : point ≡ 0 + bool_byte (negative piece u.comma_at comma u.one) + before piece u.comma_at comma u.one
     one_point = let a = h.point_is in omega arith
@@ -301,20 +370,20 @@ module _ (piece : List ℕ) (u : StartsUsualPair piece) (tight : u.second_at ≡
     one_end : comma_is ≡ point + 1 + places
     one_end = let a = h.point_is in let b = h.comma_is in omega arith
 
-    other_from : other_point ≡ u.second_at + bool_byte (negative (drop u.second_at piece) u.length_other close_bracket u.other)
-        + before (drop u.second_at piece) u.length_other close_bracket u.other
-    other_from = let a = second_there in let b = h.comma_is in let d = h.other_point_is in omega arith
+    other_from : other_point ≡ second_at + bool_byte (negative second u.length_other behind u.other) + before second u.length_other behind u.other
+    other_from = let a = comma_there in let b = h.comma_is in let d = h.other_point_is in omega arith
 
     other_end : end_is ≡ other_point + 1 + other_places
-    other_end = let a = h.other_point_is in let b = h.next_is in let e = before_next few_next in omega arith
+    other_end = let a = h.other_point_is in let b = h.next_is in let few = few_ends form.after in omega arith
 
     pub one_span : IsMarkedSpan piece 0 point comma_is comma
     one_span = span_at piece 0 point comma_is u.comma_at comma u.one one_point one_end
 
-    pub other_span : IsMarkedSpan piece (comma_is + 1) other_point end_is close_bracket
+    pub other_span : IsMarkedSpan piece (second_after form comma_is) other_point end_is behind_is
     other_span =
-        let P : ℕ → Type 0 = λ at. IsMarkedSpan piece at other_point end_is close_bracket in
-        subst P second_there (span_at piece u.second_at other_point end_is u.length_other close_bracket u.other other_from other_end)
+        let P : ℕ → ℕ → Type 0 = λ at b. IsMarkedSpan piece at other_point end_is b in
+        subst (P (second_after form comma_is)) (sym behind_same)
+        (subst (λ at. P at behind) second_there (span_at piece second_at other_point end_is u.length_other behind u.other other_from other_end))
 
     module _ (fits : (k : ℕ) → Fits w8 (get_or piece k 0)) (minus : Bool) (first natural fraction : ℕ) (long : 64 ≤ length piece) (lanes : List ℕ)
         (placed : 0 < natural → 0 < fraction → lanes ≡ in_lanes (before_point natural (map lane_of (take 16 (take (length piece - first) (drop first piece)))))
@@ -325,24 +394,14 @@ module _ (piece : List ℕ) (u : StartsUsualPair piece) (tight : u.second_at ≡
         fraction_few piece 0 point comma_is u.comma_at comma u.one one_point one_end fits minus first natural fraction s there room long lanes placed,
       )
 
-      pub other_small : IsSpan piece (comma_is + 1) minus first natural fraction end_is close_bracket → other_point ≡ first + natural → u.second_at ≤ 32
+      pub other_small : IsSpan piece (second_after form comma_is) minus first natural fraction end_is behind_is → other_point ≡ first + natural
           → Each1 (λ x. x < 10) lanes × (fraction ≤ 12)
-      other_small t there room =
-          let P : ℕ → Type 0 = λ at. IsSpan piece at minus first natural fraction end_is close_bracket in
-          let s : P u.second_at = subst P (sym second_there) t in (
-            lanes_are_small piece u.second_at other_point end_is u.length_other close_bracket u.other other_from other_end fits minus first natural
+      other_small t there =
+          let P : ℕ → ℕ → Type 0 = λ at b. IsSpan piece at minus first natural fraction end_is b in
+          let s : P second_at behind = subst (P second_at) behind_same (subst (λ at. P at behind_is) (sym second_there) t) in
+          let room : second_at ≤ 32 = omega (arith, second_small) in (
+            lanes_are_small piece second_at other_point end_is u.length_other behind u.other other_from other_end fits minus first natural
                 fraction s there room long lanes placed,
-            fraction_few piece u.second_at other_point end_is u.length_other close_bracket u.other other_from other_end fits minus first natural fraction
+            fraction_few piece second_at other_point end_is u.length_other behind u.other other_from other_end fits minus first natural fraction
                 s there room long lanes placed,
           )
-
-    pub second_few : u.second_at ≤ 32
-    second_few = omega (arith, second_small)
-
-    -- the end is where the comma and the bracket follow
-    pub end_there : end_is ≡ u.second_at + u.length_other
-    end_there =
-        let a = other_end in
-        let b = other_from in
-        let l = length_is (drop u.second_at piece) u.length_other close_bracket u.other in
-        omega arith

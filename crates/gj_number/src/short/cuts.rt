@@ -1,13 +1,12 @@
-//! Two numbers with a comma between them, read as their cut values alone, where another array follows.
+//! Two numbers with a comma between them, read as their cut values alone, where another comma follows.
 //!
 //! A bit for each byte that is a comma or a point says where the parts of two numbers end, if two numbers stand there.
 //! What does stand there is checked after that.
 ghost use Rattle.std.specs.Prelude.{◌≡◌, ◌==◌, ℕ, ◌+◌, ◌*◌, ◌^◌, ◌<◌, ◌≤◌, ◌↔◌, ◌⊎◌, true, get_or, length, map, take, drop, IsTrue, IfSome};
 ghost use Rattle.std.specs.Simd.Lanes.{mask_l};
 ghost use Rattle.std.specs.Option.{IsSome};
-ghost use Rattle.gj_number.specs.Bytes.{comma, open_bracket, zero_digit};
-ghost use Rattle.gj_number.specs.Cuts.{StartsWithCutPair, BeginsNext};
-ghost use Rattle.gj_number.specs.Short.{StartsUsualPair};
+ghost use Rattle.gj_number.specs.Bytes.{space, zero_digit};
+ghost use Rattle.gj_number.specs.Cuts.{StartsWithCutPair, StartsUsualCuts, second_after};
 ghost use Rattle.gj_number.specs.Internal.DigitRuns.{StartsSigned};
 ghost use Rattle.gj_number.specs.Internal.CutLanes.{is_mark, AreMarks, HasMarks, IsMarkedSpan, IsSpan, IsWhole};
 
@@ -31,6 +30,53 @@ pub struct CutPair {
     pub end: usize,
 }
 
+/// What stands after the second of two numbers.
+#[derive(Clone, Copy, PartialEq, Eq)]
+pub enum After {
+    /// The comma before a third.
+    Comma,
+    /// A closing bracket, and then a comma.
+    Bracket,
+    /// A space, a closing bracket, and then a comma.
+    Space,
+}
+
+impl After {
+    ghost use Rattle.gj_number.specs.Cuts.{byte_after, before_comma};
+
+    /// The byte that it begins with.
+    #[inline(always)]
+    fn byte(self) -> u8
+        ensures { result ≡ byte_after self }
+    {
+        match self {
+            After::Comma => b',',
+            After::Bracket => b']',
+            After::Space => b' ',
+        }
+    }
+
+    /// How many bytes that one stands before the next comma.
+    #[inline(always)]
+    fn before_comma(self) -> usize
+        ensures { result ≡ before_comma self }
+    {
+        match self {
+            After::Comma => 0,
+            After::Bracket => 1,
+            After::Space => 2,
+        }
+    }
+}
+
+/// How two numbers with a comma between them are written.
+#[derive(Clone, Copy)]
+pub struct PairForm {
+    /// Whether one space stands after the comma.
+    pub spaced: bool,
+    pub after: After,
+}
+
 /// Which of two numbers have a minus sign.
 #[derive(Clone, Copy)]
 pub struct Signs {
@@ -47,7 +93,7 @@ struct Span {
 }
 
 /// The indices of the first four marks in a piece, 64 for one that is not there. `next` is that of the comma after the
-/// array.
+/// second number, or after its array.
 #[derive(Clone, Copy)]
 struct Marks {
     point: usize,
@@ -147,16 +193,13 @@ fn span_between(
     })
 }
 
-/// A comma and the bracket of an array as one number, the comma in the lower byte.
-const NEXT: u16 = 0x5b2c;
-
-/// Whether a comma and the bracket of another array stand at an index.
+/// Whether a space stands at an index, if one is to stand there.
 #[inline(always)]
-fn begins_next(piece: &[u8], at: usize) -> bool
-    requires { at + 1 < length piece.now }
-    ensures { IsTrue result ↔ (get_or piece.now at 0 ≡ comma) × (get_or piece.now (at + 1) 0 ≡ open_bracket) }
+fn is_spaced(piece: &[u8], at: usize, spaced: bool) -> bool
+    requires { at < length piece.now }
+    ensures { IsTrue result ↔ (IsTrue spaced → get_or piece.now at 0 ≡ space) }
 {
-    u16::from_le_bytes([piece[at], piece[at + 1]]) == NEXT
+    !spaced || piece[at] == b' '
 }
 
 /// Whether digits of a number that are in no lane say nothing more, once they are known to be digits.
@@ -194,33 +237,30 @@ fn are_whole(
         && are_last_digits(piece, comma, end)
 }
 
-/// Reads two numbers from the start of a piece as their cut values, with a comma between them and no space, a closing
-/// bracket after the second, and then a comma and another array, where one to three digits stand before the point of each
-/// and eleven at most after it. Each has a minus sign where `signs` says so, and else none.
-/// Of others, `None` says that another reader is to read them.
+/// Reads two numbers of this form from the start of a piece as their cut values, where one to three digits stand before the
+/// point of each and fifteen at most after it. Each has a minus sign where `signs` says so, and else none. They are always
+/// found where eleven digits at most stand after the point. Of others, `None` says that another reader is to read them.
 #[inline(always)]
-pub fn read_inner_cut_pair(piece: &[u8], signs: Signs) -> Option<CutPair>
+pub fn read_cut_pair(piece: &[u8], signs: Signs, form: PairForm) -> Option<CutPair>
     requires { 64 ≤ length piece.now }
-    ensures numbers { IfSome result (λ pair. StartsWithCutPair piece.now pair) }
-    ensures within { IfSome result (λ pair. pair.end + 3 ≤ length piece.now) }
+    ensures numbers { IfSome result (λ pair. StartsWithCutPair piece.now form pair) }
     ensures near { IfSome result (λ pair. pair.end < 64) }
-    ensures next { IfSome result (λ pair. BeginsNext piece.now pair.end) }
-    ensures taken { (usual : StartsUsualPair piece.now) → usual.second_at ≡ usual.comma_at + 1
-        → BeginsNext piece.now (usual.second_at + usual.length_other) → StartsSigned piece.now signs.first
-        → StartsSigned (drop usual.second_at piece.now) signs.second → IsSome result }
+    ensures taken { (usual : StartsUsualCuts piece.now form) → StartsSigned piece.now signs.first
+        → StartsSigned (drop (second_after form usual.comma_at) piece.now) signs.second → IsSome result }
 {
     let marks = first_marks(piece);
     let Some(one) = span_between(piece, 0, signs.first, marks.point, marks.comma, b',') else {
         return None;
     };
-    let at = marks.comma + 1;
-    let end = marks.next.wrapping_sub(1);
-    let Some(other) = span_between(piece, at, signs.second, marks.other_point, end, b']') else {
-        return None;
-    };
-    if !begins_next(piece, end + 1) {
+    if !is_spaced(piece, marks.comma + 1, form.spaced) {
         return None;
     }
+    let at = marks.comma + 1 + form.spaced as usize;
+    let end = marks.next.wrapping_sub(form.after.before_comma());
+    let behind = form.after.byte();
+    let Some(other) = span_between(piece, at, signs.second, marks.other_point, end, behind) else {
+        return None;
+    };
     let first = placed_digits(&piece[one.first..], one.natural, one.fraction);
     let second = placed_digits(&piece[other.first..], other.natural, other.fraction);
     if !are_digits(first, second) {

@@ -1,30 +1,60 @@
 //! What no clause says: the cut values of pairs, and which others are left.
 use crate::checks::equal;
-use gj_number::{Signs, read_inner_cut_pair};
+use gj_number::{After, PairForm, Signs, read_cut_pair};
 
-/// The numbers, each by its value times 10^7 and whether it is too precise, and where the comma and the closing bracket
+/// The numbers, each by its value times 10^7 and whether it is too precise, and where the comma and the byte after the second
 /// stand.
 type Parts = (i64, bool, i64, bool, usize, usize);
+
+/// As `1.5,2.5],`.
+const COMPACT: PairForm = PairForm {
+    spaced: false,
+    after: After::Bracket,
+};
+
+/// As `1.5, 2.5],`.
+const SPACED: PairForm = PairForm {
+    spaced: true,
+    after: After::Bracket,
+};
+
+/// As `1.5,2.5,`.
+const COMPACT_OF_THREE: PairForm = PairForm {
+    spaced: false,
+    after: After::Comma,
+};
+
+/// As `1.5, 2.5,`.
+const SPACED_OF_THREE: PairForm = PairForm {
+    spaced: true,
+    after: After::Comma,
+};
+
+/// As `1.5, 2.5 ],`.
+const SPACED_TO_THE_END: PairForm = PairForm {
+    spaced: true,
+    after: After::Space,
+};
 
 /// Which of the two numbers of a text have a minus sign.
 fn signs_of(text: &str) -> Signs {
     Signs {
         first: text.starts_with('-'),
-        second: text.contains(",-"),
+        second: text.contains(",-") || text.contains(", -"),
     }
 }
 
-/// What is read of a text, with the signs that its numbers have.
+/// What is read of a text, with the signs that its numbers have, if it is compact.
 fn parts(text: &str) -> Option<Parts> {
-    parts_as(text, signs_of(text))
+    parts_as(text, signs_of(text), COMPACT)
 }
 
-fn parts_as(text: &str, signs: Signs) -> Option<Parts> {
+fn parts_as(text: &str, signs: Signs, form: PairForm) -> Option<Parts> {
     let mut piece = [b' '; 64];
     for (to, from) in piece.iter_mut().zip(text.as_bytes()) {
         *to = *from;
     }
-    match read_inner_cut_pair(&piece, signs) {
+    match read_cut_pair(&piece, signs, form) {
         Some(pair) => Some((
             pair.first.value,
             pair.first.precise,
@@ -37,7 +67,7 @@ fn parts_as(text: &str, signs: Signs) -> Option<Parts> {
     }
 }
 
-static PAIRS: [(&str, Parts); 14] = [
+static PAIRS: [(&str, Parts); 15] = [
     (
         "-122.4194155,37.7749295],[",
         (-1224194155, false, 377749295, false, 12, 23),
@@ -88,6 +118,7 @@ static PAIRS: [(&str, Parts); 14] = [
         "0.00000001,0.100000000000],[",
         (0, true, 1000000, false, 10, 25),
     ),
+    ("1.5,2.5],2.5", (15000000, false, 25000000, false, 3, 7)),
 ];
 
 #[test]
@@ -107,13 +138,13 @@ fn leaves_pairs_with_other_signs(rt: HostRuntime) {
                 first: *first,
                 second: *second,
             };
-            equal(&rt, parts_as(text, signs), None, text);
+            equal(&rt, parts_as(text, signs, COMPACT), None, text);
         }
     }
 }
 
 /// Pieces that start with no such pair, or with one that is left to another reader.
-static OTHERS: [(&str, &str); 27] = [
+static OTHERS: [(&str, &str); 26] = [
     ("zero before the digits", "01.5,2.5],["),
     ("zero before the second's digits", "1.5,-02.5],["),
     ("no digit after the point", "1.,2.5],["),
@@ -132,7 +163,6 @@ static OTHERS: [(&str, &str); 27] = [
     ("no closing bracket", "1.5,2.5"),
     ("no closing bracket before the comma", "1.5,2.5,["),
     ("last of its array", "1.5,2.5]]"),
-    ("no array after the comma", "1.5,2.5],2.5"),
     ("brace", "1.5,2.5}"),
     ("space after the comma", "1.5, 2.5],["),
     ("space before the bracket", "1.5,2.5 ],["),
@@ -170,5 +200,86 @@ static BEHIND: [&str; 6] = [
 fn leaves_other_bytes_behind_the_lanes(rt: HostRuntime) {
     for text in BEHIND.iter() {
         equal(&rt, parts(text), None, text);
+    }
+}
+
+/// Pairs of other forms.
+static FORMS: [(&str, PairForm, Parts); 7] = [
+    (
+        "-122.4194155, 37.7749295], [",
+        SPACED,
+        (-1224194155, false, 377749295, false, 12, 24),
+    ),
+    (
+        "1.5, -2.5], [",
+        SPACED,
+        (15000000, false, -25000000, false, 3, 9),
+    ),
+    (
+        "1.5,2.5,3.5],[",
+        COMPACT_OF_THREE,
+        (15000000, false, 25000000, false, 3, 7),
+    ),
+    (
+        "1.5, 2.5, 3.5], [",
+        SPACED_OF_THREE,
+        (15000000, false, 25000000, false, 3, 8),
+    ),
+    (
+        "1.5, 2.5, 3.5 ], [",
+        SPACED_OF_THREE,
+        (15000000, false, 25000000, false, 3, 8),
+    ),
+    (
+        "1.5, 2.5 ], [",
+        SPACED_TO_THE_END,
+        (15000000, false, 25000000, false, 3, 8),
+    ),
+    (
+        "-122.419415512345678, 37.774929512345678 ], [",
+        SPACED_TO_THE_END,
+        (-1224194155, true, 377749295, true, 20, 40),
+    ),
+];
+
+#[test]
+fn reads_cut_pairs_of_other_forms(rt: HostRuntime) {
+    for (text, form, expected) in FORMS.iter() {
+        let read = parts_as(text, signs_of(text), *form);
+        equal(&rt, read, Some(*expected), text);
+    }
+}
+
+/// Pairs that are not of the form that is asked for.
+static OTHER_FORMS: [(&str, &str, PairForm); 11] = [
+    ("no space after the comma", "1.5,2.5],[", SPACED),
+    ("two spaces after the comma", "1.5,  2.5], [", SPACED),
+    ("tab after the comma", "1.5,\t2.5], [", SPACED),
+    ("space before the bracket", "1.5, 2.5 ], [", SPACED),
+    ("space after the comma", "1.5, 2.5,3.5],[", COMPACT_OF_THREE),
+    ("two numbers", "1.5,2.5],[", COMPACT_OF_THREE),
+    ("two numbers and spaces", "1.5, 2.5], [", SPACED_OF_THREE),
+    (
+        "space before the second comma",
+        "1.5, 2.5 , 3.5], [",
+        SPACED_OF_THREE,
+    ),
+    (
+        "no space before the bracket",
+        "1.5, 2.5], [",
+        SPACED_TO_THE_END,
+    ),
+    (
+        "two spaces before the bracket",
+        "1.5, 2.5  ], [",
+        SPACED_TO_THE_END,
+    ),
+    ("last of its array", "1.5, 2.5 ] ]", SPACED_TO_THE_END),
+];
+
+#[test]
+fn leaves_pairs_of_other_forms(rt: HostRuntime) {
+    for (case, text, form) in OTHER_FORMS.iter() {
+        equal(&rt, parts_as(text, signs_of(text), *form), None, case);
     }
 }
