@@ -63,17 +63,30 @@ flag_is short cut is = go cut.precise (below_zero (exact_of short).power) is.pre
     go true places h = let more : 7 < places = h.0 refl in grind (arith, nat_tests)
     go false places h = grind (arith, nat_tests, h)
 
+-- a third number that is written short is not among them
+third_short : (third : Option Numbered) (noted : KindWarnings) → IfSome third (λ number. number.value.places ≤ 7) → third_precise third noted ≡ noted
+third_short None noted few = refl
+third_short (Some number) noted few =
+    let short = number.value in
+    ap (λ precise. precise_with precise number.place noted) (written_short short.negative short.digits short.places few)
+
 pair_precise : (p : CutPosition) (f : Flat) → IsCutPosition p f → flat_precise f ≡ pair_with p nothing_noted
 pair_precise p f is =
     let first = flag_is f.first.value (record { value = p.first; precise = p.first_precise }) is.first in
     let second = flag_is f.second.value (record { value = p.second; precise = p.second_precise }) is.second in
-    (λ i. third_precise (is.third i) (precise_with (second i) (is.second_place i) (precise_with (first i) (is.first_place i) nothing_noted)))
+    third_short f.third _ is.third
+    ∙ (λ i. precise_with (second i) (is.second_place i) (precise_with (first i) (is.first_place i) nothing_noted))
+
+-- a position of two or three numbers has no more than three
+few_numbers : (third : Option Numbered) → nat_lt 3 (flat_count third) ≡ false
+few_numbers None = refl
+few_numbers (Some number) = refl
 
 pair_noted_is : (p : CutPosition) (f : Flat) (w : Warned) → IsCutPosition p f → is_none (corner_in (flat_values f)) ≡ false
     → sound_noted w (flat_position f) ≡ precise_noted w (pair_with p nothing_noted)
 pair_noted_is p f w is at =
     let e = pair_precise p f is in
-    (λ i. some_noted (is_nothing (e i)) (noted_when (at i) (noted_when (nat_lt 3 (flat_count (is.third i))) w W3 f.place) W5 f.place) W4 (e i))
+    (λ i. some_noted (is_nothing (e i)) (noted_when (at i) (noted_when (few_numbers f.third i) w W3 f.place) W5 f.place) W4 (e i))
 
 joined_with : (precise : Bool) (place : ℕ) (a b : KindWarnings) → joined_noted a (precise_with precise place b) ≡ precise_with precise place (joined_noted a b)
 joined_with true place a b = sym (joined_noted_assoc a b (noted_as 1 place))
@@ -81,10 +94,10 @@ joined_with false place a b = refl
 
 joined_pair : (p : CutPosition) (noted : KindWarnings) → joined_noted noted (pair_with p nothing_noted) ≡ pair_with p noted
 joined_pair p noted =
-    let first = joined_with p.first_precise (p.place + 1) noted nothing_noted in
+    let first = joined_with p.first_precise (p.place + p.first_at) noted nothing_noted in
     let alone = joined_noted_none noted in
-    joined_with p.second_precise (p.place + p.second_at) noted (precise_with p.first_precise (p.place + 1) nothing_noted)
-    ∙ ap (precise_with p.second_precise (p.place + p.second_at)) (first ∙ ap (precise_with p.first_precise (p.place + 1)) alone)
+    joined_with p.second_precise (p.place + p.second_at) noted (precise_with p.first_precise (p.place + p.first_at) nothing_noted)
+    ∙ ap (precise_with p.second_precise (p.place + p.second_at)) (first ∙ ap (precise_with p.first_precise (p.place + p.first_at)) alone)
 
 pub counted_more : (p : CutPosition) (f : Flat) (old new : PreciseNumbers) → IsCutPosition p f → is_none (corner_in (flat_values f)) ≡ false
     → counted_noted new ≡ pair_with p (counted_noted old) → HasCounted f old new

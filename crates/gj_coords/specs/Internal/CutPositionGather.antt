@@ -35,7 +35,7 @@ counted_noted numbers = if numbers.count == 0 then nothing_noted else noted_as n
 -- with those of a position
 abbrev pub pair_with : CutPosition → KindWarnings → KindWarnings
 pair_with position noted = precise_with position.second_precise (position.place + position.second_at)
-    (precise_with position.first_precise (position.place + 1) noted)
+    (precise_with position.first_precise (position.place + position.first_at) noted)
 
 -- as many more as a position in range has, whatever they are noted with
 abbrev pub HasCounted : Flat → PreciseNumbers → PreciseNumbers → Type 0
