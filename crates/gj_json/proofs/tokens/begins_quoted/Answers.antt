@@ -1,6 +1,6 @@
 -- The quotes, and plain characters between them.
 use Rattle.std.proofs.Common.{◌≡◌, ℕ, ◌+◌, ◌-◌, length, take, drop, subst, arith}
-use Rattle.std.proofs.lemmas.Bool.{eqb-eq}
+use Rattle.std.proofs.lemmas.Bool.{eqb-true}
 use Rattle.gj_json.specs.Internal.WholeTokens.{IsString}
 use Rattle.gj_json.proofs.Grammar.SpelledCharacters.{few_plain_characters}
 use Rattle.gj_json.proofs.Pieces.TokensInLevels.{quoted_is}
@@ -14,4 +14,4 @@ returns-then-begins_ascii c = λ h.
     let P : ℕ → Type 0 = λ k. IsString (take k piece) in
     subst P e
     (quoted_is piece n (omega arith) c.requires.quote
-    (few_plain_characters (take (length piece - 1) (drop 1 piece)) n (c.begins_ascii.ensures c.if-begins_ascii.true)) (omega arith) (eqb-eq _ _ h))
+    (few_plain_characters (take (length piece - 1) (drop 1 piece)) n (c.begins_ascii.ensures c.if-begins_ascii.true)) (omega arith) (eqb-true _ _ h))
