@@ -1,18 +1,19 @@
-//! Names of members that are looked for first with the length that the last one at the same place had.
+//! Names of members, which are looked for first with the length of the last one at the same place.
 
 ghost use Rattle.std.specs.Prelude.{◌<◌};
 ghost use Rattle.gj_json.specs.declared.lanes.TheConstants.{LANES};
 
 use crate::lanes::LANES;
 
-/// How many places among the members are told apart, as a mask.
-const PLACES: u8 = 31;
+/// The last place: members after it are counted from the first again.
+const LAST: u8 = 31;
 
-/// How many characters the names of the last members had, by the place of each among the members: what the next ones are
-/// looked for with first, and not more than that. Objects mostly have the same names in the same order.
+/// How many characters the names of members had last, by their place in the object. A name is looked for with that length
+/// first, since objects mostly have the same names in the same order. Nothing rests on it.
 #[derive(Clone, Copy)]
 pub struct NameLengths {
     lengths: [u8; 32],
+    /// The place of the next member.
     place: u8,
 }
 
@@ -25,26 +26,26 @@ impl NameLengths {
         }
     }
 
-    /// Before the first member of an object.
+    /// Before the first member of an object. The members of an object in it are counted with its own.
     pub fn begin(&mut self) {
         self.place = 0;
     }
 
-    /// How many characters the last name at the place of the next member had. The place after it is the next then.
+    /// How many characters the next name is expected to have, which are fewer than are looked at together.
     #[inline(always)]
-    pub fn next(&mut self) -> usize
+    pub fn expect_next(&mut self) -> usize
         ensures { result < LANES }
     {
-        let length = self.lengths[(self.place & PLACES) as usize];
+        let length = self.lengths[(self.place & LAST) as usize];
         self.place = self.place.wrapping_add(1);
         (length & 15) as usize
     }
 
-    /// The name at the place of which `next` spoke last has so many characters.
+    /// Notes how many characters the name has that `expect_next` was asked for last.
     pub fn note(&mut self, length: usize)
         requires { length < LANES }
     {
-        let place = self.place.wrapping_sub(1) & PLACES;
+        let place = self.place.wrapping_sub(1) & LAST;
         self.lengths[place as usize] = length as u8;
     }
 }

@@ -31,7 +31,7 @@ pub struct Reader {
     content: Content,
     mode: Mode,
     fault: Option<JsonFault>,
-    /// The names of members whose events do not matter to the sink.
+    /// How long the names of members are whose events do not matter to the sink.
     names: NameLengths,
     ghost sound: { IsMode mode },
     ghost within: { offset ≤ limits.bytes },

@@ -82,8 +82,8 @@ impl Reader {
         value + self.pass_value(&piece[value..])
     }
 
-    /// As `pass_any_member`, at once where the name is short, with one space after its colon or none. The next member at this place
-    /// is looked for with the length of the name first.
+    /// As `pass_any_member`, at once where the name is short, with one space after its colon or none. How long it is, is noted.
+    // The two calls at the end let the processor foresee which it is: the place of the value does not wait for that byte.
     #[inline(never)]
     fn pass_short_member(&mut self, piece: &[u8]) -> usize
         requires long { ROOM ≤ length piece.now }
@@ -106,10 +106,9 @@ impl Reader {
         self.pass_named(piece, name, name + 1)
     }
 
-    /// As `pass_any_member`, at once where the name is short, with one space after its colon or none. Mostly it is as long as the
-    /// last one at this place. The end of the name is then known before its characters are looked at, so that what is read after
-    /// it does not wait for that.
-    // The two calls at the end let the processor foresee which it is: the place of the value does not wait for that byte.
+    /// As `pass_short_member`. Mostly the name is as long as the last one at its place. Its end is then known before its characters
+    /// are looked at, so that what is read after it does not wait for that.
+    // As in `pass_short_member`, there are two calls at the end.
     #[inline(always)]
     fn pass_member(&mut self, piece: &[u8]) -> usize
         requires some { 0 < length piece.now }
@@ -124,7 +123,7 @@ impl Reader {
         if piece.len() < ROOM {
             return self.pass_any_member(piece);
         }
-        let count = self.names.next();
+        let count = self.names.expect_next();
         let name = count + 2;
         if !begins_quoted(piece, count) || piece[name] != b':' {
             return self.pass_short_member(piece);
