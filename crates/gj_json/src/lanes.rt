@@ -124,6 +124,16 @@ pub fn near_ascii_run(piece: &[u8]) -> usize
     ascii_stops(u8x16::from_slice(piece)).trailing_zeros() as usize
 }
 
+/// Whether so many bytes at the start of the piece are characters by themselves.
+#[inline(always)]
+pub fn begins_ascii(piece: &[u8], count: usize) -> bool
+    requires room { LANES ≤ length piece.now }
+    requires few { count ≤ LANES }
+    ensures { IsTrue result → count ≤ prefix_len is_unescaped_ascii piece.now }
+{
+    ascii_stops(u8x16::from_slice(piece)).trailing_zeros() as usize >= count
+}
+
 /// How many bytes at the start of the piece are characters by themselves.
 #[inline(always)]
 pub fn ascii_run(piece: &[u8]) -> usize

@@ -26,6 +26,7 @@ mod locator;
 mod mode;
 mod move_events;
 mod moves;
+mod name_lengths;
 mod names;
 mod path;
 mod positions;

@@ -10,6 +10,7 @@ use crate::levels::Levels;
 use crate::limits::{Limits, MOST_LEVELS};
 use crate::mode::{Mode, Move};
 use crate::move_events::last_event;
+use crate::name_lengths::NameLengths;
 use crate::sink::{EventPair, EventSink};
 use arrayvec::ArrayVec;
 use gj_number::Literal;
@@ -30,6 +31,8 @@ pub struct Reader {
     content: Content,
     mode: Mode,
     fault: Option<JsonFault>,
+    /// How long the names of members are whose events do not matter to the sink.
+    names: NameLengths,
     ghost sound: { IsMode mode },
     ghost within: { offset ≤ limits.bytes },
     ghost nested: { length (levels_in levels) ≤ limits.depth },
@@ -64,6 +67,7 @@ impl Reader {
             content: Content::new(),
             mode: Mode::TextDue,
             fault: None,
+            names: NameLengths::none(),
         }
     }
 

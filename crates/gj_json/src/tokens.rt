@@ -1,6 +1,6 @@
 //! Tokens that are whole at the start of a piece: how far they go, and nothing of what they say.
 
-ghost use Rattle.std.specs.Prelude.{◌≡◌, ◌+◌, ◌-◌, ◌≤◌, ◌<◌, length, take, get_or};
+ghost use Rattle.std.specs.Prelude.{◌≡◌, ◌+◌, ◌-◌, ◌≤◌, ◌<◌, length, take, get_or, IsTrue};
 ghost use Rattle.gj_json.specs.Bytes.{quote};
 ghost use Rattle.gj_json.specs.Grammar.{letters_of};
 ghost use Rattle.gj_json.specs.Internal.FlatParts.{cut};
@@ -10,7 +10,7 @@ ghost use Rattle.gj_json.specs.declared.lanes.TheConstants.{LANES};
 
 use crate::characters::characters_run;
 use crate::constant::Constant;
-use crate::lanes::{LANES, ascii_run, begins, near_ascii_run};
+use crate::lanes::{LANES, ascii_run, begins, begins_ascii, near_ascii_run};
 use gj_number::unsigned_run;
 
 /// How many bytes the string of plain characters has that is whole at the start of a piece, or 0.
@@ -68,6 +68,7 @@ pub fn near_quoted_run(piece: &[u8]) -> usize
     requires room { LANES < length piece.now }
     requires quote { get_or piece.now 0 0 ≡ quote }
     ensures few { result ≤ LANES + 1 }
+    ensures two { 0 < result → 2 ≤ result }
     ensures quoted { 0 < result → IsString (take result piece.now) }
 {
     let count = near_ascii_run(&piece[1..]);
@@ -76,6 +77,17 @@ pub fn near_quoted_run(piece: &[u8]) -> usize
     } else {
         0
     }
+}
+
+/// Whether the string that the piece starts with has so many characters, and each is plain.
+#[inline(always)]
+pub fn begins_quoted(piece: &[u8], count: usize) -> bool
+    requires room { LANES < length piece.now }
+    requires quote { get_or piece.now 0 0 ≡ quote }
+    requires few { count < LANES }
+    ensures { IsTrue result → IsString (take (count + 2) piece.now) }
+{
+    begins_ascii(&piece[1..], count) && piece[1 + count] == b'"'
 }
 
 /// How many bytes the value has that the piece starts with, where it is a string that is whole with the byte after it, a

@@ -136,3 +136,6 @@ characters_read_at piece (suc n) h = character_read (take (suc n) piece) (h (ome
 pub plain_characters : (piece : List ℕ) (n : ℕ) → n ≡ prefix_len is_unescaped_ascii piece → AreCharacters (take n piece)
 plain_characters piece n e = let P : ℕ → Type 0 =
     λ k. AreCharacters (take k piece) in subst P (sym e) (take (prefix_len is_unescaped_ascii piece) piece, (QuietModes.plain_run piece).0)
+
+pub few_plain_characters : (piece : List ℕ) (n : ℕ) → n ≤ prefix_len is_unescaped_ascii piece → AreCharacters (take n piece)
+few_plain_characters piece n h = (take n piece, QuietModes.plain_part n piece h)

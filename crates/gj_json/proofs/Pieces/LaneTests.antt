@@ -1,6 +1,6 @@
 -- Bytes that pass a test, seen a vector at a time.
 use Rattle.std.proofs.Common.{◌≡◌, ℕ, ◌+◌, ◌<◌, ◌≤◌, ◌%◌, ◌^◌, ◌*◌, ◌/◌, Bool, true, false, not, cond, eqb, ltb, w8, Fits, List, [], ◌∷◌, map, length, take}
-use Rattle.std.proofs.Common.{drop, get_or, zero, suc, refl, sym, ap, ap₂, ◌∙◌, drop-drop, arith}
+use Rattle.std.proofs.Common.{drop, get_or, zero, suc, refl, sym, ap, ap₂, subst, ◌∙◌, drop-drop, arith}
 use Rattle.std.proofs.lemmas.Bool.{agree_below, agree_below_at, eq-eqb, ne_eqb}
 use Rattle.std.proofs.lemmas.List.{length-map}
 use Rattle.std.proofs.lemmas.List.Folds.{prefix_len-append}
@@ -84,6 +84,15 @@ module _ (q : ℕ → Bool) where
       no_bit : (v : List ℕ) → prefix_len q v ≡ length v → mask_l (map (λ b. not (q b)) v) ≡ 0
       no_bit [] e = refl
       no_bit (x ∷ v) e = no_more (q x) (prefix_len q v) (mask_l (map (λ b. not (q b)) v)) (length v) (prefix_len-le-length q v) (omega (arith, e)) (no_bit v)
+
+  -- so many lanes pass it where no bit before that one is set
+  pub lanes_pass : (piece : List ℕ) (at n mask count : ℕ) → at + n ≤ length piece → n ≤ 64 → count ≤ n
+      → mask ≡ mask_l (map (λ b. not (q b)) (chunk at n piece)) → count ≤ count_trailing_zeros 64 mask → count ≤ prefix_len q (drop at piece)
+  lanes_pass piece at n zero count room lanes few e h = let on = lanes_on piece at n room (sym e) in omega (arith, on)
+  lanes_pass piece at n (suc m) count room lanes few e h =
+      let P : ℕ → Type 0 = λ m. 0 < m in
+      let end = lanes_stop piece at n room lanes (subst P e (omega arith)) ∙ ap (count_trailing_zeros 64) (sym e) in
+      omega (arith, end, h)
 
 -- the blocks of a piece
 pub block_at : (n k i : ℕ) (piece : List ℕ) → i < k → get_or (first_chunks n k piece) i [] ≡ chunk (i * n) n piece

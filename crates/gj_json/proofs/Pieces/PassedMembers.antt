@@ -13,10 +13,11 @@ use Rattle.gj_json.specs.declared.mode.Ending.{Ending}
 use Rattle.gj_json.specs.declared.mode.Mode.{Mode}
 use Rattle.gj_json.specs.declared.mode.Mode.TheVariants.{ValueDone, ValueDue}
 use Rattle.gj_json.specs.declared.mode.Move.TheVariants.{Go, Close}
+use Rattle.gj_json.specs.declared.name_lengths.NameLengths.{NameLengths}
 use Rattle.gj_json.specs.declared.reader.Reader.{Reader}
 use Rattle.gj_json.specs.Names.{known_of, word_of}
 use Rattle.gj_json.specs.Internal.ByteClasses.{class_of}
-use Rattle.gj_json.specs.Internal.FedReader.{Passed, FeedsAny}
+use Rattle.gj_json.specs.Internal.FedReader.{Passed, FeedsAll, FeedsAny}
 use Rattle.gj_json.specs.Internal.FlatParts.{awaits, cut}
 use Rattle.gj_json.specs.Internal.OpenLevels.{levels_in, inner_of, outer_of}
 use Rattle.gj_json.specs.Internal.Scalars.{IsScalar, text, digits, literal}
@@ -29,6 +30,40 @@ use Rattle.gj_json.proofs.Pieces.PieceRests.{rest_of}
 use Rattle.gj_json.proofs.Pieces.TakenFlats.{mid_of, to_mid, from_mid}
 use Rattle.gj_json.proofs.Pieces.TakenTokens.{named_taken, text_taken}
 use Rattle.gj_json.proofs.Pieces.TokensInLevels.{from_none, first_byte, any_level, any_constant, any_goes, any_closes, any_then, number_token, ended_token}
+
+-- ---- what is kept of the lengths of names says nothing of what was given
+
+-- the reader, where other lengths are kept
+abbrev pub with_names : (old : Reader) → NameLengths → IsMode old.mode → old.offset ≤ old.limits.bytes → length (levels_in old.levels) ≤ old.limits.depth
+    → Reader
+with_names old names sound within nested = record {
+  limits = old.limits;
+  offset = old.offset;
+  start = old.start;
+  levels = old.levels;
+  literal = old.literal;
+  content = old.content;
+  mode = old.mode;
+  fault = old.fault;
+  names = names;
+  sound = sound;
+  within = within;
+  nested = nested;
+}
+
+module _ (old new : Reader) (given : List ℕ) {names : NameLengths} {sound : IsMode old.mode} {within : old.offset ≤ old.limits.bytes}
+    {nested : length (levels_in old.levels) ≤ old.limits.depth} where
+  pub names_all : {before after : List Event → Type 0} → FeedsAll before after (with_names old names sound within nested) new given
+      → FeedsAll before after old new given
+  names_all f = record {
+    feeds = record { limits = f.feeds.limits; on = f.feeds.on; stands = f.feeds.stands; told = f.feeds.told };
+    live = f.live;
+    offset = f.offset;
+  }
+
+  pub names_any : FeedsAny (with_names old names sound within nested) new given → FeedsAny old new given
+  names_any f =
+      record { limits = f.limits; live = f.live; offset = f.offset; within = λ floor w. names_all (f.within floor w); one = f.one; named = f.named }
 
 -- ---- a name, its colon, and one space after it or none
 

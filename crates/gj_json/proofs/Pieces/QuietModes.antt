@@ -84,6 +84,9 @@ plain_run xs =
     let h = all_run is_unescaped_ascii IsPlain plain_is xs in
     (plain_reads (take (prefix_len is_unescaped_ascii xs) xs) h, plain_ascii (take (prefix_len is_unescaped_ascii xs) xs) h)
 
+pub plain_part : (n : ℕ) (xs : List ℕ) → n ≤ prefix_len is_unescaped_ascii xs → Reads Plain (take n xs) (take n xs) Plain
+plain_part n xs h = plain_reads (take n xs) (part_run is_unescaped_ascii IsPlain plain_is n xs h)
+
 pub white_run : (mode : Mode) → PassesWhite mode → (xs : List ℕ) → AllByRecursion (IsQuiet mode) (take (prefix_len is_white xs) xs)
 white_run mode h xs = all_run is_white (IsQuiet mode) (quiet_white mode h) xs
 

@@ -310,6 +310,7 @@ mid_of old n mode sound room = record {
   content = old.content;
   mode = mode;
   fault = old.fault;
+  names = old.names;
   sound = sound;
   within = room;
   nested = old.nested;

@@ -125,6 +125,7 @@ impl Reader {
             return 0;
         }
         let floor = open - ignored;
+        self.names.begin();
         let count = self.pass_tokens(piece, floor);
         sink.pass(self.levels.len() - floor);
         count

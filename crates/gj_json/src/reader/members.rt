@@ -5,13 +5,14 @@ ghost use Rattle.gj_json.specs.Bytes.{quote, colon, space};
 ghost use Rattle.gj_json.specs.Internal.FlatParts.{awaits};
 ghost use Rattle.gj_json.specs.Internal.WholeTokens.{names, IsString};
 ghost use Rattle.gj_json.specs.declared.lanes.TheConstants.{LANES};
+ghost use Rattle.gj_json.specs.declared.reader.members.TheConstants.{ROOM};
 
 use super::Reader;
 use crate::lanes::LANES;
 use crate::levels::Level;
 use crate::mode::Mode;
 use crate::sink::NoEvents;
-use crate::tokens::{near_quoted_run, scalar_run};
+use crate::tokens::{begins_quoted, near_quoted_run, scalar_run};
 
 /// A piece of fewer bytes has no room for a short name, what comes after it, and what is looked at of the value.
 const ROOM: usize = 2 * LANES + 8;
@@ -81,8 +82,33 @@ impl Reader {
         value + self.pass_value(&piece[value..])
     }
 
-    /// As `pass_any_member`, at once where the name is short, with one space after its colon or none.
+    /// As `pass_any_member`, at once where the name is short, with one space after its colon or none. How long it is, is noted.
     // The two calls at the end let the processor foresee which it is: the place of the value does not wait for that byte.
+    #[inline(never)]
+    fn pass_short_member(&mut self, piece: &[u8]) -> usize
+        requires long { ROOM ≤ length piece.now }
+        requires begins { get_or piece.now 0 0 ≡ quote }
+        requires live { self.old.fault ≡ None }
+        requires due { names self.old.mode ≡ true }
+        requires room { self.old.offset + length piece.now ≤ self.old.limits.bytes }
+        requires small { self.old.limits.bytes ≤ 2 ^ 60 }
+        ensures within { result ≤ length piece.now }
+        ensures feeds { FeedsAny self.old self.new (take result piece.now) }
+    {
+        let name = near_quoted_run(piece);
+        if name == 0 || piece[name] != b':' {
+            return self.pass_any_member(piece);
+        }
+        self.names.note(name - 2);
+        if piece[name + 1] == b' ' {
+            return self.pass_named(piece, name, name + 2);
+        }
+        self.pass_named(piece, name, name + 1)
+    }
+
+    /// As `pass_short_member`. Mostly the name is as long as the last one at its place. Its end is then known before its characters
+    /// are looked at, so that what is read after it does not wait for that.
+    // As in `pass_short_member`, there are two calls at the end.
     #[inline(always)]
     fn pass_member(&mut self, piece: &[u8]) -> usize
         requires some { 0 < length piece.now }
@@ -97,9 +123,10 @@ impl Reader {
         if piece.len() < ROOM {
             return self.pass_any_member(piece);
         }
-        let name = near_quoted_run(piece);
-        if name == 0 || piece[name] != b':' {
-            return self.pass_any_member(piece);
+        let count = self.names.expect_next();
+        let name = count + 2;
+        if !begins_quoted(piece, count) || piece[name] != b':' {
+            return self.pass_short_member(piece);
         }
         if piece[name + 1] == b' ' {
             return self.pass_named(piece, name, name + 2);

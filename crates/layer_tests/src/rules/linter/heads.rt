@@ -3,9 +3,9 @@
 use super::{by_bytes, in_two};
 use crate::checks::{holds, holds_at};
 use crate::rows::Wanted;
-use crate::rows::Wanted::{Broken, Valid};
+use crate::rows::Wanted::{Broken, NotJson, Valid};
 use gj_coords::{Kind, Rule};
-use gj_json::Limits;
+use gj_json::{Cause, Limits};
 use gj_rules::{Linter, Verdict};
 use std::process::Abort;
 
@@ -36,7 +36,7 @@ fn expect(rt: &impl Abort, text: &str, expected: Verdict) {
     }
 }
 
-static HEADS: [(&str, Wanted); 15] = [
+static HEADS: [(&str, Wanted); 21] = [
     (
         "{\"type\":\"Feature\",\"properties\":null,\"geometry\":{\"type\":\"Point\",\"coordinates\":[1,2]}}",
         Valid(&[]),
@@ -109,6 +109,36 @@ static HEADS: [(&str, Wanted); 15] = [
     (
         "{\"type\":\"Point\",\"coordinates\":[1,2],\"properties\": {\"a\":[1]}}",
         Broken(Rule::G9, 36),
+    ),
+    // Properties of the same names, one after another.
+    (
+        "{\"type\":\"FeatureCollection\",\"features\":[{\"type\":\"Feature\",\"geometry\":null,\"properties\":{\"ab\":1,\"c\":\"x\"}},{\"type\":\"Feature\",\"geometry\":null,\"properties\":{\"ab\":2,\"c\": \"y\"}},{\"type\":\"Feature\",\"geometry\":null,\"properties\":{\"ab\":3,\"c\":null}}]}",
+        Valid(&[]),
+    ),
+    // The first name is longer than in the last object, and then shorter.
+    (
+        "{\"type\":\"FeatureCollection\",\"features\":[{\"type\":\"Feature\",\"geometry\":null,\"properties\":{\"ab\":1,\"c\":2}},{\"type\":\"Feature\",\"geometry\":null,\"properties\":{\"abc\":3,\"c\":4}},{\"type\":\"Feature\",\"geometry\":null,\"properties\":{\"a\":5,\"c\":6}}]}",
+        Valid(&[]),
+    ),
+    // An escaped quote where the last name ended, and a colon after it.
+    (
+        "{\"type\":\"FeatureCollection\",\"features\":[{\"type\":\"Feature\",\"geometry\":null,\"properties\":{\"ab\":1}},{\"type\":\"Feature\",\"geometry\":null,\"properties\":{\"a\\\":\":2}}]}",
+        Valid(&[]),
+    ),
+    // An object among the members.
+    (
+        "{\"type\":\"FeatureCollection\",\"features\":[{\"type\":\"Feature\",\"geometry\":null,\"properties\":{\"a\":{\"bc\":1,\"d\":2},\"ef\":3}},{\"type\":\"Feature\",\"geometry\":null,\"properties\":{\"a\":{\"bc\":4,\"d\":5},\"ef\":6}}]}",
+        Valid(&[]),
+    ),
+    // A control character in a name that is as long as the last: its place.
+    (
+        "{\"type\":\"FeatureCollection\",\"features\":[{\"type\":\"Feature\",\"geometry\":null,\"properties\":{\"ab\":1}},{\"type\":\"Feature\",\"geometry\":null,\"properties\":{\"a\x01\":2}}]}",
+        NotJson(Cause::Syntax, 147),
+    ),
+    // No quote where the last name ended: the end.
+    (
+        "{\"type\":\"FeatureCollection\",\"features\":[{\"type\":\"Feature\",\"geometry\":null,\"properties\":{\"ab\":1}},{\"type\":\"Feature\",\"geometry\":null,\"properties\":{\"ab':2}}]}",
+        NotJson(Cause::Truncated, 256),
     ),
 ];
 

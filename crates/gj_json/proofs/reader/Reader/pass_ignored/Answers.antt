@@ -3,6 +3,7 @@ use Rattle.std.proofs.Common.{◌≡◌, ◌-◌, take, subst, sym, arith}
 use Rattle.gj_json.specs.Internal.FedReader.{above}
 use Rattle.gj_json.specs.Ignored.{Leaves}
 use Rattle.gj_json.proofs.Events.IgnoredEvents.{all_as}
+use Rattle.gj_json.proofs.Pieces.PassedMembers.{names_all}
 use Rattle.gj_json.proofs.reader.Reader.pass_ignored.Goals as goal
 
 pub returns-clause-feeds : goal.returns-clause-feeds
@@ -17,4 +18,4 @@ returns-clause-feeds g c =
     (λ events inner h l.
     let k : Leaves (above floor old) inner (c.len.result - floor) = subst (λ x. Leaves (above floor old) inner x) (sym n) l in
     c.pass.ensures events inner (omega (arith, c.ignored-ignored.ensures)) h (subst (λ x. Leaves x inner (c.len.result - floor)) m k))
-    t.ensures.feeds
+    (names_all old t.new.self (take t.result c.args.piece.now) t.ensures.feeds)

@@ -1,0 +1,17 @@
+-- The quotes, and plain characters between them.
+use Rattle.std.proofs.Common.{◌≡◌, ℕ, ◌+◌, ◌-◌, length, take, drop, subst, arith}
+use Rattle.std.proofs.lemmas.Bool.{eqb-true}
+use Rattle.gj_json.specs.Internal.WholeTokens.{IsString}
+use Rattle.gj_json.proofs.Grammar.SpelledCharacters.{few_plain_characters}
+use Rattle.gj_json.proofs.Pieces.TokensInLevels.{quoted_is}
+use Rattle.gj_json.proofs.tokens.begins_quoted.Goals as goal
+
+pub returns-then-begins_ascii : goal.returns-then-begins_ascii
+returns-then-begins_ascii c = λ h.
+    let piece = c.args.piece.now in
+    let n = c.args.count in
+    let e : 1 + n + 1 ≡ n + 2 = omega arith in
+    let P : ℕ → Type 0 = λ k. IsString (take k piece) in
+    subst P e
+    (quoted_is piece n (omega arith) c.requires.quote
+    (few_plain_characters (take (length piece - 1) (drop 1 piece)) n (c.begins_ascii.ensures c.if-begins_ascii.true)) (omega arith) (eqb-true _ _ h))
