@@ -15,3 +15,4 @@ pub mod SpelledTokens
 pub mod UsualTokens
 pub mod UsualHeads
 pub mod SpelledPairs
+pub mod SpelledArrays

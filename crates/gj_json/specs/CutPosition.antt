@@ -1,18 +1,19 @@
 -- Positions that are reported as their cut values: which arrays of numbers they stand for, and the events of those.
-use Rattle.std.specs.Prelude.{◌≡◌, ◌+◌, ◌<◌, ℕ, List, [], ◌∷◌, ◌++◌, None}
+use Rattle.std.specs.Prelude.{◌≡◌, ◌+◌, ◌<◌, ◌≤◌, ℕ, List, [], ◌∷◌, ◌++◌, IfSome}
 use Rattle.gj_number.specs.Cuts.{IsCut}
 use Rattle.gj_json.specs.declared.event.Event.{Event}
 use Rattle.gj_json.specs.declared.flat.Flat.{Flat}
 use Rattle.gj_json.specs.declared.cut_position.CutPosition.{CutPosition}
 use Rattle.gj_json.specs.Flat.{flat_events}
 
--- the array has two numbers with these cut values, at these places
+-- The array has two numbers with these cut values, at these places, and no third one or one that is written with at most
+-- seven places.
 pub record IsCutPosition (position : CutPosition) (flat : Flat) : Type 0 where
   pub place : flat.place ≡ position.place
-  pub first_place : flat.first.place ≡ position.place + 1
+  pub first_place : flat.first.place ≡ position.place + position.first_at
   pub second_place : flat.second.place ≡ position.place + position.second_at
   pub close : flat.close ≡ position.place + position.close_at
-  pub third : flat.third ≡ None
+  pub third : IfSome flat.third (λ number. number.value.places ≤ 7)
   pub first : IsCut flat.first.value (record { value = position.first; precise = position.first_precise })
   pub second : IsCut flat.second.value (record { value = position.second; precise = position.second_precise })
 

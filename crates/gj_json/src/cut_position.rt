@@ -3,7 +3,7 @@
 ghost use Rattle.std.specs.Prelude.{◌+◌, ◌^◌, ◌<◌, ◌≤◌};
 
 /// An array of two ordinary numbers, with the cut value of each in place of its digits: the number times 10^7, cut toward
-/// zero. The first stands right after the bracket.
+/// zero. A third number may stand after them, which has at most seven places.
 ///
 /// Two dozen of them are written and read in turn, so each has 32 bytes.
 #[derive(Clone, Copy)]
@@ -14,15 +14,18 @@ pub struct CutPosition {
     pub second: i64,
     /// The place of `[`, in bytes from the start of the text.
     pub place: u64,
+    /// How many bytes after `[` the first number begins.
+    pub first_at: u16,
     /// How many bytes after `[` the second number begins.
-    pub second_at: u32,
+    pub second_at: u16,
     /// How many bytes after `[` stands `]`.
     pub close_at: u16,
     /// Whether more than seven digits after the point of the first number say something.
     pub first_precise: bool,
     /// Whether more than seven digits after the point of the second number do.
     pub second_precise: bool,
-    ghost after: { 0 < second_at },
+    ghost after: { 0 < first_at },
+    ghost between: { first_at ≤ second_at },
     ghost before: { second_at ≤ close_at },
     ghost within: { place + close_at < 2 ^ 64 },
 }
@@ -36,6 +39,7 @@ impl CutPosition {
             first: 0,
             second: 0,
             place: 0,
+            first_at: 1,
             second_at: 1,
             close_at: 1,
             first_precise: false,
@@ -46,9 +50,9 @@ impl CutPosition {
     /// The place of the first number, in bytes from the start of the text.
     #[inline(always)]
     pub fn first_place(&self) -> u64
-        ensures { result ≡ self.now.place + 1 }
+        ensures { result ≡ self.now.place + self.now.first_at }
     {
-        self.place + 1
+        self.place + self.first_at as u64
     }
 
     /// The place of the second number, in bytes from the start of the text.

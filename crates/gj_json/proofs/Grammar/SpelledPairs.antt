@@ -25,7 +25,7 @@ space_cut piece a b w (inr h) =
     subst P (sym h.0) (subst Q (sym (cut_byte piece a (a + 1) w (omega arith))) (inl h.1, none_cut piece (a + 1)))
 
 -- a number at an index
-valued_cut : (piece : List ℕ) (a n : ℕ) (value : Short) → StartsWithNumber (drop a piece) (exact_of value) n → IsValued value (cut piece a (a + n))
+pub valued_cut : (piece : List ℕ) (a n : ℕ) (value : Short) → StartsWithNumber (drop a piece) (exact_of value) n → IsValued value (cut piece a (a + n))
 valued_cut piece a n value read =
     let e : n ≡ a + n - a = omega arith in
     let P : ℕ → Type 0 = λ k. IsValued value (take k (drop a piece)) in

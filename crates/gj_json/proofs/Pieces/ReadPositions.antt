@@ -8,14 +8,14 @@ use Rattle.gj_json.specs.CutPosition.{RiseAfter, Rise}
 use Rattle.gj_json.specs.Internal.SpelledPositions.{place_after, place_after_all, SpellsPosition, SpellsPositions}
 
 -- the place after one lies after its start
-pub one_on : (p : CutPosition) (start : ℕ) (piece : List ℕ) → SpellsPosition p start piece → start + 1 ≤ place_after p
-one_on p start piece s = let e = s.close in omega arith
+pub one_on : (gap : ℕ) (p : CutPosition) (start : ℕ) (piece : List ℕ) → SpellsPosition gap p start piece → start + 1 ≤ place_after gap p
+one_on gap p start piece s = let e = s.close in omega arith
 
-pub all_on : (ps : List CutPosition) (start : ℕ) (piece : List ℕ) → SpellsPositions ps start piece → start ≤ place_after_all ps start
-all_on [] start piece s = omega arith
-all_on (p ∷ ps) start piece s =
-    let one = one_on p start piece s.0 in
-    let more = all_on ps (place_after p) (drop (place_after p - start) piece) s.1 in
+pub all_on : (gap : ℕ) (ps : List CutPosition) (start : ℕ) (piece : List ℕ) → SpellsPositions gap ps start piece → start ≤ place_after_all gap ps start
+all_on gap [] start piece s = omega arith
+all_on gap (p ∷ ps) start piece s =
+    let one = one_on gap p start piece s.0 in
+    let more = all_on gap ps (place_after gap p) (drop (place_after gap p - start) piece) s.1 in
     omega arith
 
 -- from one place to a later one in two steps
@@ -24,103 +24,103 @@ in_two piece start mid end one other =
     let e : mid - start + (end - mid) ≡ end - start = omega arith in
     drop-drop (end - mid) (mid - start) piece ∙ ap (λ n. drop n piece) e
 
-pub one_more : (ps : List CutPosition) (p : CutPosition) (start : ℕ) (piece : List ℕ) → SpellsPositions ps start piece
-    → SpellsPosition p (place_after_all ps start) (drop (place_after_all ps start - start) piece) → SpellsPositions (ps ++ p ∷ []) start piece
-one_more [] p start piece s one =
+pub one_more : (gap : ℕ) (ps : List CutPosition) (p : CutPosition) (start : ℕ) (piece : List ℕ) → SpellsPositions gap ps start piece
+    → SpellsPosition gap p (place_after_all gap ps start) (drop (place_after_all gap ps start - start) piece) → SpellsPositions gap (ps ++ p ∷ []) start piece
+one_more gap [] p start piece s one =
     let none : start - start ≡ 0 = omega arith in
-    let P : ℕ → Type 0 = λ n. SpellsPosition p start (drop n piece) in
+    let P : ℕ → Type 0 = λ n. SpellsPosition gap p start (drop n piece) in
     (subst P none one, tt)
-one_more (q ∷ ps) p start piece s one =
-    let end = place_after_all ps (place_after q) in
-    let P : List ℕ → Type 0 = λ xs. SpellsPosition p end xs in
-    let first = one_on q start piece s.0 in
-    let more = all_on ps (place_after q) (drop (place_after q - start) piece) s.1 in (
+one_more gap (q ∷ ps) p start piece s one =
+    let end = place_after_all gap ps (place_after gap q) in
+    let P : List ℕ → Type 0 = λ xs. SpellsPosition gap p end xs in
+    let first = one_on gap q start piece s.0 in
+    let more = all_on gap ps (place_after gap q) (drop (place_after gap q - start) piece) s.1 in (
       s.0,
-      one_more ps p (place_after q) (drop (place_after q - start) piece) s.1
-          (subst P (sym (in_two piece start (place_after q) end (omega arith) more)) one),
+      one_more gap ps p (place_after gap q) (drop (place_after gap q - start) piece) s.1
+          (subst P (sym (in_two piece start (place_after gap q) end (omega arith) more)) one),
     )
 
 -- those before the last ones
-pub first_of : (ps : List CutPosition) (k start : ℕ) (piece : List ℕ) → SpellsPositions ps start piece → SpellsPositions (take k ps) start piece
-first_of ps zero start piece s = tt
-first_of [] (suc k) start piece s = tt
-first_of (p ∷ ps) (suc k) start piece s = (s.0, first_of ps k (place_after p) (drop (place_after p - start) piece) s.1)
+pub first_of : (gap : ℕ) (ps : List CutPosition) (k start : ℕ) (piece : List ℕ) → SpellsPositions gap ps start piece → SpellsPositions gap (take k ps) start piece
+first_of gap ps zero start piece s = tt
+first_of gap [] (suc k) start piece s = tt
+first_of gap (p ∷ ps) (suc k) start piece s = (s.0, first_of gap ps k (place_after gap p) (drop (place_after gap p - start) piece) s.1)
 
 -- a bracket follows
-pub begins_after : (p : CutPosition) (ps : List CutPosition) (start : ℕ) (piece : List ℕ) → SpellsPositions (p ∷ ps) start piece
-    → (place_after_all (p ∷ ps) start - start < length piece) × (get_or piece (place_after_all (p ∷ ps) start - start) 0 ≡ open_bracket)
-begins_after p [] start piece s =
+pub begins_after : (gap : ℕ) (p : CutPosition) (ps : List CutPosition) (start : ℕ) (piece : List ℕ) → SpellsPositions gap (p ∷ ps) start piece
+    → (place_after_all gap (p ∷ ps) start - start < length piece) × (get_or piece (place_after_all gap (p ∷ ps) start - start) 0 ≡ open_bracket)
+begins_after gap p [] start piece s =
     let w = s.0.within in
     let c = s.0.close in
-    let e : place_after p - start ≡ s.0.count + 1 = omega arith in
+    let e : place_after gap p - start ≡ s.0.count + 1 + gap = omega arith in
     (omega arith, ap (λ n. get_or piece n 0) e ∙ s.0.bracket)
-begins_after p (q ∷ ps) start piece s =
-    let mid = place_after p in
-    let end = place_after_all (q ∷ ps) mid in
+begins_after gap p (q ∷ ps) start piece s =
+    let mid = place_after gap p in
+    let end = place_after_all gap (q ∷ ps) mid in
     let rest = drop (mid - start) piece in
-    let first = one_on p start piece s.0 in
-    let more = all_on (q ∷ ps) mid rest s.1 in
-    let b = begins_after q ps mid rest s.1 in
+    let first = one_on gap p start piece s.0 in
+    let more = all_on gap (q ∷ ps) mid rest s.1 in
+    let b = begins_after gap q ps mid rest s.1 in
     let less = b.0 in
     let l = length-drop (mid - start) piece in
     let e : mid - start + (end - mid) ≡ end - start = omega arith in
     (omega arith, ap (λ n. get_or piece n 0) (sym e) ∙ sym (get_or-drop (mid - start) piece (end - mid) 0) ∙ b.1)
 
-pub after_more : (ps : List CutPosition) (p : CutPosition) (start : ℕ) → place_after_all (ps ++ p ∷ []) start ≡ place_after p
-after_more [] p start = refl
-after_more (q ∷ ps) p start = after_more ps p (place_after q)
+pub after_more : (gap : ℕ) (ps : List CutPosition) (p : CutPosition) (start : ℕ) → place_after_all gap (ps ++ p ∷ []) start ≡ place_after gap p
+after_more gap [] p start = refl
+after_more gap (q ∷ ps) p start = after_more gap ps p (place_after gap q)
 
 -- what is left after one begins with a bracket
-pub left_begins : (p : CutPosition) (start : ℕ) (piece : List ℕ) → SpellsPosition p start piece
-    → (place_after p - start < length piece) × (get_or (drop (place_after p - start) piece) 0 0 ≡ open_bracket)
-left_begins p start piece s =
+pub left_begins : (gap : ℕ) (p : CutPosition) (start : ℕ) (piece : List ℕ) → SpellsPosition gap p start piece
+    → (place_after gap p - start < length piece) × (get_or (drop (place_after gap p - start) piece) 0 0 ≡ open_bracket)
+left_begins gap p start piece s =
     let w = s.within in
     let c = s.close in
-    let e : place_after p - start + 0 ≡ s.count + 1 = omega arith in
-    (omega arith, get_or-drop (place_after p - start) piece 0 0 ∙ ap (λ n. get_or piece n 0) e ∙ s.bracket)
+    let e : place_after gap p - start + 0 ≡ s.count + 1 + gap = omega arith in
+    (omega arith, get_or-drop (place_after gap p - start) piece 0 0 ∙ ap (λ n. get_or piece n 0) e ∙ s.bracket)
 
 -- each stands after the one before
-rise_after : (p : CutPosition) (ps : List CutPosition) (start : ℕ) (piece : List ℕ) → SpellsPositions (p ∷ ps) start piece → RiseAfter p.place ps
-rise_after p [] start piece s = tt
-rise_after p (q ∷ ps) start piece s =
-    let one = one_on p start piece s.0 in
+rise_after : (gap : ℕ) (p : CutPosition) (ps : List CutPosition) (start : ℕ) (piece : List ℕ) → SpellsPositions gap (p ∷ ps) start piece → RiseAfter p.place ps
+rise_after gap p [] start piece s = tt
+rise_after gap p (q ∷ ps) start piece s =
+    let one = one_on gap p start piece s.0 in
     let here = s.0.at in
     let next = s.1.0.at in
-    (omega arith, rise_after q ps (place_after p) (drop (place_after p - start) piece) s.1)
+    (omega arith, rise_after gap q ps (place_after gap p) (drop (place_after gap p - start) piece) s.1)
 
-pub rising : (ps : List CutPosition) (start : ℕ) (piece : List ℕ) → SpellsPositions ps start piece → Rise ps
-rising [] start piece s = tt
-rising (p ∷ ps) start piece s = rise_after p ps start piece s
+pub rising : (gap : ℕ) (ps : List CutPosition) (start : ℕ) (piece : List ℕ) → SpellsPositions gap ps start piece → Rise ps
+rising gap [] start piece s = tt
+rising gap (p ∷ ps) start piece s = rise_after gap p ps start piece s
 
 -- ---- those before the last ones, up to the place after the last of them
 
-last_after : (ps : List CutPosition) (d : CutPosition) (k start : ℕ) → k < length ps
-    → place_after_all (take (suc k) ps) start ≡ place_after (slice_index_or ps k d)
-last_after [] d k start less = absurd (omega (arith, less))
-last_after (p ∷ ps) d zero start less = refl
-last_after (p ∷ ps) d (suc k) start less = last_after ps d k (place_after p) (omega (arith, less))
+last_after : (gap : ℕ) (ps : List CutPosition) (d : CutPosition) (k start : ℕ) → k < length ps
+    → place_after_all gap (take (suc k) ps) start ≡ place_after gap (slice_index_or ps k d)
+last_after gap [] d k start less = absurd (omega (arith, less))
+last_after gap (p ∷ ps) d zero start less = refl
+last_after gap (p ∷ ps) d (suc k) start less = last_after gap ps d k (place_after gap p) (omega (arith, less))
 
-module _ (ps : List CutPosition) (d : CutPosition) (k start : ℕ) (piece : List ℕ) (some : 0 < k) (few : k ≤ length ps)
-    (s : SpellsPositions ps start piece) where
-  pub end_is : place_after_all (take k ps) start ≡ place_after (slice_index_or ps (k - 1) d)
+module _ (gap : ℕ) (ps : List CutPosition) (d : CutPosition) (k start : ℕ) (piece : List ℕ) (some : 0 < k) (few : k ≤ length ps)
+    (s : SpellsPositions gap ps start piece) where
+  pub end_is : place_after_all gap (take k ps) start ≡ place_after gap (slice_index_or ps (k - 1) d)
   end_is =
       let e : k ≡ suc (k - 1) = omega arith in
-      ap (λ n. place_after_all (take n ps) start) e ∙ last_after ps d (k - 1) start (omega arith)
+      ap (λ n. place_after_all gap (take n ps) start) e ∙ last_after gap ps d (k - 1) start (omega arith)
 
-  pub end_begins : (start < place_after (slice_index_or ps (k - 1) d)) × (place_after (slice_index_or ps (k - 1) d) - start < length piece)
-      × (get_or piece (place_after (slice_index_or ps (k - 1) d) - start) 0 ≡ open_bracket)
+  pub end_begins : (start < place_after gap (slice_index_or ps (k - 1) d)) × (place_after gap (slice_index_or ps (k - 1) d) - start < length piece)
+      × (get_or piece (place_after gap (slice_index_or ps (k - 1) d) - start) 0 ≡ open_bracket)
   end_begins = go ps k few some s end_is
     where
-      go : (qs : List CutPosition) (n : ℕ) → n ≤ length qs → 0 < n → SpellsPositions qs start piece
-          → place_after_all (take n qs) start ≡ place_after (slice_index_or ps (k - 1) d)
-          → (start < place_after (slice_index_or ps (k - 1) d)) × (place_after (slice_index_or ps (k - 1) d) - start < length piece)
-          × (get_or piece (place_after (slice_index_or ps (k - 1) d) - start) 0 ≡ open_bracket)
+      go : (qs : List CutPosition) (n : ℕ) → n ≤ length qs → 0 < n → SpellsPositions gap qs start piece
+          → place_after_all gap (take n qs) start ≡ place_after gap (slice_index_or ps (k - 1) d)
+          → (start < place_after gap (slice_index_or ps (k - 1) d)) × (place_after gap (slice_index_or ps (k - 1) d) - start < length piece)
+          × (get_or piece (place_after gap (slice_index_or ps (k - 1) d) - start) 0 ≡ open_bracket)
       go [] n less positive h e = absurd (omega (arith, less, positive))
       go (q ∷ qs) zero less positive h e = absurd (omega (arith, positive))
       go (q ∷ qs) (suc n) less positive h e =
-          let t = first_of qs n (place_after q) (drop (place_after q - start) piece) h.1 in
-          let b = begins_after q (take n qs) start piece (h.0, t) in
-          let one = one_on q start piece h.0 in
-          let all = all_on (take n qs) (place_after q) (drop (place_after q - start) piece) t in
+          let t = first_of gap qs n (place_after gap q) (drop (place_after gap q - start) piece) h.1 in
+          let b = begins_after gap q (take n qs) start piece (h.0, t) in
+          let one = one_on gap q start piece h.0 in
+          let all = all_on gap (take n qs) (place_after gap q) (drop (place_after gap q - start) piece) t in
           let within = b.0 in
           (omega (arith, e), omega (arith, e), ap (λ m. get_or piece (m - start) 0) (sym e) ∙ b.1)

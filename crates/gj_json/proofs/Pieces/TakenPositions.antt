@@ -2,8 +2,9 @@
 use Rattle.std.proofs.Common.{◌≡◌, ◌∙◌, ℕ, ◌+◌, ◌-◌, ◌≤◌, ◌<◌, true, List, [], ◌∷◌, ◌++◌}
 use Rattle.std.proofs.Common.{zero, suc, get_or, length, take, drop, Some, None, refl, sym, ap, subst, arith}
 use Rattle.std.proofs.Common.{append_assoc, append-nil, length-drop, take-add}
-use Rattle.std.proofs.lemmas.List.{get_or-drop}
-use Rattle.gj_json.specs.Bytes.{comma}
+use Rattle.std.proofs.lemmas.List.{get_or-drop, drop-drop}
+use Rattle.std.specs.List.{AllByRecursion}
+use Rattle.gj_json.specs.Bytes.{comma, IsWhite}
 use Rattle.gj_json.specs.declared.cut_position.CutPosition.{CutPosition}
 use Rattle.gj_json.specs.declared.event.Event.{Event}
 use Rattle.gj_json.specs.declared.flat.Flat.{Flat}
@@ -13,7 +14,7 @@ use Rattle.gj_json.specs.declared.reader.Reader.{Reader}
 use Rattle.gj_json.specs.Flat.{flat_events}
 use Rattle.gj_json.specs.CutPosition.{AreCutPositions, flats_events}
 use Rattle.gj_json.specs.Internal.FedReader.{Passed, FeedsAll}
-use Rattle.gj_json.specs.Internal.FlatParts.{awaits}
+use Rattle.gj_json.specs.Internal.FlatParts.{awaits, cut}
 use Rattle.gj_json.specs.Internal.OpenLevels.{levels_in, inner_of}
 use Rattle.gj_json.specs.Internal.SpelledPositions.{place_after, place_after_all, SpellsPosition, SpellsPositions}
 use Rattle.gj_json.specs.Internal.Transitions.{IsMode}
@@ -40,9 +41,9 @@ heard_less {before} {after} {less} old new given fed says = record {
   offset = fed.offset;
 }
 
-one_then : (before : List Event → Type 0) (p : CutPosition) (start : ℕ) (piece : List ℕ) (s : SpellsPosition p start piece) (events : List Event)
+one_then : (gap : ℕ) (before : List Event → Type 0) (p : CutPosition) (start : ℕ) (piece : List ℕ) (s : SpellsPosition gap p start piece) (events : List Event)
     → before events → Then before (p ∷ []) (events ++ flat_events s.flat)
-one_then before p start piece s events h =
+one_then gap before p start piece s events h =
     (s.flat ∷ [], (s.is, tt), events, h, ap (λ es. events ++ es) (sym (append-nil (flat_events s.flat))))
 
 then_more : (before : List Event → Type 0) (p : CutPosition) (ps : List CutPosition) (es : List Event) → Then (Then before (p ∷ [])) ps es
@@ -58,54 +59,59 @@ then_more before p ps es (flats, are, mid, (one ∷ [], is, events, h, first), m
 then_more before p ps es (flats, are, mid, ([], is, events, h, first), more) = absurd is
 then_more before p ps es (flats, are, mid, (one ∷ two ∷ others, is, events, h, first), more) = absurd is.1
 
--- one of them, with its comma
-one_taken : {before : List Event → Type 0} (p : CutPosition) (old new : Reader) (piece : List ℕ) (s : SpellsPosition p old.offset piece) → old.fault ≡ None
-    → awaits old.mode ≡ true → length (levels_in old.levels) < old.limits.depth → inner_of (levels_in old.levels) ≡ Some Array
-    → old.offset + length piece ≤ old.limits.bytes → Passed (s.count + 1) ValueDue old new
-    → FeedsAll before (Then before (p ∷ [])) old new (take (s.count + 1) piece)
-one_taken {before} p old new piece s live due deep inner room passed =
+-- one of them, with its comma and the white space after that
+one_taken : {before : List Event → Type 0} (gap : ℕ) (p : CutPosition) (old new : Reader) (piece : List ℕ) (s : SpellsPosition gap p old.offset piece)
+    → old.fault ≡ None → awaits old.mode ≡ true → length (levels_in old.levels) < old.limits.depth → inner_of (levels_in old.levels) ≡ Some Array
+    → old.offset + length piece ≤ old.limits.bytes → Passed (s.count + (1 + gap)) ValueDue old new
+    → FeedsAll before (Then before (p ∷ [])) old new (take (s.count + (1 + gap)) piece)
+one_taken {before} gap p old new piece s live due deep inner room passed =
     let w = s.within in
     let z : s.count + 0 ≡ s.count = omega arith in
-    let here : get_or (take (length piece - s.count) (drop s.count piece)) 0 0 ≡ comma =
+    let rest = take (length piece - s.count) (drop s.count piece) in
+    let here : get_or rest 0 0 ≡ comma =
     ap (λ xs. get_or xs 0 0) (rest_of piece s.count) ∙ get_or-drop s.count piece 0 0 ∙ ap (λ i. get_or piece i 0) z ∙ s.comma in
-    let enough : 1 ≤ length (take (length piece - s.count) (drop s.count piece)) =
-    omega (arith, ap length (rest_of piece s.count), length-drop s.count piece) in
-    comma_taken old new s.flat piece s.count 1 live due deep room (omega arith) s.spelled (omega arith) enough here tt inner passed
-    (λ events h. one_then before p old.offset piece s events h)
+    let enough : 1 + gap ≤ length rest = omega (arith, ap length (rest_of piece s.count), length-drop s.count piece) in
+    let few : s.count + 1 + gap - (s.count + 1) ≡ 1 + gap - 1 = omega arith in
+    let same : cut piece (s.count + 1) (s.count + 1 + gap) ≡ cut rest 1 (1 + gap) =
+    ap (λ k. take k (drop (s.count + 1) piece)) few ∙ sym (ap (λ xs. take (1 + gap - 1) xs) (drop-drop 1 s.count piece))
+    ∙ sym (ap (λ xs. cut xs 1 (1 + gap)) (rest_of piece s.count)) in
+    let White : List ℕ → Type 0 = λ xs. AllByRecursion IsWhite xs in
+    comma_taken old new s.flat piece s.count (1 + gap) live due deep room (omega arith) s.spelled (omega arith) enough here (subst White same s.white)
+    inner passed (λ events h. one_then gap before p old.offset piece s events h)
 
-pub positions_taken : {before : List Event → Type 0} (p : CutPosition) (ps : List CutPosition) (old new : Reader) (piece : List ℕ)
-    → SpellsPositions (p ∷ ps) old.offset piece → old.fault ≡ None → awaits old.mode ≡ true → length (levels_in old.levels) < old.limits.depth
+pub positions_taken : {before : List Event → Type 0} (gap : ℕ) (p : CutPosition) (ps : List CutPosition) (old new : Reader) (piece : List ℕ)
+    → SpellsPositions gap (p ∷ ps) old.offset piece → old.fault ≡ None → awaits old.mode ≡ true → length (levels_in old.levels) < old.limits.depth
     → inner_of (levels_in old.levels) ≡ Some Array → old.offset + length piece ≤ old.limits.bytes
-    → Passed (place_after_all (p ∷ ps) old.offset - old.offset) ValueDue old new
-    → FeedsAll before (Then before (p ∷ ps)) old new (take (place_after_all (p ∷ ps) old.offset - old.offset) piece)
-positions_taken {before} p [] old new piece s live due deep inner room passed =
+    → Passed (place_after_all gap (p ∷ ps) old.offset - old.offset) ValueDue old new
+    → FeedsAll before (Then before (p ∷ ps)) old new (take (place_after_all gap (p ∷ ps) old.offset - old.offset) piece)
+positions_taken {before} gap p [] old new piece s live due deep inner room passed =
     let c = s.0.close in
-    let e : place_after p - old.offset ≡ s.0.count + 1 = omega arith in
+    let e : place_after gap p - old.offset ≡ s.0.count + (1 + gap) = omega arith in
     let P : ℕ → Type 0 = λ n. FeedsAll before (Then before (p ∷ [])) old new (take n piece) in
     let Q : ℕ → Type 0 = λ n. Passed n ValueDue old new in
-    subst P (sym e) (one_taken p old new piece s.0 live due deep inner room (subst Q e passed))
-positions_taken {before} p (q ∷ ps) old new piece s live due deep inner room passed =
-    let n = s.0.count + 1 in
+    subst P (sym e) (one_taken gap p old new piece s.0 live due deep inner room (subst Q e passed))
+positions_taken {before} gap p (q ∷ ps) old new piece s live due deep inner room passed =
+    let n = s.0.count + (1 + gap) in
     let w = s.0.within in
     let c = s.0.close in
-    let after = place_after p in
-    let end = place_after_all (q ∷ ps) after in
+    let after = place_after gap p in
+    let end = place_after_all gap (q ∷ ps) after in
     let rest = drop n piece in
     let e : after - old.offset ≡ n = omega arith in
     let sound : IsMode ValueDue = omega arith in
     let within : old.offset + n ≤ old.limits.bytes = omega arith in
     let mid : Reader = mid_of old n ValueDue sound within in
     let there : after ≡ mid.offset = omega arith in
-    let P : ℕ → List ℕ → Type 0 = λ m xs. SpellsPositions (q ∷ ps) m xs in
-    let spelled : SpellsPositions (q ∷ ps) mid.offset rest = subst (λ (m : ℕ). P m rest) there (subst (λ (m : ℕ). P after (drop m piece)) e s.1) in
-    let more = all_on (q ∷ ps) after (drop (after - old.offset) piece) s.1 in
-    let k = place_after_all (q ∷ ps) mid.offset - mid.offset in
-    let same : end ≡ place_after_all (q ∷ ps) mid.offset = ap (place_after_all (q ∷ ps)) there in
+    let P : ℕ → List ℕ → Type 0 = λ m xs. SpellsPositions gap (q ∷ ps) m xs in
+    let spelled : SpellsPositions gap (q ∷ ps) mid.offset rest = subst (λ (m : ℕ). P m rest) there (subst (λ (m : ℕ). P after (drop m piece)) e s.1) in
+    let more = all_on gap (q ∷ ps) after (drop (after - old.offset) piece) s.1 in
+    let k = place_after_all gap (q ∷ ps) mid.offset - mid.offset in
+    let same : end ≡ place_after_all gap (q ∷ ps) mid.offset = ap (place_after_all gap (q ∷ ps)) there in
     let both : end - old.offset ≡ n + k = omega arith in
     let first : FeedsAll before (Then before (p ∷ [])) old mid (take n piece) =
-    one_taken p old mid piece s.0 live due deep inner room (to_mid old n ValueDue sound within) in
+    one_taken gap p old mid piece s.0 live due deep inner room (to_mid old n ValueDue sound within) in
     let last : FeedsAll (Then before (p ∷ [])) (Then (Then before (p ∷ [])) (q ∷ ps)) mid new (take k rest) =
-    positions_taken {before = Then before (p ∷ [])} q ps mid new rest spelled live refl deep inner (omega (arith, length-drop n piece))
+    positions_taken {before = Then before (p ∷ [])} gap q ps mid new rest spelled live refl deep inner (omega (arith, length-drop n piece))
     (from_mid old new n k (end - old.offset) ValueDue ValueDue sound within both passed) in
     let joined : take n piece ++ take k rest ≡ take (end - old.offset) piece = sym (ap (λ m. take m piece) both ∙ take-add n k piece) in
     let Q : List ℕ → Type 0 = λ xs. FeedsAll before (Then before (p ∷ q ∷ ps)) old new xs in
@@ -113,12 +119,12 @@ positions_taken {before} p (q ∷ ps) old new piece s live due deep inner room p
     (heard_less old new (take n piece ++ take k rest) (feeds_all_on old mid new (take n piece) (take k rest) first last) (then_more before p (q ∷ ps)))
 
 -- the first ones of them
-pub first_taken : {before : List Event → Type 0} (ps : List CutPosition) (k : ℕ) (old new : Reader) (piece : List ℕ) → 0 < k → k ≤ length ps
-    → SpellsPositions ps old.offset piece → old.fault ≡ None → awaits old.mode ≡ true → length (levels_in old.levels) < old.limits.depth
+pub first_taken : {before : List Event → Type 0} (gap : ℕ) (ps : List CutPosition) (k : ℕ) (old new : Reader) (piece : List ℕ) → 0 < k → k ≤ length ps
+    → SpellsPositions gap ps old.offset piece → old.fault ≡ None → awaits old.mode ≡ true → length (levels_in old.levels) < old.limits.depth
     → inner_of (levels_in old.levels) ≡ Some Array → old.offset + length piece ≤ old.limits.bytes
-    → Passed (place_after_all (take k ps) old.offset - old.offset) ValueDue old new
-    → FeedsAll before (Then before (take k ps)) old new (take (place_after_all (take k ps) old.offset - old.offset) piece)
-first_taken [] k old new piece some few s live due deep inner room passed = absurd (omega (arith, some, few))
-first_taken (p ∷ ps) zero old new piece some few s live due deep inner room passed = absurd (omega (arith, some))
-first_taken (p ∷ ps) (suc k) old new piece some few s live due deep inner room passed =
-    positions_taken p (take k ps) old new piece (first_of (p ∷ ps) (suc k) old.offset piece s) live due deep inner room passed
+    → Passed (place_after_all gap (take k ps) old.offset - old.offset) ValueDue old new
+    → FeedsAll before (Then before (take k ps)) old new (take (place_after_all gap (take k ps) old.offset - old.offset) piece)
+first_taken gap [] k old new piece some few s live due deep inner room passed = absurd (omega (arith, some, few))
+first_taken gap (p ∷ ps) zero old new piece some few s live due deep inner room passed = absurd (omega (arith, some))
+first_taken gap (p ∷ ps) (suc k) old new piece some few s live due deep inner room passed =
+    positions_taken gap p (take k ps) old new piece (first_of gap (p ∷ ps) (suc k) old.offset piece s) live due deep inner room passed

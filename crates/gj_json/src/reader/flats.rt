@@ -1,6 +1,6 @@
 //! Arrays of numbers, taken at once.
 
-ghost use Rattle.std.specs.Prelude.{◌≡◌, ◌+◌, ◌^◌, ◌≤◌, ◌<◌, true, length, take, get_or, None, Some, IsTrue};
+ghost use Rattle.std.specs.Prelude.{◌≡◌, ◌+◌, ◌^◌, ◌≤◌, ◌<◌, true, length, take, drop, get_or, None, Some, IsTrue};
 ghost use Rattle.gj_json.specs.Bytes.{open_bracket, comma};
 ghost use Rattle.gj_json.specs.Internal.FlatParts.{awaits, IsDueAt};
 ghost use Rattle.gj_json.specs.Internal.OpenLevels.{levels_in, inner_of};
@@ -13,6 +13,7 @@ use crate::flats::{comma_run, read_flat};
 use crate::gaps::Gaps;
 use crate::levels::Level;
 use crate::mode::Mode;
+use crate::positions::ArrayForm;
 use crate::sink::EventSink;
 use gj_number::Signs;
 
@@ -44,6 +45,22 @@ fn signs_of(flat: &Flat) -> Signs {
         first: flat.first.value.negative,
         second: flat.second.value.negative,
     }
+}
+
+/// The form of an array that was read, after which a comma stands with a space or none.
+#[inline(always)]
+fn form_of(flat: &Flat, after_comma: bool) -> ArrayForm {
+    ArrayForm {
+        inside: flat.first.place - flat.place != 1,
+        after_comma,
+        third: flat.third.is_some(),
+    }
+}
+
+/// Whether its first number stands right after the bracket or one byte later, as it does in a form that positions are read in.
+#[inline(always)]
+fn is_near(flat: &Flat) -> bool {
+    flat.first.place - flat.place <= 2
 }
 
 /// Whether an opening bracket follows.
@@ -117,6 +134,37 @@ impl Reader {
         self.skip(count, Mode::ValueDone)
     }
 
+    /// Takes the positions after an array, where no more arrays are to come before they are looked for: how many bytes. A space
+    /// stands after each comma or none.
+    #[inline(always)]
+    fn take_next_positions<S: EventSink>(
+        &mut self,
+        piece: &[u8],
+        flat: &Flat,
+        after_comma: bool,
+        left: &mut u8,
+        sink: &mut S,
+    ) -> usize
+        requires next { IsDueAt self.old.mode piece.now }
+        requires live { self.old.fault ≡ None }
+        requires deep { length (levels_in self.old.levels) < self.old.limits.depth }
+        requires inner { inner_of (levels_in self.old.levels) ≡ Some Array }
+        requires room { self.old.offset + length piece.now ≤ self.old.limits.bytes }
+        requires small { self.old.limits.bytes ≤ 2 ^ 60 }
+        ensures within { result ≤ length piece.now }
+        ensures next { IsDueAt self.new.mode (drop result piece.now) }
+        ensures levels { self.new.levels ≡ self.old.levels }
+        ensures feeds { FeedsAll (S.heard sink.old) (S.heard sink.new) self.old self.new (take result piece.now) }
+    {
+        if *left > 0 {
+            *left -= 1;
+            return 0;
+        }
+        let many = self.take_positions(piece, signs_of(flat), form_of(flat, after_comma), sink);
+        *left = arrays_before_next(many);
+        many
+    }
+
     /// Such arrays within an array, each with a comma after it and the white space after that.
     #[inline(never)]
     fn take_several<S: EventSink>(&mut self, piece: &[u8], sink: &mut S) -> usize
@@ -142,13 +190,8 @@ impl Reader {
             if begins_next(&rest[count..]) {
                 self.skip(count + 1, Mode::ValueDue);
                 rest = &rest[count + 1..];
-                if left > 0 {
-                    left -= 1;
-                } else {
-                    let many = self.take_positions(rest, signs_of(&flat), sink);
-                    rest = &rest[many..];
-                    left = arrays_before_next(many);
-                }
+                let many = self.take_next_positions(rest, &flat, false, &mut left, sink);
+                rest = &rest[many..];
             } else {
                 let comma = comma_run(&rest[count..], &mut gaps);
                 if comma == 0 {
@@ -158,6 +201,10 @@ impl Reader {
                 self.skip(count + comma, Mode::ValueDue);
                 rest = &rest[count + comma..];
                 begins = begins_array(rest);
+                if begins && comma == 2 && is_near(&flat) {
+                    let many = self.take_next_positions(rest, &flat, true, &mut left, sink);
+                    rest = &rest[many..];
+                }
             }
         }
         piece.len() - rest.len()

@@ -8,7 +8,7 @@ ghost use Rattle.gj_json.specs.declared.levels.Level.TheVariants.{Array};
 use super::Reader;
 use crate::cut_position::CutPosition;
 use crate::mode::Mode;
-use crate::positions::{MOST_POSITIONS, read_positions};
+use crate::positions::{ArrayForm, MOST_POSITIONS, read_positions};
 use crate::sink::EventSink;
 use gj_number::Signs;
 
@@ -27,13 +27,14 @@ pub(super) fn arrays_before_next(count: usize) -> u8 {
 impl Reader {
     ghost use Rattle.gj_json.specs.Internal.FedReader.{FeedsAll};
 
-    /// Takes the positions at the start of the piece whose numbers have these signs, each with a comma and another array after
-    /// it, as long as the sink takes them by their cut values: how many bytes.
+    /// Takes the positions at the start of the piece whose arrays have this form and whose numbers have these signs, each with a
+    /// comma and another array after it, as long as the sink takes them by their cut values: how many bytes.
     #[inline(never)]
     pub(super) fn take_positions<S: EventSink>(
         &mut self,
         piece: &[u8],
         signs: Signs,
+        form: ArrayForm,
         sink: &mut S,
     ) -> usize
         requires next { IsDueAt self.old.mode piece.now }
@@ -51,13 +52,14 @@ impl Reader {
         let mut rest = piece;
         let mut taken = MOST_POSITIONS;
         while taken == MOST_POSITIONS {
-            let found = read_positions(rest, signs, self.offset, &mut positions);
+            let found = read_positions(rest, signs, form, self.offset, &mut positions);
             taken = sink.tell_positions(&positions[..found]);
             if taken == 0 {
                 return piece.len() - rest.len();
             }
             let last = positions[taken - 1];
-            let count = (last.place + last.close_at as u64 + 2 - self.offset) as usize;
+            let next = last.place + last.close_at as u64 + 2 + form.after_comma as u64;
+            let count = (next - self.offset) as usize;
             self.skip(count, Mode::ValueDue);
             rest = &rest[count..];
         }

@@ -1,13 +1,20 @@
-use Rattle.std.proofs.Common.{◌≡◌, ◌∙◌, ◌+◌, List, ℕ, get_or, length, drop, length-drop, None, refl, sym, ap, subst, arith, rules, w64}
-use mir.Val.{SFits, to_z, of_z}
+use Rattle.std.proofs.Common.{◌≡◌, ◌∙◌, ◌+◌, ◌-◌, ◌≤◌, ◌<◌, List, ℕ, get_or, length, take, drop, length-drop, refl, sym, ap, subst, arith, rules, w64}
+use mir.Val.{SFits, to_z, of_z, bool_byte}
+use Rattle.std.specs.List.{AllByRecursion}
 use Rattle.std.proofs.lemmas.Int.{to_z-of_z}
-use Rattle.std.proofs.lemmas.List.{get_or-drop}
+use Rattle.std.proofs.lemmas.List.{get_or-drop, drop-drop}
 use Rattle.gj_number.specs.declared.short.Short.{Short}
 use Rattle.gj_number.specs.declared.short.cuts.Cut.{Cut}
-use Rattle.gj_number.specs.Cuts.{IsCut, StartsWithCutPair, BeginsNext}
+use Rattle.gj_number.specs.declared.short.cuts.PairForm.{PairForm}
+use Rattle.gj_number.specs.Short.{StartsWithNumber, exact_of}
+use Rattle.gj_number.specs.Cuts.{IsCut, StartsWithCutPair, second_after}
+use Rattle.gj_json.specs.Bytes.{IsWhite, comma, space}
 use Rattle.gj_json.specs.declared.flat.Flat.{Flat}
 use Rattle.gj_json.specs.declared.flat.Numbered.{Numbered}
-use Rattle.gj_json.proofs.Grammar.SpelledPairs.{pair_spelled}
+use Rattle.gj_json.specs.Internal.FlatParts.{cut, IsValued}
+use Rattle.gj_json.specs.Internal.SpelledPositions.{ClosesAt}
+use Rattle.gj_json.proofs.Grammar.SpelledArrays.{one_space, array_spelled}
+use Rattle.gj_json.proofs.Grammar.SpelledPairs.{valued_cut}
 use Rattle.gj_json.proofs.Pieces.PieceRests.{rest_of}
 use Rattle.gj_json.proofs.positions.read_position.Goals as goal
 
@@ -16,47 +23,92 @@ of_value : (short : Short) (cut : Cut) → SFits w64 cut.value → IsCut short c
     → IsCut short (record { value = to_z w64 (of_z w64 cut.value); precise = cut.precise })
 of_value short cut fits is = subst (λ v. IsCut short (record { value = v; precise = cut.precise })) (sym (to_z-of_z w64 cut.value fits)) is
 
+-- a number of a rest of a piece, as it stands in the piece
+valued_there : (piece : List ℕ) (at k end : ℕ) (value : Short) → k ≤ end → StartsWithNumber (drop k (drop at piece)) (exact_of value) (end - k)
+    → IsValued value (cut piece (at + k) (at + end))
+valued_there piece at k end value less read =
+    let e : at + k + (end - k) ≡ at + end = omega arith in
+    let P : ℕ → Type 0 = λ n. IsValued value (cut piece (at + k) n) in
+    let Q : List ℕ → Type 0 = λ xs. StartsWithNumber xs (exact_of value) (end - k) in
+    subst P e (valued_cut piece (at + k) (end - k) value (subst Q (drop-drop k at piece) read))
+
+pub invariant_of-result : goal.invariant_of-result
+invariant_of-result c =
+    let at = 1 + bool_byte c.args.form.inside in
+    let form : PairForm = record { spaced = c.args.form.after_comma; after = c.after_second.result } in
+    let P : List ℕ → Type 0 = λ xs. StartsWithCutPair xs form c.in-Some.pair in
+    let found : P (drop at c.args.piece.now) = subst P (rest_of c.args.piece.now at) c.in-Some.ensures.numbers in
+    let ordered = found.ordered in
+    let closes = c.in-Some-close_after_second.ensures.closes 0 in
+    let on = closes.on in
+    let before = closes.before in
+    record { after = omega arith; between = omega arith; before = omega arith; within = omega arith }
+
 pub returns : goal.returns
 returns c =
     let piece = c.args.piece.now in
     let start = c.args.start in
     let pair = c.in-Some.pair in
-    let P : List ℕ → Type 0 = λ xs. StartsWithCutPair xs pair in
-    let found : P (drop 1 piece) = subst P (rest_of piece 1) c.in-Some.ensures.numbers in
-    let Q : List ℕ → Type 0 = λ xs. BeginsNext xs pair.end in
-    let next : Q (drop 1 piece) = subst Q (rest_of piece 1) c.in-Some.ensures.next in
-    let after : pair.end + 2 ≡ 1 + (pair.end + 1) = omega arith in
-    let second_after : pair.end + 2 + 1 ≡ 1 + (pair.end + 2) = omega arith in
-    let first : Numbered = record { value = found.one; place = start + 1 } in
-    let second : Numbered = record { value = found.other; place = start + 1 + (pair.comma + 1) } in
+    let arrays = c.args.form in
+    let at = 1 + bool_byte arrays.inside in
+    let gap = bool_byte arrays.after_comma in
+    let form : PairForm = record { spaced = arrays.after_comma; after = c.after_second.result } in
+    let P : List ℕ → Type 0 = λ xs. StartsWithCutPair xs form pair in
+    let found : P (drop at piece) = subst P (rest_of piece at) c.in-Some.ensures.numbers in
+    let ordered = found.ordered in
+    let length_one = found.starts.within in
+    let close = c.in-Some-close_after_second.close in
+    let near = c.in-Some-close_after_second.ensures.near in
+    let closes = c.in-Some-close_after_second.ensures.closes start in
+    let on = closes.on in
+    let up = closes.before in
+    let room = c.if-piece-lt-ROOM.false in
+    let comma_at = at + pair.comma in
+    let second_at = comma_at + 1 + gap in
+    let first : Numbered = record { value = found.one; place = start + at } in
+    let second : Numbered = record { value = found.other; place = start + second_at } in
     let flat : Flat = record {
       first = first;
       second = second;
-      third = None;
+      third = closes.third;
       place = start;
-      close = start + 1 + pair.end;
+      close = start + close;
       first_on = omega arith;
       second_on = omega arith;
-      third_on = omega arith;
+      third_on = closes.place;
     } in
     let one_fits : SFits w64 pair.first.value = search rules in
     let other_fits : SFits w64 pair.second.value = search rules in
+    let next = c.begins_next.ensures c.if-not-begins_next.false in
+    let there : at + second_after form pair.comma ≡ second_at = omega arith in
+    let behind : at + (pair.comma + 1) ≡ comma_at + 1 = omega arith in
+    let is_comma : get_or piece comma_at 0 ≡ comma = sym (get_or-drop at piece pair.comma 0) ∙ found.comma in
+    let valued_one : IsValued found.one (cut piece at comma_at) = valued_cut piece at pair.comma found.one found.starts in
+    let valued_other : IsValued found.other (cut piece second_at (at + pair.end)) =
+    subst (λ (n : ℕ). IsValued found.other (cut piece n (at + pair.end))) there
+    (valued_there piece at (second_after form pair.comma) pair.end found.other found.ordered found.ends) in
+    let before : AllByRecursion IsWhite (cut piece 1 at) = one_space piece 1 arrays.inside (omega arith) (c.has_space.ensures c.if-not-has_space.false) in
+    let between : AllByRecursion IsWhite (cut piece (comma_at + 1) second_at) =
+    one_space piece (comma_at + 1) arrays.after_comma (omega arith)
+    (λ spaced. ap (λ n. get_or piece n 0) (sym behind) ∙ sym (get_or-drop at piece (pair.comma + 1) 0) ∙ found.between spaced) in
     record {
       flat = flat;
-      count = pair.end + 2;
+      count = close + 1;
       is = record {
         place = refl;
         first_place = refl;
-        second_place = omega arith;
-        close = omega arith;
-        third = refl;
+        second_place = refl;
+        close = refl;
+        third = closes.few;
         first = of_value found.one pair.first one_fits found.first;
         second = of_value found.other pair.second other_fits found.second;
       };
       at = refl;
-      spelled = pair_spelled piece start first second pair.comma (pair.comma + 1) pair.end c.requires.bracket refl refl found.starts;
+      spelled = array_spelled piece start first second at comma_at second_at (at + pair.end) close closes c.requires.bracket (omega arith) refl (omega arith)
+          before (omega arith) valued_one is_comma refl (omega arith) between (omega arith) valued_other;
       close = omega arith;
-      within = (let w = c.in-Some.ensures.within in omega (arith, ap length (rest_of piece 1), length-drop 1 piece));
-      comma = ap (λ k. get_or piece k 0) after ∙ sym (get_or-drop 1 piece (pair.end + 1) 0) ∙ next.comma;
-      bracket = ap (λ k. get_or piece k 0) second_after ∙ sym (get_or-drop 1 piece (pair.end + 2) 0) ∙ next.bracket;
+      within = omega arith;
+      comma = next.comma;
+      white = one_space piece (close + 1 + 1) arrays.after_comma (omega arith) next.between;
+      bracket = next.bracket;
     }

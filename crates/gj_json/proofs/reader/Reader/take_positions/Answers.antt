@@ -7,7 +7,7 @@ use Rattle.gj_json.specs.CutPosition.{AreCutPositions}
 use Rattle.gj_json.specs.declared.mode.Mode.TheVariants.{ValueDue}
 use Rattle.gj_json.specs.Internal.FedReader.{FeedsAll, Passed}
 use Rattle.gj_json.specs.Internal.FlatParts.{awaits}
-use Rattle.gj_json.specs.Internal.SpelledPositions.{place_after, place_after_all, SpellsPositions}
+use Rattle.gj_json.specs.Internal.SpelledPositions.{gap_of, place_after, place_after_all, SpellsPositions}
 use Rattle.gj_json.proofs.Readers.CallsInTurn.{piece_left}
 use Rattle.gj_json.proofs.Pieces.PieceRests.{rest_of, left_within, left_is}
 use Rattle.gj_json.proofs.Pieces.FlatsInTurn.{depth_left, room_left}
@@ -16,25 +16,25 @@ use Rattle.gj_json.proofs.Pieces.TakenPositions.{Then, heard_less, first_taken}
 use Rattle.gj_json.proofs.reader.Reader.take_positions.Goals as goal
 
 -- where those end that the sink takes
-record Ends (told : List CutPosition) (k offset : ℕ) (rest : List ℕ) (last : ℕ) : Type 0 where
-  spelled : SpellsPositions told offset rest
+record Ends (gap : ℕ) (told : List CutPosition) (k offset : ℕ) (rest : List ℕ) (last : ℕ) : Type 0 where
+  spelled : SpellsPositions gap told offset rest
   some : 0 < k
-  end : place_after_all (take k told) offset ≡ last
+  end : place_after_all gap (take k told) offset ≡ last
   on : offset < last
   within : last - offset < length rest
   bracket : get_or rest (last - offset) 0 ≡ open_bracket
 
-ends : (all : List CutPosition) (d : CutPosition) (found k offset : ℕ) (rest : List ℕ) → (k ≡ 0 → ⊥) → k ≤ length (take found all)
-    → SpellsPositions (take found all) offset rest → Ends (take found all) k offset rest (place_after (get_or all (k - 1) d))
-ends all d found k offset rest some few s =
+ends : (gap : ℕ) (all : List CutPosition) (d : CutPosition) (found k offset : ℕ) (rest : List ℕ) → (k ≡ 0 → ⊥) → k ≤ length (take found all)
+    → SpellsPositions gap (take found all) offset rest → Ends gap (take found all) k offset rest (place_after gap (get_or all (k - 1) d))
+ends gap all d found k offset rest some few s =
     let told = take found all in
     let positive : 0 < k = omega (arith, some) in
-    let b = end_begins told d k offset rest positive few s in
-    let P : CutPosition → Type 0 = λ p. Ends told k offset rest (place_after p) in
+    let b = end_begins gap told d k offset rest positive few s in
+    let P : CutPosition → Type 0 = λ p. Ends gap told k offset rest (place_after gap p) in
     subst P (get_or-take found all (k - 1) d (omega (arith, length-take found all, positive))) (record {
       spelled = s;
       some = positive;
-      end = end_is told d k offset rest positive few s;
+      end = end_is gap told d k offset rest positive few s;
       on = b.0;
       within = b.1;
       bracket = b.2;
@@ -44,7 +44,7 @@ pub tell_positions-taken-requires : goal.tell_positions-taken-requires
 tell_positions-taken-requires g c =
     record {
       rising =
-          rising (take c.read_positions-found.result c.read_positions-found.new.positions) c.loop-taken.self.offset c.loop-taken.rest.now
+          rising (gap_of c.args.form) (take c.read_positions-found.result c.read_positions-found.new.positions) c.loop-taken.self.offset c.loop-taken.rest.now
           c.read_positions-found.ensures.spelled;
     }
 
@@ -58,11 +58,22 @@ returns-then-taken-eq0-clause-feeds g c =
     heard_less c.args.self.now c.loop-taken.self (take (length piece - length c.loop-taken.rest.now) piece) i.fed
     (λ events h. subst (g.S.EventSink.heard c.tell_positions-taken.new.self) (append-nil events) (c.tell_positions-taken.ensures.heard [] none events h))
 
-pub overflow_add-count-in-loop-taken : goal.overflow_add-count-in-loop-taken
-overflow_add-count-in-loop-taken g c =
+pub overflow_add-next-in-loop-taken : goal.overflow_add-next-in-loop-taken
+overflow_add-next-in-loop-taken g c =
     let i = c.loop-taken.invariant in
     let all = c.read_positions-found.new.positions in
-    let e = ends all c.index-positions-taken.result c.read_positions-found.result _ c.loop-taken.self.offset c.loop-taken.rest.now c.if-taken-eq0.false
+    let e = ends (gap_of c.args.form) all c.index-positions-taken.result c.read_positions-found.result _ c.loop-taken.self.offset c.loop-taken.rest.now c.if-taken-eq0.false
+    c.tell_positions-taken.ensures.few c.read_positions-found.ensures.spelled in
+    let less = e.within in
+    let limits = ap (λ l. l.bytes) i.fed.feeds.limits in
+    let room = room_left c.args.self.now c.loop-taken.self c.args.piece.now c.loop-taken.rest.now i.within i.fed c.requires.room in
+    omega arith
+
+pub overflow_add-next-in-loop-taken-2 : goal.overflow_add-next-in-loop-taken-2
+overflow_add-next-in-loop-taken-2 g c =
+    let i = c.loop-taken.invariant in
+    let all = c.read_positions-found.new.positions in
+    let e = ends (gap_of c.args.form) all c.index-positions-taken.result c.read_positions-found.result _ c.loop-taken.self.offset c.loop-taken.rest.now c.if-taken-eq0.false
     c.tell_positions-taken.ensures.few c.read_positions-found.ensures.spelled in
     let less = e.within in
     let limits = ap (λ l. l.bytes) i.fed.feeds.limits in
@@ -72,7 +83,7 @@ overflow_add-count-in-loop-taken g c =
 pub overflow_sub-count : goal.overflow_sub-count
 overflow_sub-count g c =
     let all = c.read_positions-found.new.positions in
-    let e = ends all c.index-positions-taken.result c.read_positions-found.result _ c.loop-taken.self.offset c.loop-taken.rest.now c.if-taken-eq0.false
+    let e = ends (gap_of c.args.form) all c.index-positions-taken.result c.read_positions-found.result _ c.loop-taken.self.offset c.loop-taken.rest.now c.if-taken-eq0.false
     c.tell_positions-taken.ensures.few c.read_positions-found.ensures.spelled in
     let on = e.on in
     omega arith
@@ -81,7 +92,7 @@ pub skip-requires-clause-room : goal.skip-requires-clause-room
 skip-requires-clause-room g c =
     let i = c.loop-taken.invariant in
     let all = c.read_positions-found.new.positions in
-    let e = ends all c.index-positions-taken.result c.read_positions-found.result _ c.loop-taken.self.offset c.loop-taken.rest.now c.if-taken-eq0.false
+    let e = ends (gap_of c.args.form) all c.index-positions-taken.result c.read_positions-found.result _ c.loop-taken.self.offset c.loop-taken.rest.now c.if-taken-eq0.false
     c.tell_positions-taken.ensures.few c.read_positions-found.ensures.spelled in
     let less = e.within in
     let room = room_left c.args.self.now c.loop-taken.self c.args.piece.now c.loop-taken.rest.now i.within i.fed c.requires.room in
@@ -90,7 +101,7 @@ skip-requires-clause-room g c =
 pub slice_bounds-rest-count : goal.slice_bounds-rest-count
 slice_bounds-rest-count g c =
     let all = c.read_positions-found.new.positions in
-    let e = ends all c.index-positions-taken.result c.read_positions-found.result _ c.loop-taken.self.offset c.loop-taken.rest.now c.if-taken-eq0.false
+    let e = ends (gap_of c.args.form) all c.index-positions-taken.result c.read_positions-found.result _ c.loop-taken.self.offset c.loop-taken.rest.now c.if-taken-eq0.false
     c.tell_positions-taken.ensures.few c.read_positions-found.ensures.spelled in
     let less = e.within in
     omega arith
@@ -98,7 +109,7 @@ slice_bounds-rest-count g c =
 pub slice_bounds-rest-start : goal.slice_bounds-rest-start
 slice_bounds-rest-start g c =
     let all = c.read_positions-found.new.positions in
-    let e = ends all c.index-positions-taken.result c.read_positions-found.result _ c.loop-taken.self.offset c.loop-taken.rest.now c.if-taken-eq0.false
+    let e = ends (gap_of c.args.form) all c.index-positions-taken.result c.read_positions-found.result _ c.loop-taken.self.offset c.loop-taken.rest.now c.if-taken-eq0.false
     c.tell_positions-taken.ensures.few c.read_positions-found.ensures.spelled in
     let less = e.within in
     omega arith
@@ -107,9 +118,9 @@ pub loop-taken-smaller : goal.loop-taken-smaller
 loop-taken-smaller g c =
     let rest = c.loop-taken.rest.now in
     let all = c.read_positions-found.new.positions in
-    let e = ends all c.index-positions-taken.result c.read_positions-found.result _ c.loop-taken.self.offset rest c.if-taken-eq0.false
+    let e = ends (gap_of c.args.form) all c.index-positions-taken.result c.read_positions-found.result _ c.loop-taken.self.offset rest c.if-taken-eq0.false
     c.tell_positions-taken.ensures.few c.read_positions-found.ensures.spelled in
-    let last = place_after (get_or all (c.tell_positions-taken.result - 1) c.index-positions-taken.result) in
+    let last = place_after (gap_of c.args.form) (get_or all (c.tell_positions-taken.result - 1) c.index-positions-taken.result) in
     let n = last - c.loop-taken.self.offset in
     let on = e.on in
     let less = e.within in
@@ -123,10 +134,10 @@ loop-taken-preserved g c =
     let rest = c.loop-taken.rest.now in
     let told = take c.read_positions-found.result c.read_positions-found.new.positions in
     let k = c.tell_positions-taken.result in
-    let last = place_after (get_or c.read_positions-found.new.positions (k - 1) c.index-positions-taken.result) in
+    let last = place_after (gap_of c.args.form) (get_or c.read_positions-found.new.positions (k - 1) c.index-positions-taken.result) in
     let n = last - old.offset in
     let all = c.read_positions-found.new.positions in
-    let e = ends all c.index-positions-taken.result c.read_positions-found.result _ old.offset rest c.if-taken-eq0.false
+    let e = ends (gap_of c.args.form) all c.index-positions-taken.result c.read_positions-found.result _ old.offset rest c.if-taken-eq0.false
     c.tell_positions-taken.ensures.few c.read_positions-found.ensures.spelled in
     let on = e.on in
     let less = e.within in
@@ -134,7 +145,7 @@ loop-taken-preserved g c =
     let P : ℕ → Type 0 = λ m. Passed (m - old.offset) ValueDue old c.skip.new.self in
     let Q : ℕ → Type 0 = λ m. FeedsAll (g.S.EventSink.heard c.loop-taken.sink) (Then (g.S.EventSink.heard c.loop-taken.sink) (take k told)) old c.skip.new.self
     (take (m - old.offset) rest) in
-    let taken = subst Q e.end (first_taken told k old c.skip.new.self rest e.some c.tell_positions-taken.ensures.few e.spelled i.fed.live i.next.due
+    let taken = subst Q e.end (first_taken (gap_of c.args.form) told k old c.skip.new.self rest e.some c.tell_positions-taken.ensures.few e.spelled i.fed.live i.next.due
     (depth_left c.args.self.now old piece rest i.within i.fed i.levels c.requires.deep) (rw (i.levels) c.requires.inner)
     (room_left c.args.self.now old piece rest i.within i.fed c.requires.room) (subst P (sym e.end) c.skip.ensures.passed)) in
     let heard = heard_less old c.skip.new.self (take n rest) taken

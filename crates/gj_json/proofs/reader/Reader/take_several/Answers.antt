@@ -36,33 +36,8 @@ module _ (rest : List ℕ) (count : ℕ) (two : 2 ≤ length (take (length rest 
       ∙ ap (λ k. get_or rest k 0) {x = count + 1 + 0} {y = count + 1} (omega arith) ∙ sym (get_or-drop count rest 1 0)
       ∙ ap (λ xs. get_or xs 1 0) (sym (rest_of rest count)) ∙ bracket
 
-pub loop-begins-preserved-then-left-gt0 : goal.loop-begins-preserved-then-left-gt0
-loop-begins-preserved-then-left-gt0 g c =
-    let invariant = c.loop-begins.invariant in
-    let piece = c.args.piece.now in
-    let rest = c.loop-begins.rest.now in
-    let count = c.in-Some.count in
-    let some = c.in-Some.ensures in
-    let is = c.begins_next.ensures in
-    let begun = c.if-begins_next.true in
-    let enough : 1 ≤ length (take (length rest - count) (drop count rest)) = omega (arith, is.within begun) in
-    let few = more_within rest count 1 some.within enough in
-    record {
-      within = left_within piece rest (count + 1) invariant.within few;
-      rest_is = left_is piece rest (count + 1) invariant.within few invariant.rest_is;
-      fed = goes_on c.args.self.now c.loop-begins.self c.skip.new.self c.read_flat.new.flat piece rest count invariant.within invariant.rest_is
-          invariant.fed (invariant.next c.loop-begins-test.true) invariant.levels c.requires.deep c.requires.inner c.requires.room some.within some.flat
-          (λ events h. c.tell_flat.ensures events h) 1 (omega arith) enough (is.comma begun) tt c.skip.ensures.passed;
-      next = λ begins. record {
-        due = rw (c.skip.ensures.passed.mode_is) refl;
-        some = left_some rest count (is.within begun) (is.bracket begun);
-        bracket = left_begins rest count (is.within begun) (is.bracket begun);
-      };
-      levels = c.skip.ensures.passed.levels ∙ invariant.levels;
-    }
-
-pub take_positions-many-requires-clause-next : goal.take_positions-many-requires-clause-next
-take_positions-many-requires-clause-next g c =
+pub take_next_positions-many-requires-clause-next : goal.take_next_positions-many-requires-clause-next
+take_next_positions-many-requires-clause-next g c =
     let rest = c.loop-begins.rest.now in
     let count = c.in-Some.count in
     let is = c.begins_next.ensures in
@@ -73,8 +48,8 @@ take_positions-many-requires-clause-next g c =
       bracket = left_begins rest count (is.within begun) (is.bracket begun);
     }
 
-pub loop-begins-preserved-else-left-gt0 : goal.loop-begins-preserved-else-left-gt0
-loop-begins-preserved-else-left-gt0 g c =
+pub loop-begins-preserved-then-begins_next : goal.loop-begins-preserved-then-begins_next
+loop-begins-preserved-then-begins_next g c =
     let invariant = c.loop-begins.invariant in
     let piece = c.args.piece.now in
     let rest = c.loop-begins.rest.now in
@@ -90,13 +65,13 @@ loop-begins-preserved-else-left-gt0 g c =
     invariant.fed (invariant.next c.loop-begins-test.true) invariant.levels c.requires.deep c.requires.inner c.requires.room some.within some.flat
     (λ events h. c.tell_flat.ensures events h) 1 (omega arith) enough (is.comma begun) tt c.skip.ensures.passed in
     let left = take (length rest - (count + 1)) (drop (count + 1) rest) in
-    let many = c.take_positions-many.ensures in
-    let n = c.take_positions-many.result in
-    let P : List ℕ → Type 0 = λ xs. IsDueAt c.take_positions-many.new.self.mode xs in
+    let many = c.take_next_positions-many.ensures in
+    let n = c.take_next_positions-many.result in
+    let P : List ℕ → Type 0 = λ xs. IsDueAt c.take_next_positions-many.new.self.mode xs in
     record {
       within = left_within piece left n within many.within;
       rest_is = left_is piece left n within many.within rest_is;
-      fed = piece_left c.args.self.now c.skip.new.self c.take_positions-many.new.self piece left n within rest_is many.within fed many.feeds;
+      fed = piece_left c.args.self.now c.skip.new.self c.take_next_positions-many.new.self piece left n within rest_is many.within fed many.feeds;
       next = λ begins. subst P (sym (rest_of left n)) many.next;
       levels = many.levels ∙ c.skip.ensures.passed.levels ∙ invariant.levels;
     }
@@ -133,4 +108,35 @@ loop-begins-preserved g c =
         bracket = c.begins_array-begins.ensures.bracket begins;
       };
       levels = c.skip-else-begins_next.ensures.passed.levels ∙ invariant.levels;
+    }
+
+pub loop-begins-preserved-then-is_near : goal.loop-begins-preserved-then-is_near
+loop-begins-preserved-then-is_near g c =
+    let invariant = c.loop-begins.invariant in
+    let piece = c.args.piece.now in
+    let rest = c.loop-begins.rest.now in
+    let count = c.in-Some.count in
+    let some = c.in-Some.ensures in
+    let run = c.comma_run-comma in
+    let comma = run.result in
+    let skipped = c.skip-else-begins_next in
+    let positive : 0 < comma = omega (arith, c.if-comma-eq0.false) in
+    let few = more_within rest count comma some.within run.ensures.within in
+    let within = left_within piece rest (count + comma) invariant.within few in
+    let rest_is = left_is piece rest (count + comma) invariant.within few invariant.rest_is in
+    let fed = goes_on c.args.self.now c.loop-begins.self skipped.new.self c.read_flat.new.flat piece rest count invariant.within invariant.rest_is
+    invariant.fed (invariant.next c.loop-begins-test.true) invariant.levels c.requires.deep c.requires.inner c.requires.room some.within some.flat
+    (λ events h. c.tell_flat.ensures events h) comma positive run.ensures.within (run.ensures.comma positive) (run.ensures.white positive)
+    skipped.ensures.passed in
+    let left = take (length rest - (count + comma)) (drop (count + comma) rest) in
+    let taken = c.take_next_positions-many-then-is_near in
+    let many = taken.ensures in
+    let n = taken.result in
+    let P : List ℕ → Type 0 = λ xs. IsDueAt taken.new.self.mode xs in
+    record {
+      within = left_within piece left n within many.within;
+      rest_is = left_is piece left n within many.within rest_is;
+      fed = piece_left c.args.self.now skipped.new.self taken.new.self piece left n within rest_is many.within fed many.feeds;
+      next = λ begins. subst P (sym (rest_of left n)) many.next;
+      levels = many.levels ∙ skipped.ensures.passed.levels ∙ invariant.levels;
     }

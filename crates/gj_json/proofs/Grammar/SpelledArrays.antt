@@ -1,0 +1,44 @@
+-- An array of two or three numbers is spelled by its numbers, each where it stands, and what stands around them.
+use Rattle.std.proofs.Common.{◌≡◌, ℕ, ◌+◌, ◌≤◌, ◌<◌, Bool, true, false, IsTrue, inl, refl, List, [], ◌∷◌, get_or, length, take, subst, sym, arith}
+use Rattle.std.specs.List.{AllByRecursion}
+use Rattle.std.specs.Option.{option_to_list}
+use mir.Val.{bool_byte}
+use Rattle.gj_json.specs.Bytes.{open_bracket, comma, space, IsWhite}
+use Rattle.gj_json.specs.declared.flat.Numbered.{Numbered}
+use Rattle.gj_json.specs.Internal.SpelledNumbers.{SpellsNumbers}
+use Rattle.gj_json.specs.Internal.SpelledPositions.{ClosesAt}
+use Rattle.gj_json.specs.Internal.FlatParts.{cut, IsValued, IsItem, IsMore}
+use Rattle.gj_json.proofs.Pieces.PieceCuts.{cut_byte}
+use Rattle.gj_json.proofs.Grammar.SpelledPairs.{none_cut}
+use Rattle.gj_json.proofs.Grammar.SpelledFlats.{item_cut, more_cut, flat_cut}
+
+-- one space or nothing
+pub one_space : (piece : List ℕ) (at : ℕ) (spaced : Bool) → at < length piece → (IsTrue spaced → get_or piece at 0 ≡ space)
+    → AllByRecursion IsWhite (cut piece at (at + bool_byte spaced))
+one_space piece at false within is =
+    let e : at ≡ at + 0 = omega arith in
+    let P : ℕ → Type 0 = λ n. AllByRecursion IsWhite (cut piece at n) in
+    subst P e (none_cut piece at)
+one_space piece at true within is =
+    let Q : List ℕ → Type 0 = λ xs. AllByRecursion IsWhite xs in
+    subst Q (sym (cut_byte piece at (at + 1) within (omega arith))) (inl (is refl), none_cut piece (at + 1))
+
+-- where the first number begins, the comma after it, the second number and its end, and the closing bracket
+module _ (piece : List ℕ) (start : ℕ) (first second : Numbered) (first_at comma_at second_at end close : ℕ) (closes : ClosesAt piece start end close)
+    (bracket : get_or piece 0 0 ≡ open_bracket) (within : close < length piece) (one : first.place ≡ start + first_at) (some : 1 ≤ first_at)
+    (before : AllByRecursion IsWhite (cut piece 1 first_at)) (ordered_one : first_at ≤ comma_at)
+    (valued_one : IsValued first.value (cut piece first_at comma_at)) (is_comma : get_or piece comma_at 0 ≡ comma)
+    (other : second.place ≡ start + second_at) (after : comma_at + 1 ≤ second_at) (between : AllByRecursion IsWhite (cut piece (comma_at + 1) second_at))
+    (ordered : second_at ≤ end) (valued_other : IsValued second.value (cut piece second_at end)) where
+  pub array_spelled : SpellsNumbers start (first ∷ second ∷ option_to_list closes.third) (start + close) start (take (close + 1) piece)
+  array_spelled =
+      let third = option_to_list closes.third in
+      let last = closes.last in
+      let on = closes.on in
+      let up = closes.before in
+      let a : IsItem first (start + 1) (cut piece 1 comma_at) =
+      item_cut piece start first 1 first_at comma_at comma_at some ordered_one (omega arith) (omega arith) before one valued_one (none_cut piece comma_at) in
+      let b : IsItem second (start + (comma_at + 1)) (cut piece (comma_at + 1) last) =
+      item_cut piece start second (comma_at + 1) second_at end last after ordered on (omega arith) between other valued_other closes.white in
+      let more = more_cut piece start second third (start + close) comma_at last (close + 1) is_comma (omega arith) (omega arith) (omega arith) b closes.more in
+      flat_cut piece start first (second ∷ third) (start + close) comma_at (close + 1) bracket (omega arith) (omega arith) (omega arith) a more
