@@ -96,13 +96,13 @@ fn close_after_second(piece: &[u8], at: usize, form: ArrayForm) -> Option<usize>
     if form.third {
         return close_after_third(piece, at, form);
     }
-    if !form.inside {
-        return Some(at);
+    if form.inside {
+        if piece[at + 1] != b']' {
+            return None;
+        }
+        return Some(at + 1);
     }
-    if piece[at + 1] != b']' {
-        return None;
-    }
-    Some(at + 1)
+    Some(at)
 }
 
 /// A comma and the bracket of an array as one number, the comma in the lower byte.

@@ -1,5 +1,5 @@
 -- An array of two or three numbers is spelled by its numbers, each where it stands, and what stands around them.
-use Rattle.std.proofs.Common.{◌≡◌, ℕ, ◌+◌, ◌≤◌, ◌<◌, Bool, true, false, IsTrue, inl, refl, List, [], ◌∷◌, get_or, length, take, subst, sym, arith}
+use Rattle.std.proofs.Common.{◌≡◌, ℕ, ◌+◌, ◌≤◌, ◌<◌, Bool, true, false, IsTrue, inl, refl, List, ◌∷◌, get_or, length, take, subst, sym, arith}
 use Rattle.std.specs.List.{AllByRecursion}
 use Rattle.std.specs.Option.{option_to_list}
 use mir.Val.{bool_byte}
@@ -7,10 +7,14 @@ use Rattle.gj_json.specs.Bytes.{open_bracket, comma, space, IsWhite}
 use Rattle.gj_json.specs.declared.flat.Numbered.{Numbered}
 use Rattle.gj_json.specs.Internal.SpelledNumbers.{SpellsNumbers}
 use Rattle.gj_json.specs.Internal.SpelledPositions.{ClosesAt}
-use Rattle.gj_json.specs.Internal.FlatParts.{cut, IsValued, IsItem, IsMore}
+use Rattle.gj_json.specs.Internal.FlatParts.{cut, IsValued, IsItem}
 use Rattle.gj_json.proofs.Pieces.PieceCuts.{cut_byte}
 use Rattle.gj_json.proofs.Grammar.SpelledPairs.{none_cut}
 use Rattle.gj_json.proofs.Grammar.SpelledFlats.{item_cut, more_cut, flat_cut}
+
+pub at_most_one : (b : Bool) → bool_byte b ≤ 1
+at_most_one false = omega arith
+at_most_one true = omega arith
 
 -- one space or nothing
 pub one_space : (piece : List ℕ) (at : ℕ) (spaced : Bool) → at < length piece → (IsTrue spaced → get_or piece at 0 ≡ space)

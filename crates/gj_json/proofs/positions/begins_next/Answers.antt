@@ -1,1 +1,0 @@
-use Rattle.gj_json.proofs.positions.begins_next.Goals as goal

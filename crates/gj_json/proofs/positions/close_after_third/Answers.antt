@@ -1,10 +1,10 @@
 -- A comma, a number and the closing bracket.
-use Rattle.std.proofs.Common.{◌≡◌, ◌+◌, ◌-◌, ℕ, List, [], refl, Some, length, length-drop, subst, arith}
+use Rattle.std.proofs.Common.{◌+◌, ℕ, List, [], refl, Some, length-drop, subst, arith}
 use mir.Val.{bool_byte}
 use Rattle.gj_number.specs.Short.{StartsWithNumber, exact_of}
 use Rattle.gj_json.specs.declared.flat.Numbered.{Numbered}
 use Rattle.gj_json.specs.Internal.FlatParts.{cut, IsItem}
-use Rattle.gj_json.proofs.Grammar.SpelledArrays.{one_space}
+use Rattle.gj_json.proofs.Grammar.SpelledArrays.{at_most_one, one_space}
 use Rattle.gj_json.proofs.Grammar.SpelledFlats.{item_cut, end_cut, more_cut}
 use Rattle.gj_json.proofs.Grammar.SpelledPairs.{none_cut, valued_cut}
 use Rattle.gj_json.proofs.Pieces.PieceRests.{rest_of}
@@ -21,6 +21,8 @@ returns-clause-closes c = λ start.
     let last = first + count in
     let close = last + bool_byte form.inside in
     let room = c.requires.room in
+    let one = at_most_one form.after_comma in
+    let other = at_most_one form.inside in
     let number : Numbered = record { value = value; place = start + first } in
     let P : List ℕ → Type 0 = λ xs. StartsWithNumber xs (exact_of value) count in
     let read = subst P (rest_of piece first) (c.read_short-count.ensures.number (omega arith)) in

@@ -1,4 +1,4 @@
-use Rattle.std.proofs.Common.{◌≡◌, ◌∙◌, ◌+◌, ◌-◌, ◌≤◌, ◌<◌, List, ℕ, get_or, length, take, drop, length-drop, refl, sym, ap, subst, arith, rules, w64}
+use Rattle.std.proofs.Common.{◌≡◌, ◌∙◌, ◌+◌, ◌-◌, ◌≤◌, List, ℕ, get_or, drop, refl, sym, ap, subst, arith, rules, w64}
 use mir.Val.{SFits, to_z, of_z, bool_byte}
 use Rattle.std.specs.List.{AllByRecursion}
 use Rattle.std.proofs.lemmas.Int.{to_z-of_z}
@@ -8,12 +8,11 @@ use Rattle.gj_number.specs.declared.short.cuts.Cut.{Cut}
 use Rattle.gj_number.specs.declared.short.cuts.PairForm.{PairForm}
 use Rattle.gj_number.specs.Short.{StartsWithNumber, exact_of}
 use Rattle.gj_number.specs.Cuts.{IsCut, StartsWithCutPair, second_after}
-use Rattle.gj_json.specs.Bytes.{IsWhite, comma, space}
+use Rattle.gj_json.specs.Bytes.{IsWhite, comma}
 use Rattle.gj_json.specs.declared.flat.Flat.{Flat}
 use Rattle.gj_json.specs.declared.flat.Numbered.{Numbered}
 use Rattle.gj_json.specs.Internal.FlatParts.{cut, IsValued}
-use Rattle.gj_json.specs.Internal.SpelledPositions.{ClosesAt}
-use Rattle.gj_json.proofs.Grammar.SpelledArrays.{one_space, array_spelled}
+use Rattle.gj_json.proofs.Grammar.SpelledArrays.{at_most_one, one_space, array_spelled}
 use Rattle.gj_json.proofs.Grammar.SpelledPairs.{valued_cut}
 use Rattle.gj_json.proofs.Pieces.PieceRests.{rest_of}
 use Rattle.gj_json.proofs.positions.read_position.Goals as goal
@@ -42,6 +41,7 @@ invariant_of-result c =
     let closes = c.in-Some-close_after_second.ensures.closes 0 in
     let on = closes.on in
     let before = closes.before in
+    let near = c.in-Some-close_after_second.ensures.near in
     record { after = omega arith; between = omega arith; before = omega arith; within = omega arith }
 
 pub returns : goal.returns
@@ -63,6 +63,8 @@ returns c =
     let on = closes.on in
     let up = closes.before in
     let room = c.if-piece-lt-ROOM.false in
+    let spaced = at_most_one arrays.after_comma in
+    let inside = at_most_one arrays.inside in
     let comma_at = at + pair.comma in
     let second_at = comma_at + 1 + gap in
     let first : Numbered = record { value = found.one; place = start + at } in
