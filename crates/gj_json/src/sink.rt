@@ -55,8 +55,8 @@ pub trait EventSink {
         });
     }
 
-    /// Arrays of two numbers, each of which stands after the one before, as their cut values: it takes those before the first
-    /// of which it asks for more, and returns how many. It has heard the events of these.
+    /// Arrays of two numbers or three, each of which stands after the one before, as the cut values of the first two: it takes
+    /// those before the first of which it asks for more, and returns how many. It has heard the events of these.
     #[inline(always)]
     fn tell_positions(&mut self, _positions: &[CutPosition]) -> usize
         requires rising { Rise _positions.now }

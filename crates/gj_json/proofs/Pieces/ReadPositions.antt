@@ -41,7 +41,8 @@ one_more gap (q ∷ ps) p start piece s one =
     )
 
 -- those before the last ones
-pub first_of : (gap : ℕ) (ps : List CutPosition) (k start : ℕ) (piece : List ℕ) → SpellsPositions gap ps start piece → SpellsPositions gap (take k ps) start piece
+pub first_of : (gap : ℕ) (ps : List CutPosition) (k start : ℕ) (piece : List ℕ) → SpellsPositions gap ps start piece
+    → SpellsPositions gap (take k ps) start piece
 first_of gap ps zero start piece s = tt
 first_of gap [] (suc k) start piece s = tt
 first_of gap (p ∷ ps) (suc k) start piece s = (s.0, first_of gap ps k (place_after gap p) (drop (place_after gap p - start) piece) s.1)

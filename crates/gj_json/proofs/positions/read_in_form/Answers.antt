@@ -18,8 +18,9 @@ loop-count-preserved c =
     let p = c.in-Some.position in
     let s = c.in-Some.ensures in
     let n = p.close_at + 2 + gap in
+    let next : ℕ = place_after gap p in
     let at = s.at in
-    let bytes : n ≡ place_after gap p - place = omega arith in
+    let bytes : n ≡ next - place = omega arith in
     let within = i.within in
     let on = one_on gap p place rest s in
     let b = left_begins gap p place rest s in
@@ -40,12 +41,12 @@ loop-count-preserved c =
       size = search rules;
       within = omega arith;
       place_is =
-          (let e : start + length piece - length (take (length rest - n) (drop n rest)) ≡ p.place + p.close_at + 2 + gap = omega arith in
+          (let e : start + length piece - length (take (length rest - n) (drop n rest)) ≡ next = omega arith in
           e ∙ sym (after_more gap before p start) ∙ ap (λ ps. place_after_all gap ps start) (sym more));
       rest_is =
           same ∙ ap (drop n) here ∙ ap (λ k. drop k (drop (place - start) piece)) bytes
-          ∙ in_two piece start place (p.place + p.close_at + 2 + gap) (omega arith) (omega arith)
-          ∙ ap (λ k. drop k piece) {x = p.place + p.close_at + 2 + gap - start} {y = length piece - length (take (length rest - n) (drop n rest))} (omega arith);
+          ∙ in_two piece start place next (omega arith) (omega arith)
+          ∙ ap (λ k. drop k piece) {x = next - start} {y = length piece - length (take (length rest - n) (drop n rest))} (omega arith);
       bracket = ap (λ xs. get_or xs 0 0) same ∙ ap (λ k. get_or (drop k rest) 0 0) bytes ∙ b.1;
       spelled = subst P (sym more) (one_more gap before p start piece i.spelled there);
     }

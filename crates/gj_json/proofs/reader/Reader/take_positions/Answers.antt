@@ -62,8 +62,9 @@ pub overflow_add-next-in-loop-taken : goal.overflow_add-next-in-loop-taken
 overflow_add-next-in-loop-taken g c =
     let i = c.loop-taken.invariant in
     let all = c.read_positions-found.new.positions in
-    let e = ends (gap_of c.args.form) all c.index-positions-taken.result c.read_positions-found.result _ c.loop-taken.self.offset c.loop-taken.rest.now c.if-taken-eq0.false
-    c.tell_positions-taken.ensures.few c.read_positions-found.ensures.spelled in
+    let gap = gap_of c.args.form in
+    let e = ends gap all c.index-positions-taken.result c.read_positions-found.result _ c.loop-taken.self.offset c.loop-taken.rest.now
+    c.if-taken-eq0.false c.tell_positions-taken.ensures.few c.read_positions-found.ensures.spelled in
     let less = e.within in
     let limits = ap (λ l. l.bytes) i.fed.feeds.limits in
     let room = room_left c.args.self.now c.loop-taken.self c.args.piece.now c.loop-taken.rest.now i.within i.fed c.requires.room in
@@ -73,8 +74,9 @@ pub overflow_add-next-in-loop-taken-2 : goal.overflow_add-next-in-loop-taken-2
 overflow_add-next-in-loop-taken-2 g c =
     let i = c.loop-taken.invariant in
     let all = c.read_positions-found.new.positions in
-    let e = ends (gap_of c.args.form) all c.index-positions-taken.result c.read_positions-found.result _ c.loop-taken.self.offset c.loop-taken.rest.now c.if-taken-eq0.false
-    c.tell_positions-taken.ensures.few c.read_positions-found.ensures.spelled in
+    let gap = gap_of c.args.form in
+    let e = ends gap all c.index-positions-taken.result c.read_positions-found.result _ c.loop-taken.self.offset c.loop-taken.rest.now
+    c.if-taken-eq0.false c.tell_positions-taken.ensures.few c.read_positions-found.ensures.spelled in
     let less = e.within in
     let limits = ap (λ l. l.bytes) i.fed.feeds.limits in
     let room = room_left c.args.self.now c.loop-taken.self c.args.piece.now c.loop-taken.rest.now i.within i.fed c.requires.room in
@@ -83,8 +85,9 @@ overflow_add-next-in-loop-taken-2 g c =
 pub overflow_sub-count : goal.overflow_sub-count
 overflow_sub-count g c =
     let all = c.read_positions-found.new.positions in
-    let e = ends (gap_of c.args.form) all c.index-positions-taken.result c.read_positions-found.result _ c.loop-taken.self.offset c.loop-taken.rest.now c.if-taken-eq0.false
-    c.tell_positions-taken.ensures.few c.read_positions-found.ensures.spelled in
+    let gap = gap_of c.args.form in
+    let e = ends gap all c.index-positions-taken.result c.read_positions-found.result _ c.loop-taken.self.offset c.loop-taken.rest.now
+    c.if-taken-eq0.false c.tell_positions-taken.ensures.few c.read_positions-found.ensures.spelled in
     let on = e.on in
     omega arith
 
@@ -92,8 +95,9 @@ pub skip-requires-clause-room : goal.skip-requires-clause-room
 skip-requires-clause-room g c =
     let i = c.loop-taken.invariant in
     let all = c.read_positions-found.new.positions in
-    let e = ends (gap_of c.args.form) all c.index-positions-taken.result c.read_positions-found.result _ c.loop-taken.self.offset c.loop-taken.rest.now c.if-taken-eq0.false
-    c.tell_positions-taken.ensures.few c.read_positions-found.ensures.spelled in
+    let gap = gap_of c.args.form in
+    let e = ends gap all c.index-positions-taken.result c.read_positions-found.result _ c.loop-taken.self.offset c.loop-taken.rest.now
+    c.if-taken-eq0.false c.tell_positions-taken.ensures.few c.read_positions-found.ensures.spelled in
     let less = e.within in
     let room = room_left c.args.self.now c.loop-taken.self c.args.piece.now c.loop-taken.rest.now i.within i.fed c.requires.room in
     omega arith
@@ -101,26 +105,29 @@ skip-requires-clause-room g c =
 pub slice_bounds-rest-count : goal.slice_bounds-rest-count
 slice_bounds-rest-count g c =
     let all = c.read_positions-found.new.positions in
-    let e = ends (gap_of c.args.form) all c.index-positions-taken.result c.read_positions-found.result _ c.loop-taken.self.offset c.loop-taken.rest.now c.if-taken-eq0.false
-    c.tell_positions-taken.ensures.few c.read_positions-found.ensures.spelled in
+    let gap = gap_of c.args.form in
+    let e = ends gap all c.index-positions-taken.result c.read_positions-found.result _ c.loop-taken.self.offset c.loop-taken.rest.now
+    c.if-taken-eq0.false c.tell_positions-taken.ensures.few c.read_positions-found.ensures.spelled in
     let less = e.within in
     omega arith
 
 pub slice_bounds-rest-start : goal.slice_bounds-rest-start
 slice_bounds-rest-start g c =
     let all = c.read_positions-found.new.positions in
-    let e = ends (gap_of c.args.form) all c.index-positions-taken.result c.read_positions-found.result _ c.loop-taken.self.offset c.loop-taken.rest.now c.if-taken-eq0.false
-    c.tell_positions-taken.ensures.few c.read_positions-found.ensures.spelled in
+    let gap = gap_of c.args.form in
+    let e = ends gap all c.index-positions-taken.result c.read_positions-found.result _ c.loop-taken.self.offset c.loop-taken.rest.now
+    c.if-taken-eq0.false c.tell_positions-taken.ensures.few c.read_positions-found.ensures.spelled in
     let less = e.within in
     omega arith
 
 pub loop-taken-smaller : goal.loop-taken-smaller
 loop-taken-smaller g c =
+    let gap = gap_of c.args.form in
     let rest = c.loop-taken.rest.now in
     let all = c.read_positions-found.new.positions in
-    let e = ends (gap_of c.args.form) all c.index-positions-taken.result c.read_positions-found.result _ c.loop-taken.self.offset rest c.if-taken-eq0.false
+    let e = ends gap all c.index-positions-taken.result c.read_positions-found.result _ c.loop-taken.self.offset rest c.if-taken-eq0.false
     c.tell_positions-taken.ensures.few c.read_positions-found.ensures.spelled in
-    let last = place_after (gap_of c.args.form) (get_or all (c.tell_positions-taken.result - 1) c.index-positions-taken.result) in
+    let last = place_after gap (get_or all (c.tell_positions-taken.result - 1) c.index-positions-taken.result) in
     let n = last - c.loop-taken.self.offset in
     let on = e.on in
     let less = e.within in
@@ -128,16 +135,17 @@ loop-taken-smaller g c =
 
 pub loop-taken-preserved : goal.loop-taken-preserved
 loop-taken-preserved g c =
+    let gap = gap_of c.args.form in
     let i = c.loop-taken.invariant in
     let old = c.loop-taken.self in
     let piece = c.args.piece.now in
     let rest = c.loop-taken.rest.now in
     let told = take c.read_positions-found.result c.read_positions-found.new.positions in
     let k = c.tell_positions-taken.result in
-    let last = place_after (gap_of c.args.form) (get_or c.read_positions-found.new.positions (k - 1) c.index-positions-taken.result) in
+    let last = place_after gap (get_or c.read_positions-found.new.positions (k - 1) c.index-positions-taken.result) in
     let n = last - old.offset in
     let all = c.read_positions-found.new.positions in
-    let e = ends (gap_of c.args.form) all c.index-positions-taken.result c.read_positions-found.result _ old.offset rest c.if-taken-eq0.false
+    let e = ends gap all c.index-positions-taken.result c.read_positions-found.result _ old.offset rest c.if-taken-eq0.false
     c.tell_positions-taken.ensures.few c.read_positions-found.ensures.spelled in
     let on = e.on in
     let less = e.within in
@@ -145,7 +153,7 @@ loop-taken-preserved g c =
     let P : ℕ → Type 0 = λ m. Passed (m - old.offset) ValueDue old c.skip.new.self in
     let Q : ℕ → Type 0 = λ m. FeedsAll (g.S.EventSink.heard c.loop-taken.sink) (Then (g.S.EventSink.heard c.loop-taken.sink) (take k told)) old c.skip.new.self
     (take (m - old.offset) rest) in
-    let taken = subst Q e.end (first_taken (gap_of c.args.form) told k old c.skip.new.self rest e.some c.tell_positions-taken.ensures.few e.spelled i.fed.live i.next.due
+    let taken = subst Q e.end (first_taken gap told k old c.skip.new.self rest e.some c.tell_positions-taken.ensures.few e.spelled i.fed.live i.next.due
     (depth_left c.args.self.now old piece rest i.within i.fed i.levels c.requires.deep) (rw (i.levels) c.requires.inner)
     (room_left c.args.self.now old piece rest i.within i.fed c.requires.room) (subst P (sym e.end) c.skip.ensures.passed)) in
     let heard = heard_less old c.skip.new.self (take n rest) taken
