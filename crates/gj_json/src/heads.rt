@@ -12,20 +12,22 @@ use crate::usual::usual_text;
 /// A shorter piece is not looked at: it may have no room for each of them.
 const ROOM: usize = 50;
 
-/// The beginning of an object by its type: how many bytes it has, or 0 where there is none, and where the type stands.
+/// The beginning of an object by its type: how many bytes it has, or 0 where there is none, and where the name and the type stand.
 #[derive(Clone, Copy)]
 pub struct UsualTyped {
     pub count: usize,
+    pub name_at: usize,
     pub word_at: usize,
     pub word: Word,
 }
 
 /// The beginning of a member `geometry`: how many bytes it has up to its coordinates, or 0 where there is none, and where
-/// the bracket, the type and the second name stand.
+/// the bracket, the name `type`, the type and the name `coordinates` stand.
 #[derive(Clone, Copy)]
 pub struct UsualLocated {
     pub count: usize,
     pub bracket: usize,
+    pub name_at: usize,
     pub word_at: usize,
     pub word: Word,
     pub coordinates: usize,
@@ -33,6 +35,7 @@ pub struct UsualLocated {
 
 const NOT_TYPED: UsualTyped = UsualTyped {
     count: 0,
+    name_at: 0,
     word_at: 0,
     word: Word::Other,
 };
@@ -40,6 +43,7 @@ const NOT_TYPED: UsualTyped = UsualTyped {
 const NOT_LOCATED: UsualLocated = UsualLocated {
     count: 0,
     bracket: 0,
+    name_at: 0,
     word_at: 0,
     word: Word::Other,
     coordinates: 0,
@@ -50,9 +54,9 @@ const NOT_LOCATED: UsualLocated = UsualLocated {
 fn dense_typed(piece: &[u8]) -> UsualTyped
     requires room { ROOM ≤ length piece.now }
     ensures within { result.count ≤ length piece.now }
-    ensures on { 0 < result.count → 0 < result.word_at }
+    ensures on { 0 < result.count → result.name_at < result.word_at }
     ensures few { result.word_at ≤ result.count }
-    ensures usual { 0 < result.count → IsTyped piece.now result.count result.word_at result.word }
+    ensures usual { 0 < result.count → IsTyped piece.now result.count result.name_at result.word_at result.word }
 {
     if begins(piece, b"{\"type\":        ", 8) {
         let text = usual_text(&piece[8..]);
@@ -63,6 +67,7 @@ fn dense_typed(piece: &[u8]) -> UsualTyped
         if piece[at] == b',' {
             return UsualTyped {
                 count: at + 1,
+                name_at: 1,
                 word_at: 8,
                 word: text.word,
             };
@@ -76,13 +81,14 @@ fn dense_typed(piece: &[u8]) -> UsualTyped
 fn spaced_typed(piece: &[u8]) -> UsualTyped
     requires room { ROOM ≤ length piece.now }
     ensures within { result.count ≤ length piece.now }
-    ensures on { 0 < result.count → 0 < result.word_at }
+    ensures on { 0 < result.count → result.name_at < result.word_at }
     ensures few { result.word_at ≤ result.count }
-    ensures usual { 0 < result.count → IsTyped piece.now result.count result.word_at result.word }
+    ensures usual { 0 < result.count → IsTyped piece.now result.count result.name_at result.word_at result.word }
 {
     if begins_long(piece, b"{\"type\": \"Featur", b"e\",             ", 4) {
         return UsualTyped {
             count: 20,
+            name_at: 1,
             word_at: 9,
             word: Word::Feature,
         };
@@ -94,9 +100,9 @@ fn spaced_typed(piece: &[u8]) -> UsualTyped
 #[inline(always)]
 pub fn usual_typed(piece: &[u8]) -> UsualTyped
     ensures within { result.count ≤ length piece.now }
-    ensures on { 0 < result.count → 0 < result.word_at }
+    ensures on { 0 < result.count → result.name_at < result.word_at }
     ensures few { result.word_at ≤ result.count }
-    ensures usual { 0 < result.count → IsTyped piece.now result.count result.word_at result.word }
+    ensures usual { 0 < result.count → IsTyped piece.now result.count result.name_at result.word_at result.word }
 {
     if piece.len() < ROOM {
         return NOT_TYPED;
@@ -113,9 +119,9 @@ pub fn usual_typed(piece: &[u8]) -> UsualTyped
 pub fn next_typed(piece: &[u8]) -> UsualTyped
     ensures within { 0 < result.count → 3 + result.count ≤ length piece.now }
     ensures few { result.word_at ≤ result.count }
-    ensures on { 0 < result.count → 0 < result.word_at }
+    ensures on { 0 < result.count → result.name_at < result.word_at }
     ensures ends { 0 < result.count → take 3 piece.now ≡ close_brace ∷ close_brace ∷ comma ∷ [] }
-    ensures usual { 0 < result.count → IsTyped (drop 3 piece.now) result.count result.word_at result.word }
+    ensures usual { 0 < result.count → IsTyped (drop 3 piece.now) result.count result.name_at result.word_at result.word }
 {
     if piece.len() < ROOM {
         return NOT_TYPED;
@@ -131,10 +137,10 @@ pub fn next_typed(piece: &[u8]) -> UsualTyped
 pub fn following_typed(piece: &[u8]) -> UsualTyped
     ensures within { 0 < result.count → 2 + result.count ≤ length piece.now }
     ensures few { result.word_at ≤ result.count }
-    ensures on { 0 < result.count → 0 < result.word_at }
+    ensures on { 0 < result.count → result.name_at < result.word_at }
     ensures bracket { 0 < result.count → get_or piece.now 0 0 ≡ close_brace }
     ensures comma { 0 < result.count → get_or piece.now 1 0 ≡ comma }
-    ensures usual { 0 < result.count → IsTyped (drop 2 piece.now) result.count result.word_at result.word }
+    ensures usual { 0 < result.count → IsTyped (drop 2 piece.now) result.count result.name_at result.word_at result.word }
 {
     if piece.len() < ROOM {
         return NOT_TYPED;
@@ -150,10 +156,11 @@ pub fn following_typed(piece: &[u8]) -> UsualTyped
 fn dense_located(piece: &[u8]) -> UsualLocated
     requires room { ROOM ≤ length piece.now }
     ensures within { result.count ≤ length piece.now }
-    ensures on { 0 < result.count → result.bracket < result.word_at }
+    ensures on { 0 < result.count → result.bracket < result.name_at }
+    ensures name { 0 < result.count → result.name_at < result.word_at }
     ensures word_few { result.word_at ≤ result.count }
     ensures few { result.coordinates ≤ result.count }
-    ensures usual { 0 < result.count → IsLocated piece.now result.count result.bracket result.word_at result.coordinates result.word }
+    ensures usual { 0 < result.count → IsLocated piece.now result.count result.bracket result.name_at result.word_at result.coordinates result.word }
 {
     if begins_long(piece, b"\"geometry\":{\"typ", b"e\":             ", 3) {
         let text = usual_text(&piece[19..]);
@@ -165,6 +172,7 @@ fn dense_located(piece: &[u8]) -> UsualLocated
             return UsualLocated {
                 count: at + 15,
                 bracket: 11,
+                name_at: 12,
                 word_at: 19,
                 word: text.word,
                 coordinates: at + 1,
@@ -179,10 +187,11 @@ fn dense_located(piece: &[u8]) -> UsualLocated
 fn spaced_located(piece: &[u8]) -> UsualLocated
     requires room { ROOM ≤ length piece.now }
     ensures within { result.count ≤ length piece.now }
-    ensures on { 0 < result.count → result.bracket < result.word_at }
+    ensures on { 0 < result.count → result.bracket < result.name_at }
+    ensures name { 0 < result.count → result.name_at < result.word_at }
     ensures word_few { result.word_at ≤ result.count }
     ensures few { result.coordinates ≤ result.count }
-    ensures usual { 0 < result.count → IsLocated piece.now result.count result.bracket result.word_at result.coordinates result.word }
+    ensures usual { 0 < result.count → IsLocated piece.now result.count result.bracket result.name_at result.word_at result.coordinates result.word }
 {
     if begins_long(piece, b"\"geometry\": {\"ty", b"pe\":            ", 5) {
         let text = usual_text(&piece[21..]);
@@ -194,6 +203,7 @@ fn spaced_located(piece: &[u8]) -> UsualLocated
             return UsualLocated {
                 count: at + 17,
                 bracket: 12,
+                name_at: 13,
                 word_at: 21,
                 word: text.word,
                 coordinates: at + 2,
@@ -207,10 +217,11 @@ fn spaced_located(piece: &[u8]) -> UsualLocated
 #[inline(always)]
 pub fn usual_located(piece: &[u8]) -> UsualLocated
     ensures within { result.count ≤ length piece.now }
-    ensures on { 0 < result.count → result.bracket < result.word_at }
+    ensures on { 0 < result.count → result.bracket < result.name_at }
+    ensures name { 0 < result.count → result.name_at < result.word_at }
     ensures word_few { result.word_at ≤ result.count }
     ensures few { result.coordinates ≤ result.count }
-    ensures usual { 0 < result.count → IsLocated piece.now result.count result.bracket result.word_at result.coordinates result.word }
+    ensures usual { 0 < result.count → IsLocated piece.now result.count result.bracket result.name_at result.word_at result.coordinates result.word }
 {
     if piece.len() < ROOM {
         return NOT_LOCATED;

@@ -78,7 +78,7 @@ pub trait EventSink {
                     what: What::OpenObject,
                 });
                 self.tell(Event {
-                    place: typed.place + 1,
+                    place: typed.name_at,
                     what: What::Name(Known::TypeName),
                 });
                 self.tell(Event {
@@ -96,7 +96,7 @@ pub trait EventSink {
                     what: What::OpenObject,
                 });
                 self.tell(Event {
-                    place: located.typed.place + 1,
+                    place: located.typed.name_at,
                     what: What::Name(Known::TypeName),
                 });
                 self.tell(Event {

@@ -87,6 +87,10 @@ module _ (limits : Allowed) where
   white_names [] h = tt
   white_names (x ∷ xs) h = (record { moves = λ turn inner words. rw (class_is white_class x h.0 (λ e. cc)) refl; on = refl }, white_names xs h.1)
 
+  white_opened : (gap : List ℕ) → AllByRecursion IsWhite gap → AllByRecursion (IsQuiet (opened Object)) gap
+  white_opened [] h = tt
+  white_opened (x ∷ xs) h = (record { moves = λ turn inner words. rw (class_is white_class x h.0 (λ e. cc)) refl; on = refl }, white_opened xs h.1)
+
   -- a name, its colon and white space
   name_carries : (mode : Mode) (levels : List Level) (content gap : List ℕ) → names mode ≡ true → IsQuoted content (quoted content)
       → AllByRecursion IsWhite gap
@@ -122,24 +126,29 @@ module _ (limits : Allowed) where
   type_known = refl
 
   -- an object that begins by its type
-  abbrev typed_told : List ℕ → Word → ℕ → List Event
-  typed_told gap word n =
-      event_at n What.OpenObject ∷ event_at (n + 1) (What.Name TypeName) ∷ event_at (n + 1 + length (named (codes "type") gap)) (What.Text word) ∷ []
+  abbrev typed_told : List ℕ → List ℕ → Word → ℕ → List Event
+  typed_told inside gap word n =
+      event_at n What.OpenObject ∷ event_at (n + 1 + length inside) (What.Name TypeName)
+      ∷ event_at (n + 1 + length inside + length (named (codes "type") gap)) (What.Text word) ∷ []
 
-  typed_carries : (mode : Mode) (levels : List Level) (place word_at : ℕ) (word : Word) (gap bytes : List ℕ) → may_begin mode ≡ true
-      → length levels + 1 ≤ limits.depth → AllByRecursion IsWhite gap → BeginsTyped place word_at word gap bytes
-      → Carries limits mode levels NameDue (Object ∷ levels) bytes (typed_told gap word)
-  typed_carries mode levels place word_at word gap bytes w deep white h =
+  typed_carries : (mode : Mode) (levels : List Level) (place name_at word_at : ℕ) (word : Word) (inside gap bytes : List ℕ) → may_begin mode ≡ true
+      → length levels + 1 ≤ limits.depth → AllByRecursion IsWhite inside → AllByRecursion IsWhite gap
+      → BeginsTyped place name_at word_at word inside gap bytes
+      → Carries limits mode levels NameDue (Object ∷ levels) bytes (typed_told inside gap word)
+  typed_carries mode levels place name_at word_at word inside gap bytes w deep white_inside white h =
       let all = Object ∷ levels in
       let name = named (codes "type") gap in
       let text = h.type_bytes ++ (comma ∷ gap) in
-      let whole = both mode (opened Object) NameDue levels all all (open_brace ∷ []) (name ++ text) (λ n. event_at n What.OpenObject ∷ [])
-      (λ n. event_at n (What.Name (known_of (codes "type"))) ∷ event_at (n + length name) (What.Text (word_of h.content)) ∷ [])
+      let told : ℕ → List Event = λ n. event_at n (What.Name (known_of (codes "type"))) ∷ event_at (n + length name) (What.Text (word_of h.content)) ∷ [] in
+      let whole = both mode (opened Object) NameDue levels all all (open_brace ∷ []) (inside ++ (name ++ text)) (λ n. event_at n What.OpenObject ∷ [])
+      (λ n. told (n + length inside))
       (record { moved = λ start offset bytes k room. open_well limits levels start mode offset bytes k w Object (omega (arith, room)) deep })
+      (both (opened Object) (opened Object) NameDue all all all inside (name ++ text) (λ n. []) told
+      (quiet (opened Object) (opened Object) all inside (quiet_leads (opened Object) inside (white_opened inside white_inside)))
       (both (opened Object) ValueDue NameDue all all all name text (λ n. event_at n (What.Name (known_of (codes "type"))) ∷ [])
       (λ n. event_at n (What.Text (word_of h.content)) ∷ []) (name_carries (opened Object) all (codes "type") gap refl type_quoted white)
-      (text_carries levels h.content h.type_bytes gap deep h.is_quoted white)) in
-      let P : List ℕ → Type 0 = λ xs. Carries limits mode levels NameDue all xs (typed_told gap word) in
+      (text_carries levels h.content h.type_bytes gap deep h.is_quoted white))) in
+      let P : List ℕ → Type 0 = λ xs. Carries limits mode levels NameDue all xs (typed_told inside gap word) in
       subst P (sym h.spelled) (rw (type_known, h.known_as) at whole)
 
   geometry_quoted : IsQuoted (codes "geometry") (quoted (codes "geometry"))
@@ -157,25 +166,26 @@ module _ (limits : Allowed) where
   coordinates_known = refl
 
   -- a member `geometry` up to its coordinates
-  abbrev located_told : List ℕ → List ℕ → Word → ℕ → List Event
-  located_told gap object_bytes word n =
+  abbrev located_told : List ℕ → List ℕ → List ℕ → Word → ℕ → List Event
+  located_told inside gap object_bytes word n =
       let bracket = n + length (named (codes "geometry") gap) in
-      event_at n (What.Name Geometry) ∷ (typed_told gap word bracket ++ event_at (bracket + length object_bytes) (What.Name Coordinates) ∷ [])
+      event_at n (What.Name Geometry) ∷ (typed_told inside gap word bracket ++ event_at (bracket + length object_bytes) (What.Name Coordinates) ∷ [])
 
-  located_carries : (mode : Mode) (levels : List Level) (bracket word_at : ℕ) (word : Word) (gap object_bytes : List ℕ) → names mode ≡ true
-      → length levels + 1 ≤ limits.depth → AllByRecursion IsWhite gap → BeginsTyped bracket word_at word gap object_bytes
+  located_carries : (mode : Mode) (levels : List Level) (bracket name_at word_at : ℕ) (word : Word) (inside gap object_bytes : List ℕ) → names mode ≡ true
+      → length levels + 1 ≤ limits.depth → AllByRecursion IsWhite inside → AllByRecursion IsWhite gap
+      → BeginsTyped bracket name_at word_at word inside gap object_bytes
       → Carries limits mode levels ValueDue (Object ∷ levels)
-      (named (codes "geometry") gap ++ (object_bytes ++ named (codes "coordinates") gap)) (located_told gap object_bytes word)
-  located_carries mode levels bracket word_at word gap object_bytes w deep white h =
+      (named (codes "geometry") gap ++ (object_bytes ++ named (codes "coordinates") gap)) (located_told inside gap object_bytes word)
+  located_carries mode levels bracket name_at word_at word inside gap object_bytes w deep white_inside white h =
       let all = Object ∷ levels in
       let first = named (codes "geometry") gap in
       let last = named (codes "coordinates") gap in
       let whole = both mode ValueDue ValueDue levels levels all first (object_bytes ++ last) (λ n. event_at n (What.Name (known_of (codes "geometry"))) ∷ [])
-      (λ n. typed_told gap word n ++ event_at (n + length object_bytes) (What.Name (known_of (codes "coordinates"))) ∷ [])
+      (λ n. typed_told inside gap word n ++ event_at (n + length object_bytes) (What.Name (known_of (codes "coordinates"))) ∷ [])
       (name_carries mode levels (codes "geometry") gap w geometry_quoted white)
-      (both ValueDue NameDue ValueDue levels all all object_bytes last (typed_told gap word)
+      (both ValueDue NameDue ValueDue levels all all object_bytes last (typed_told inside gap word)
       (λ n. event_at n (What.Name (known_of (codes "coordinates"))) ∷ [])
-      (typed_carries ValueDue levels bracket word_at word gap object_bytes refl deep white h)
+      (typed_carries ValueDue levels bracket name_at word_at word inside gap object_bytes refl deep white_inside white h)
       (name_carries NameDue all (codes "coordinates") gap refl coordinates_quoted white)) in
       rw (geometry_known, coordinates_known) at whole
 
@@ -209,51 +219,57 @@ module _ (limits : Allowed) where
   }
 
   -- the end of an element that is an object, the comma after it, and an object that begins by its type
-  following_carries : (around : List Level) (word_at : ℕ) (word : Word) (gap bytes : List ℕ) → length around + 2 ≤ limits.depth → AllByRecursion IsWhite gap
-      → BeginsTyped 0 word_at word gap bytes
+  following_carries : (around : List Level) (name_at word_at : ℕ) (word : Word) (inside gap bytes : List ℕ) → length around + 2 ≤ limits.depth
+      → AllByRecursion IsWhite inside → AllByRecursion IsWhite gap → BeginsTyped 0 name_at word_at word inside gap bytes
       → Carries limits ValueDone (Object ∷ Array ∷ around) NameDue (Object ∷ Array ∷ around) (close_brace ∷ comma ∷ bytes)
-      (λ n. event_at n What.CloseObject ∷ typed_told gap word (n + 1 + 1))
-  following_carries around word_at word gap bytes deep white h =
+      (λ n. event_at n What.CloseObject ∷ typed_told inside gap word (n + 1 + 1))
+  following_carries around name_at word_at word inside gap bytes deep white_inside white h =
       let second = Object ∷ Array ∷ around in
       let third = Array ∷ around in
       both ValueDone ValueDone NameDue second third second (close_brace ∷ []) (comma ∷ bytes) (λ n. event_at n What.CloseObject ∷ [])
-      (λ n. typed_told gap word (n + 1)) (close_carries third)
-      (both ValueDone ValueDue NameDue third third second (comma ∷ []) bytes (λ n. []) (typed_told gap word)
+      (λ n. typed_told inside gap word (n + 1)) (close_carries third)
+      (both ValueDone ValueDue NameDue third third second (comma ∷ []) bytes (λ n. []) (typed_told inside gap word)
       (record {
         moved = λ start offset bytes k room.
             done_go limits third start offset bytes comma k (omega (arith, room)) ValueDue Ending.Item (rw (class_is comma_class comma refl (λ e. cc)) refl);
       })
-      (typed_carries ValueDue third 0 word_at word gap bytes refl (omega (arith, deep)) white h))
+      (typed_carries ValueDue third 0 name_at word_at word inside gap bytes refl (omega (arith, deep)) white_inside white h))
 
-  next_carries : (around : List Level) (word_at : ℕ) (word : Word) (gap bytes : List ℕ) → length around + 2 ≤ limits.depth → AllByRecursion IsWhite gap
-      → BeginsTyped 0 word_at word gap bytes
+  next_carries : (around : List Level) (name_at word_at : ℕ) (word : Word) (inside gap bytes : List ℕ) → length around + 2 ≤ limits.depth
+      → AllByRecursion IsWhite inside → AllByRecursion IsWhite gap → BeginsTyped 0 name_at word_at word inside gap bytes
       → Carries limits ValueDone (Object ∷ Object ∷ Array ∷ around) NameDue (Object ∷ Array ∷ around) (close_brace ∷ close_brace ∷ comma ∷ bytes)
-      (λ n. event_at n What.CloseObject ∷ event_at (n + 1) What.CloseObject ∷ typed_told gap word (n + 1 + 1 + 1))
-  next_carries around word_at word gap bytes deep white h =
+      (λ n. event_at n What.CloseObject ∷ event_at (n + 1) What.CloseObject ∷ typed_told inside gap word (n + 1 + 1 + 1))
+  next_carries around name_at word_at word inside gap bytes deep white_inside white h =
       let second = Object ∷ Array ∷ around in
       both ValueDone ValueDone NameDue (Object ∷ second) second second (close_brace ∷ []) (close_brace ∷ comma ∷ bytes)
-      (λ n. event_at n What.CloseObject ∷ []) (λ n. event_at n What.CloseObject ∷ typed_told gap word (n + 1 + 1)) (close_carries second)
-      (following_carries around word_at word gap bytes deep white h)
+      (λ n. event_at n What.CloseObject ∷ []) (λ n. event_at n What.CloseObject ∷ typed_told inside gap word (n + 1 + 1)) (close_carries second)
+      (following_carries around name_at word_at word inside gap bytes deep white_inside white h)
 
 -- ---- from reader to reader
 
-pub typed_taken : {before after : List Event → Type 0} (old new : Reader) (piece : List ℕ) (count word_at : ℕ) (word : Word) → old.fault ≡ None
+pub typed_taken : {before after : List Event → Type 0} (old new : Reader) (piece : List ℕ) (count name_at word_at : ℕ) (word : Word) → old.fault ≡ None
     → awaits old.mode ≡ true → old.offset + length piece ≤ old.limits.bytes → count ≤ length piece → length (levels_in old.levels) < old.limits.depth
-    → IsTyped piece count word_at word → Lands count NameDue (Object ∷ levels_in old.levels) old new
-    → ((events : List Event) → before events → after (events ++ (event_at old.offset What.OpenObject ∷ event_at (old.offset + 1) (What.Name TypeName)
+    → IsTyped piece count name_at word_at word → Lands count NameDue (Object ∷ levels_in old.levels) old new
+    → ((events : List Event) → before events → after (events ++ (event_at old.offset What.OpenObject ∷ event_at (old.offset + name_at) (What.Name TypeName)
     ∷ event_at (old.offset + word_at) (What.Text word) ∷ [])))
     → FeedsAll before after old new (take count piece)
-typed_taken {before} {after} old new piece count word_at word live due room w deep h p heard =
+typed_taken {before} {after} old new piece count name_at word_at word live due room w deep h p heard =
     let levels = levels_in old.levels in
     let long : length (take count piece) ≡ count = length-take-le count piece w in
     let carries =
-    typed_carries old.limits old.mode levels 0 word_at word h.gap (take count piece) (may_begin_due old.mode due) (omega (arith, deep)) h.white h.begins in
-    let e : old.offset + word_at ≡ old.offset + 1 + length (named (codes "type") h.gap) = omega (arith, h.begins.word_place) in
+    typed_carries old.limits old.mode levels 0 name_at word_at word h.inside h.gap (take count piece) (may_begin_due old.mode due) (omega (arith, deep))
+    h.white_inside h.white h.begins in
+    let d : old.offset + name_at ≡ old.offset + 1 + length h.inside = omega (arith, h.begins.name_place) in
+    let e : old.offset + word_at ≡ old.offset + 1 + length h.inside + length (named (codes "type") h.gap) =
+    omega (arith, h.begins.name_place, h.begins.word_place) in
+    let told : ℕ → ℕ → List Event =
+    λ m n. event_at old.offset What.OpenObject ∷ event_at m (What.Name TypeName) ∷ event_at n (What.Text word) ∷ [] in
+    let alike : told (old.offset + name_at) (old.offset + word_at) ≡ typed_told old.limits h.inside h.gap word old.offset = rw (d, e) refl in
     let P : ℕ → Type 0 = λ n. Lands n NameDue (Object ∷ levels) old new in
-    let Q : ℕ → Type 0 = λ n. (events : List Event) → before events
-    → after (events ++ (event_at old.offset What.OpenObject ∷ event_at (old.offset + 1) (What.Name TypeName) ∷ event_at n (What.Text word) ∷ [])) in
-    lands_feeds {before = before} {after = after} old new (take count piece) NameDue (Object ∷ levels) (typed_told old.limits h.gap word old.offset) live
-    (subst P (sym long) p) refl (λ bytes k. carries.moved old.start old.offset bytes k (omega (arith, long, room, w))) (subst Q e heard)
+    let Q : List Event → Type 0 = λ es. (events : List Event) → before events → after (events ++ es) in
+    lands_feeds {before = before} {after = after} old new (take count piece) NameDue (Object ∷ levels)
+    (typed_told old.limits h.inside h.gap word old.offset) live
+    (subst P (sym long) p) refl (λ bytes k. carries.moved old.start old.offset bytes k (omega (arith, long, room, w))) (subst Q alike heard)
 
 pub opened_taken : {before after : List Event → Type 0} (old new : Reader) (piece : List ℕ) (count : ℕ) → old.fault ≡ None → names old.mode ≡ true
     → old.offset + length piece ≤ old.limits.bytes → count ≤ length piece → length (levels_in old.levels) < old.limits.depth
@@ -277,29 +293,31 @@ opened_taken {before} {after} old new piece count live due room w deep h p heard
     lands_feeds {before = before} {after = after} old new given (opened Object) (Object ∷ levels) (opened_told old.limits h.gap old.offset) live
     (subst P (sym long) p) refl (λ bytes k. whole.moved old.start old.offset bytes k (omega (arith, long, room, w))) (subst Q e heard)
 
-pub next_taken : {before after : List Event → Type 0} (old new : Reader) (piece : List ℕ) (count word_at : ℕ) (word : Word) (around : List Level)
+pub next_taken : {before after : List Event → Type 0} (old new : Reader) (piece : List ℕ) (count name_at word_at : ℕ) (word : Word) (around : List Level)
     → old.fault ≡ None → old.mode ≡ ValueDone → old.offset + length piece ≤ old.limits.bytes → 3 + count ≤ length piece
     → take 3 piece ≡ close_brace ∷ close_brace ∷ comma ∷ [] → levels_in old.levels ≡ Object ∷ Object ∷ Array ∷ around
-    → IsTyped (drop 3 piece) count word_at word → Lands (3 + count) NameDue (Object ∷ Array ∷ around) old new
+    → IsTyped (drop 3 piece) count name_at word_at word → Lands (3 + count) NameDue (Object ∷ Array ∷ around) old new
     → ((events : List Event) → before events → after (events ++ (event_at old.offset What.CloseObject ∷ event_at (old.offset + 1) What.CloseObject
-    ∷ event_at (old.offset + 3) What.OpenObject ∷ event_at (old.offset + 3 + 1) (What.Name TypeName) ∷ event_at (old.offset + 3 + word_at) (What.Text word)
+    ∷ event_at (old.offset + 3) What.OpenObject ∷ event_at (old.offset + 3 + name_at) (What.Name TypeName) ∷ event_at (old.offset + 3 + word_at) (What.Text word)
     ∷ [])))
     → FeedsAll before after old new (take (3 + count) piece)
-next_taken {before} {after} old new piece count word_at word around live done room w ends levels h p heard =
+next_taken {before} {after} old new piece count name_at word_at word around live done room w ends levels h p heard =
     let given = take count (drop 3 piece) in
     let all = close_brace ∷ close_brace ∷ comma ∷ given in
     let same : take (3 + count) piece ≡ all = take-add 3 count piece ∙ ap (λ xs. xs ++ given) ends in
     let long : length (take (3 + count) piece) ≡ 3 + count = length-take-le (3 + count) piece w in
     let deep : length around + 2 ≤ old.limits.depth = omega (arith, old.nested, ap length levels) in
-    let carries = next_carries old.limits around word_at word h.gap given deep h.white h.begins in
+    let carries = next_carries old.limits around name_at word_at word h.inside h.gap given deep h.white_inside h.white h.begins in
     let e : old.offset + 3 ≡ old.offset + 1 + 1 + 1 = omega arith in
-    let f : old.offset + 3 + word_at ≡ old.offset + 1 + 1 + 1 + 1 + length (named (codes "type") h.gap) = omega (arith, h.begins.word_place) in
-    let told : ℕ → ℕ → List Event =
-    λ m n. event_at old.offset What.CloseObject ∷ event_at (old.offset + 1) What.CloseObject ∷ event_at m What.OpenObject
-    ∷ event_at (m + 1) (What.Name TypeName) ∷ event_at n (What.Text word) ∷ [] in
+    let d : old.offset + 3 + name_at ≡ old.offset + 1 + 1 + 1 + 1 + length h.inside = omega (arith, h.begins.name_place) in
+    let f : old.offset + 3 + word_at ≡ old.offset + 1 + 1 + 1 + 1 + length h.inside + length (named (codes "type") h.gap) =
+    omega (arith, h.begins.name_place, h.begins.word_place) in
+    let told : ℕ → ℕ → ℕ → List Event =
+    λ m l n. event_at old.offset What.CloseObject ∷ event_at (old.offset + 1) What.CloseObject ∷ event_at m What.OpenObject
+    ∷ event_at l (What.Name TypeName) ∷ event_at n (What.Text word) ∷ [] in
     let all_told : List Event =
-    event_at old.offset What.CloseObject ∷ event_at (old.offset + 1) What.CloseObject ∷ typed_told old.limits h.gap word (old.offset + 1 + 1 + 1) in
-    let alike : told (old.offset + 3) (old.offset + 3 + word_at) ≡ all_told = rw (f, e) refl in
+    event_at old.offset What.CloseObject ∷ event_at (old.offset + 1) What.CloseObject ∷ typed_told old.limits h.inside h.gap word (old.offset + 1 + 1 + 1) in
+    let alike : told (old.offset + 3) (old.offset + 3 + name_at) (old.offset + 3 + word_at) ≡ all_told = rw (f, d, e) refl in
     let P : ℕ → Type 0 = λ n. Lands n NameDue (Object ∷ Array ∷ around) old new in
     let Q : List Event → Type 0 = λ es. (events : List Event) → before events → after (events ++ es) in
     let S : List ℕ → Type 0 = λ xs. FeedsAll before after old new xs in
@@ -318,27 +336,29 @@ two_bytes [] a b l e f = absurd (omega (arith, l))
 two_bytes (x ∷ []) a b l e f = absurd (omega (arith, l))
 two_bytes (x ∷ (y ∷ rest)) a b l e f = rw (e, f) refl
 
-pub following_taken : {before after : List Event → Type 0} (old new : Reader) (piece : List ℕ) (count word_at : ℕ) (word : Word) (around : List Level)
+pub following_taken : {before after : List Event → Type 0} (old new : Reader) (piece : List ℕ) (count name_at word_at : ℕ) (word : Word) (around : List Level)
     → old.fault ≡ None → old.mode ≡ ValueDone → old.offset + length piece ≤ old.limits.bytes → 2 + count ≤ length piece
     → take 2 piece ≡ close_brace ∷ comma ∷ [] → levels_in old.levels ≡ Object ∷ Array ∷ around
-    → IsTyped (drop 2 piece) count word_at word → Lands (2 + count) NameDue (Object ∷ Array ∷ around) old new
+    → IsTyped (drop 2 piece) count name_at word_at word → Lands (2 + count) NameDue (Object ∷ Array ∷ around) old new
     → ((events : List Event) → before events → after (events ++ (event_at old.offset What.CloseObject
-    ∷ event_at (old.offset + 2) What.OpenObject ∷ event_at (old.offset + 2 + 1) (What.Name TypeName) ∷ event_at (old.offset + 2 + word_at) (What.Text word)
+    ∷ event_at (old.offset + 2) What.OpenObject ∷ event_at (old.offset + 2 + name_at) (What.Name TypeName) ∷ event_at (old.offset + 2 + word_at) (What.Text word)
     ∷ [])))
     → FeedsAll before after old new (take (2 + count) piece)
-following_taken {before} {after} old new piece count word_at word around live done room w ends levels h p heard =
+following_taken {before} {after} old new piece count name_at word_at word around live done room w ends levels h p heard =
     let given = take count (drop 2 piece) in
     let all = close_brace ∷ comma ∷ given in
     let same : take (2 + count) piece ≡ all = take-add 2 count piece ∙ ap (λ xs. xs ++ given) ends in
     let long : length (take (2 + count) piece) ≡ 2 + count = length-take-le (2 + count) piece w in
     let deep : length around + 2 ≤ old.limits.depth = omega (arith, old.nested, ap length levels) in
-    let carries = following_carries old.limits around word_at word h.gap given deep h.white h.begins in
+    let carries = following_carries old.limits around name_at word_at word h.inside h.gap given deep h.white_inside h.white h.begins in
     let e : old.offset + 2 ≡ old.offset + 1 + 1 = omega arith in
-    let f : old.offset + 2 + word_at ≡ old.offset + 1 + 1 + 1 + length (named (codes "type") h.gap) = omega (arith, h.begins.word_place) in
-    let told : ℕ → ℕ → List Event =
-    λ m n. event_at old.offset What.CloseObject ∷ event_at m What.OpenObject ∷ event_at (m + 1) (What.Name TypeName) ∷ event_at n (What.Text word) ∷ [] in
-    let all_told : List Event = event_at old.offset What.CloseObject ∷ typed_told old.limits h.gap word (old.offset + 1 + 1) in
-    let alike : told (old.offset + 2) (old.offset + 2 + word_at) ≡ all_told = rw (f, e) refl in
+    let d : old.offset + 2 + name_at ≡ old.offset + 1 + 1 + 1 + length h.inside = omega (arith, h.begins.name_place) in
+    let f : old.offset + 2 + word_at ≡ old.offset + 1 + 1 + 1 + length h.inside + length (named (codes "type") h.gap) =
+    omega (arith, h.begins.name_place, h.begins.word_place) in
+    let told : ℕ → ℕ → ℕ → List Event =
+    λ m l n. event_at old.offset What.CloseObject ∷ event_at m What.OpenObject ∷ event_at l (What.Name TypeName) ∷ event_at n (What.Text word) ∷ [] in
+    let all_told : List Event = event_at old.offset What.CloseObject ∷ typed_told old.limits h.inside h.gap word (old.offset + 1 + 1) in
+    let alike : told (old.offset + 2) (old.offset + 2 + name_at) (old.offset + 2 + word_at) ≡ all_told = rw (f, d, e) refl in
     let P : ℕ → Type 0 = λ n. Lands n NameDue (Object ∷ Array ∷ around) old new in
     let Q : List Event → Type 0 = λ es. (events : List Event) → before events → after (events ++ es) in
     let S : List ℕ → Type 0 = λ xs. FeedsAll before after old new xs in
@@ -355,26 +375,29 @@ following_taken {before} {after} old new piece count word_at word around live do
 -- the beginning of a member `geometry`, as it is found and reported
 found_told : (limits : Allowed) (start : ℕ) (piece : List ℕ) (usual : UsualLocated) (located : Located) (h : IsFound piece usual)
     → IsLocatedAt start usual located
-    → located_events located ≡ located_told limits h.located.gap h.located.object_bytes usual.word start
+    → located_events located ≡ located_told limits h.located.inside h.located.gap h.located.object_bytes usual.word start
 found_told limits start piece usual located h i =
     let l = h.located in
     let first = named (codes "geometry") l.gap in
     let e : located.typed.place ≡ start + length first = omega (arith, i.bracket, l.bracket_place) in
-    let f : located.typed.word_at ≡ start + length first + 1 + length (named (codes "type") l.gap) =
-    omega (arith, i.word_at, l.bracket_place, l.begins.word_place) in
+    let d : located.typed.name_at ≡ start + length first + 1 + length l.inside = omega (arith, i.name_at, l.bracket_place, l.begins.name_place) in
+    let f : located.typed.word_at ≡ start + length first + 1 + length l.inside + length (named (codes "type") l.gap) =
+    omega (arith, i.word_at, l.bracket_place, l.begins.name_place, l.begins.word_place) in
     let g : located.coordinates ≡ start + length first + length l.object_bytes = omega (arith, i.coordinates, l.bracket_place, l.coordinates_place) in
-    rw (i.place, e, f, i.word, g) refl
+    rw (i.place, e, d, f, i.word, g) refl
 
 found_moved : (limits : Allowed) (mode : Mode) (levels : List Level) (start offset : ℕ) (bytes piece : List ℕ) (usual : UsualLocated) (h : IsFound piece usual)
     → names mode ≡ true → length levels < limits.depth → offset + length piece ≤ limits.bytes
     → StandsWell limits mode levels start offset bytes
     → Moved limits ValueDue (Object ∷ levels) offset (offset + usual.count) bytes (take usual.count piece)
-    (located_told limits h.located.gap h.located.object_bytes usual.word offset)
+    (located_told limits h.located.inside h.located.gap h.located.object_bytes usual.word offset)
 found_moved limits mode levels start offset bytes piece usual h due deep room k =
     let l = h.located in
     let long : length (take usual.count piece) ≡ usual.count = length-take-le usual.count piece h.within in
-    let told = located_told limits l.gap l.object_bytes usual.word in
-    let carries = located_carries limits mode levels usual.bracket usual.word_at usual.word l.gap l.object_bytes due (omega (arith, deep)) l.white l.begins in
+    let told = located_told limits l.inside l.gap l.object_bytes usual.word in
+    let carries =
+    located_carries limits mode levels usual.bracket usual.name_at usual.word_at usual.word l.inside l.gap l.object_bytes due
+    (omega (arith, deep)) l.white_inside l.white l.begins in
     let C : List ℕ → Type 0 = λ xs. Carries limits mode levels ValueDue (Object ∷ levels) xs told in
     let whole : C (take usual.count piece) = subst C (sym l.spelled) carries in
     let P : ℕ → Type 0 = λ n. Moved limits ValueDue (Object ∷ levels) offset (offset + n) bytes (take usual.count piece) (told offset) in
@@ -388,7 +411,7 @@ pub found_taken : {before after : List Event → Type 0} (old new : Reader) (pie
 found_taken {before} {after} old new piece usual located live due room deep h i p heard =
     let levels = levels_in old.levels in
     let long : length (take usual.count piece) ≡ usual.count = length-take-le usual.count piece h.within in
-    let told = located_told old.limits h.located.gap h.located.object_bytes usual.word old.offset in
+    let told = located_told old.limits h.located.inside h.located.gap h.located.object_bytes usual.word old.offset in
     let P : ℕ → Type 0 = λ n. Lands n ValueDue (Object ∷ levels) old new in
     let M : ℕ → List ℕ → Type 0 = λ n bytes. Moved old.limits ValueDue (Object ∷ levels) old.offset (old.offset + n) bytes (take usual.count piece) told in
     let Q : List Event → Type 0 = λ es. (events : List Event) → before events → after (events ++ es) in
@@ -417,7 +440,7 @@ point_taken {before} {after} old new piece usual located flat end live due room 
     let same : take (end + 1) piece ≡ given =
     take_more piece end 0 w ∙ ap (λ b. take end piece ++ b ∷ []) closes ∙ ap (λ zs. zs ++ last) front ∙ append_assoc xs ys last in
     let long : length given ≡ end + 1 = ap length (sym same) ∙ length-take-le (end + 1) piece (omega arith) in
-    let told = located_told limits h.located.gap h.located.object_bytes usual.word old.offset in
+    let told = located_told limits h.located.inside h.located.gap h.located.object_bytes usual.word old.offset in
     let es : List Event = told ++ (flat_events flat ++ event_at (old.offset + end) What.CloseObject ∷ []) in
     let P : ℕ → Type 0 = λ n. Lands n ValueDone levels old new in
     let Q : List Event → Type 0 = λ ls. (events : List Event) → before events

@@ -97,6 +97,7 @@ impl Reader {
         }
         sink.tell_head(Head::Object(Typed {
             place: self.offset,
+            name_at: self.offset + typed.name_at as u64,
             word_at: self.offset + typed.word_at as u64,
             word: typed.word,
         }));
@@ -148,6 +149,7 @@ impl Reader {
         });
         sink.tell_head(Head::Object(Typed {
             place: self.offset + 3,
+            name_at: self.offset + 3 + typed.name_at as u64,
             word_at: self.offset + 3 + typed.word_at as u64,
             word: typed.word,
         }));
@@ -217,6 +219,7 @@ impl Reader {
         });
         sink.tell_head(Head::Object(Typed {
             place: self.offset + 2,
+            name_at: self.offset + 2 + typed.name_at as u64,
             word_at: self.offset + 2 + typed.word_at as u64,
             word: typed.word,
         }));
@@ -227,7 +230,8 @@ impl Reader {
     #[inline(always)]
     fn located_here(&self, usual: &UsualLocated) -> Located
         requires within { self.now.offset + usual.now.count ≤ 2 ^ 60 }
-        requires bracket { usual.now.bracket < usual.now.word_at }
+        requires bracket { usual.now.bracket < usual.now.name_at }
+        requires name { usual.now.name_at < usual.now.word_at }
         requires word { usual.now.word_at ≤ usual.now.count }
         requires coordinates { usual.now.coordinates ≤ usual.now.count }
         ensures { IsLocatedAt self.now.offset usual.now result }
@@ -236,6 +240,7 @@ impl Reader {
             place: self.offset,
             typed: Typed {
                 place: self.offset + usual.bracket as u64,
+                name_at: self.offset + usual.name_at as u64,
                 word_at: self.offset + usual.word_at as u64,
                 word: usual.word,
             },

@@ -17,5 +17,5 @@ returns-then-begins-clause-usual c = λ some.
     ap (λ k. take 16 (drop k piece)) next ∙ ap (take 16) (sym (rest_of piece (at + 1))) ∙ same_bytes _ _ c.if-begins.ensures in
     let rear : take 17 (drop at piece) ≡ after_type (space ∷ []) =
     ap (take 17) (drop-cons piece at 0 (omega (arith, c.requires.room, c.usual_text-text.ensures.short))) ∙ ap₂ (λ x xs. x ∷ xs) c.if-piece-at-eq44.true name in
-    located_by (space ∷ []) piece 21 text.count 17 (at + 2) text.word (inl refl, tt) (same_bytes _ _ c.if-begins_long.ensures) refl
+    located_by [] (space ∷ []) piece 21 text.count 17 (at + 2) text.word tt (inl refl, tt) (same_bytes _ _ c.if-begins_long.ensures) refl
     (c.usual_text-text.ensures.usual (omega arith)) c.usual_text-text.ensures.within rear (omega arith)

@@ -10,9 +10,11 @@ use Rattle.gj_json.proofs.heads.spaced_typed.Goals as goal
 pub returns-then-begins_long-clause-usual : goal.returns-then-begins_long-clause-usual
 unfolding word_of
 returns-then-begins_long-clause-usual c = λ some.
-    by_first (λ piece. IsTyped piece 20 9 Feature) 20 c.args.piece.now _
+    by_first (λ piece. IsTyped piece 20 1 9 Feature) 20 c.args.piece.now _
     (codes "{\"type\": \"Feature\", ") c.if-begins_long.ensures refl (record {
+      inside = [];
       gap = space ∷ [];
+      white_inside = tt;
       white = (inl refl, tt);
       begins = record {
         content = codes "Feature";
@@ -20,6 +22,7 @@ returns-then-begins_long-clause-usual c = λ some.
         is_quoted = record { spelled = refl; reads = plain (codes "Feature") };
         known_as = refl;
         spelled = refl;
+        name_place = refl;
         word_place = refl;
       };
     })

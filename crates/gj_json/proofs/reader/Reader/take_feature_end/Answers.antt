@@ -17,7 +17,7 @@ returns-clause-feeds g c =
     let inside = c.is_in_element.ensures c.if-not-is_in_element.false in
     let H : List Event → Type 0 = λ es. g.S.EventSink.heard c.tell_head.new.self es in
     rw (c.skip.ensures.count)
-    (following_taken c.args.self.now c.skip.new.self piece typed.count typed.word_at typed.word (outer_of (outer_of (levels_in c.args.self.now.levels)))
+    (following_taken c.args.self.now c.skip.new.self piece typed.count typed.name_at typed.word_at typed.word (outer_of (outer_of (levels_in c.args.self.now.levels)))
     c.requires.live c.requires.done c.requires.room (found.within (omega arith))
     (two_bytes piece _ _ (omega (arith, found.within (omega arith))) (found.bracket (omega arith)) (found.comma (omega arith))) inside
     (found.usual (omega arith))

@@ -16,7 +16,7 @@ returns-clause-feeds g c =
     let inside = c.is_in_feature.ensures c.if-not-is_in_feature.false in
     let H : List Event → Type 0 = λ es. g.S.EventSink.heard c.tell_head.new.self es in
     rw (c.skip.ensures.count)
-    (next_taken c.args.self.now c.skip.new.self c.args.piece.now typed.count typed.word_at typed.word (outer_of (outer_of (outer_of levels)))
+    (next_taken c.args.self.now c.skip.new.self c.args.piece.now typed.count typed.name_at typed.word_at typed.word (outer_of (outer_of (outer_of levels)))
     c.requires.live c.requires.done c.requires.room (c.next_typed-typed.ensures.within (omega arith)) (c.next_typed-typed.ensures.ends (omega arith)) inside
     (c.next_typed-typed.ensures.usual (omega arith))
     (record {
