@@ -2,15 +2,16 @@
 
 ghost use Rattle.std.specs.Prelude.{◌≡◌, ◌+◌, ◌<◌, ◌≤◌, ◌∷◌, [], length, take, drop, get_or};
 ghost use Rattle.gj_json.specs.Bytes.{close_brace, comma};
-ghost use Rattle.gj_json.specs.Internal.WholeHeads.{IsTyped, IsLocated, OpensProperties};
+ghost use Rattle.gj_json.specs.Internal.WholeHeads.{IsTyped, IsLocated, ComesToType, OpensProperties};
 ghost use Rattle.gj_json.specs.declared.heads.TheConstants.{ROOM};
+ghost use Rattle.gj_json.specs.declared.names.Word.{Word};
 
 use crate::lanes::{begins, begins_long};
 use crate::names::Word;
 use crate::usual::usual_text;
 
 /// A shorter piece is not looked at: it may have no room for each of them.
-const ROOM: usize = 50;
+const ROOM: usize = 51;
 
 /// The beginning of an object by its type: how many bytes it has, or 0 where there is none, and where the name and the type stand.
 #[derive(Clone, Copy)]
@@ -76,7 +77,24 @@ fn dense_typed(piece: &[u8]) -> UsualTyped
     NOT_TYPED
 }
 
-/// The beginning of an object by its `type`, with a space after the colon and the comma.
+/// Where the name stands in the beginning of a feature by its `type`, with a space after the colon and the comma, and one after the
+/// bracket or none: 0 where there is none.
+#[inline(always)]
+fn spaced_name_at(piece: &[u8]) -> usize
+    requires room { ROOM ≤ length piece.now }
+    ensures near { result ≤ 2 }
+    ensures spaced { 0 < result → IsTyped piece.now (result + 19) result (result + 8) Word.Feature }
+{
+    if begins_long(piece, b"{\"type\": \"Featur", b"e\",             ", 4) {
+        return 1;
+    }
+    if begins_long(piece, b"{ \"type\": \"Featu", b"re\",            ", 5) {
+        return 2;
+    }
+    0
+}
+
+/// The beginning of an object by its `type`, with such spaces.
 #[inline(always)]
 fn spaced_typed(piece: &[u8]) -> UsualTyped
     requires room { ROOM ≤ length piece.now }
@@ -85,15 +103,16 @@ fn spaced_typed(piece: &[u8]) -> UsualTyped
     ensures few { result.word_at ≤ result.count }
     ensures usual { 0 < result.count → IsTyped piece.now result.count result.name_at result.word_at result.word }
 {
-    if begins_long(piece, b"{\"type\": \"Featur", b"e\",             ", 4) {
-        return UsualTyped {
-            count: 20,
-            name_at: 1,
-            word_at: 9,
-            word: Word::Feature,
-        };
+    let name_at = spaced_name_at(piece);
+    if name_at == 0 {
+        return NOT_TYPED;
     }
-    NOT_TYPED
+    UsualTyped {
+        count: name_at + 19,
+        name_at,
+        word_at: name_at + 8,
+        word: Word::Feature,
+    }
 }
 
 /// The beginning of an object by its `type`, with such spaces or without.
@@ -182,7 +201,25 @@ fn dense_located(piece: &[u8]) -> UsualLocated
     NOT_LOCATED
 }
 
-/// The beginning of a member `geometry`, with a space after each colon and comma.
+/// Where the type stands in the beginning of a member `geometry`, with a space after each colon, and one after the bracket or none: 0
+/// where there is none.
+#[inline(always)]
+fn spaced_word_at(piece: &[u8]) -> usize
+    requires room { ROOM ≤ length piece.now }
+    ensures far { 0 < result → 20 < result }
+    ensures near { result ≤ 22 }
+    ensures spaced { 0 < result → ComesToType piece.now result }
+{
+    if begins_long(piece, b"\"geometry\": {\"ty", b"pe\":            ", 5) {
+        return 21;
+    }
+    if begins_long(piece, b"\"geometry\": { \"t", b"ype\":           ", 6) {
+        return 22;
+    }
+    0
+}
+
+/// The beginning of a member `geometry`, with a space after each colon and comma, and one after the bracket or none.
 #[inline(always)]
 fn spaced_located(piece: &[u8]) -> UsualLocated
     requires room { ROOM ≤ length piece.now }
@@ -193,22 +230,24 @@ fn spaced_located(piece: &[u8]) -> UsualLocated
     ensures few { result.coordinates ≤ result.count }
     ensures usual { 0 < result.count → IsLocated piece.now result.count result.bracket result.name_at result.word_at result.coordinates result.word }
 {
-    if begins_long(piece, b"\"geometry\": {\"ty", b"pe\":            ", 5) {
-        let text = usual_text(&piece[21..]);
-        if text.count == 0 {
-            return NOT_LOCATED;
-        }
-        let at = 21 + text.count;
-        if piece[at] == b',' && begins(&piece[at + 1..], b" \"coordinates\": ", 16) {
-            return UsualLocated {
-                count: at + 17,
-                bracket: 12,
-                name_at: 13,
-                word_at: 21,
-                word: text.word,
-                coordinates: at + 2,
-            };
-        }
+    let word_at = spaced_word_at(piece);
+    if word_at == 0 {
+        return NOT_LOCATED;
+    }
+    let text = usual_text(&piece[word_at..]);
+    if text.count == 0 {
+        return NOT_LOCATED;
+    }
+    let at = word_at + text.count;
+    if piece[at] == b',' && begins(&piece[at + 1..], b" \"coordinates\": ", 16) {
+        return UsualLocated {
+            count: at + 17,
+            bracket: 12,
+            name_at: word_at - 8,
+            word_at,
+            word: text.word,
+            coordinates: at + 2,
+        };
     }
     NOT_LOCATED
 }

@@ -6,14 +6,11 @@ use Rattle.std.specs.List.{AllByRecursion}
 use Rattle.gj_json.specs.Bytes.{IsWhite, open_brace, comma}
 use Rattle.gj_json.specs.declared.names.Word.{Word}
 use Rattle.gj_json.specs.Internal.FlatParts.{cut}
-use Rattle.gj_json.specs.Internal.WholeHeads.{named, IsLocated, IsTyped}
+use Rattle.gj_json.specs.Internal.WholeHeads.{named, before_type, IsLocated, IsTyped}
 use Rattle.gj_json.specs.Internal.WholeTokens.{IsUsualText}
 use Rattle.gj_json.proofs.Pieces.PieceRests.{rest_of}
 
--- the bytes up to the type, and those after it
-abbrev pub before_type : List ℕ → List ℕ → List ℕ
-before_type inside gap = named (codes "geometry") gap ++ (open_brace ∷ (inside ++ named (codes "type") gap))
-
+-- the bytes after the type
 abbrev pub after_type : List ℕ → List ℕ
 after_type gap = comma ∷ (gap ++ named (codes "coordinates") gap)
 
@@ -21,19 +18,19 @@ in_parts : (a b i c d text gap last : List ℕ) → a ≡ b ++ (open_brace ∷ (
     → (a ++ text) ++ d ≡ b ++ ((open_brace ∷ (i ++ (c ++ (text ++ (comma ∷ gap))))) ++ last)
 in_parts a b i c d text gap last e f = rw (e, f) (simp append_assoc)
 
-pub located_by : (inside gap piece : List ℕ) (a n b coordinates : ℕ) (word : Word) → AllByRecursion IsWhite inside → AllByRecursion IsWhite gap
+pub located_by : (inside gap piece : List ℕ) (a n b name_at coordinates : ℕ) (word : Word) → AllByRecursion IsWhite inside → AllByRecursion IsWhite gap
     → take a piece ≡ before_type inside gap → a ≡ length (before_type inside gap) → IsUsualText (take (length piece - a) (drop a piece)) n word
     → n ≤ length (take (length piece - a) (drop a piece)) → take b (drop (a + n) piece) ≡ after_type gap
-    → coordinates ≡ a + n + 1 + length gap
-    → IsLocated piece (a + n + b) (length (named (codes "geometry") gap)) (length (named (codes "geometry") gap) + 1 + length inside) a coordinates word
-located_by inside gap piece a n b coordinates word white_inside white front long usual few rear place =
+    → coordinates ≡ a + n + 1 + length gap → a ≡ name_at + length (named (codes "type") gap)
+    → IsLocated piece (a + n + b) (length (named (codes "geometry") gap)) name_at a coordinates word
+located_by inside gap piece a n b name_at coordinates word white_inside white front long usual few rear place name =
     let P : List ℕ → Type 0 = λ xs. IsUsualText xs n word in
     let u : IsUsualText (drop a piece) n word = subst P (rest_of piece a) usual in
     let text = take n (drop a piece) in
     let w : length text ≡ n = length-take-le n (drop a piece) (omega (arith, few, ap length (rest_of piece a))) in
     let first = named (codes "geometry") gap in
-    let name = named (codes "type") gap in
-    let object = open_brace ∷ (inside ++ (name ++ (text ++ (comma ∷ gap)))) in
+    let last = named (codes "type") gap in
+    let object = open_brace ∷ (inside ++ (last ++ (text ++ (comma ∷ gap)))) in
     let split : take (a + n + b) piece ≡ (take a piece ++ text) ++ take b (drop (a + n) piece) =
     take-add (a + n) b piece ∙ ap (λ xs. xs ++ take b (drop (a + n) piece)) (take-add a n piece) in
     record {
@@ -48,21 +45,21 @@ located_by inside gap piece a n b coordinates word white_inside white front long
         is_quoted = u.quoted;
         known_as = u.known_as;
         spelled = refl;
-        name_place = refl;
-        word_place = omega (arith, long, length-append first (open_brace ∷ (inside ++ name)), length-append inside name);
+        name_place = omega (arith, name, long, length-append first (open_brace ∷ (inside ++ last)), length-append inside last);
+        word_place = name;
       };
       spelled = split
-          ∙ in_parts (take a piece) first inside name (take b (drop (a + n) piece)) text gap (named (codes "coordinates") gap) front rear;
+          ∙ in_parts (take a piece) first inside last (take b (drop (a + n) piece)) text gap (named (codes "coordinates") gap) front rear;
       bracket_place = refl;
       coordinates_place = omega (
         arith,
         place,
         long,
         w,
-        length-append first (open_brace ∷ (inside ++ name)),
-        length-append inside name,
-        length-append inside (name ++ (text ++ (comma ∷ gap))),
-        length-append name (text ++ (comma ∷ gap)),
+        length-append first (open_brace ∷ (inside ++ last)),
+        length-append inside last,
+        length-append inside (last ++ (text ++ (comma ∷ gap))),
+        length-append last (text ++ (comma ∷ gap)),
         length-append text (comma ∷ gap),
       );
     }

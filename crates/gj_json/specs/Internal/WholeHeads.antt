@@ -1,7 +1,7 @@
 -- The beginnings of objects that are reported at once, as they are read.
 use Rattle.std.specs.Prelude.{◌≡◌, ℕ, ◌+◌, ◌≤◌, ◌<◌, List, [], ◌∷◌, ◌++◌, codes, length, take}
 use Rattle.std.specs.List.{AllByRecursion}
-use Rattle.gj_json.specs.Bytes.{IsWhite, open_brace, comma, colon, quote}
+use Rattle.gj_json.specs.Bytes.{IsWhite, space, open_brace, comma, colon, quote}
 use Rattle.gj_json.specs.declared.head.Located.{Located}
 use Rattle.gj_json.specs.declared.heads.UsualLocated.{UsualLocated}
 use Rattle.gj_json.specs.declared.names.Word.{Word}
@@ -33,6 +33,17 @@ pub record IsTyped (piece : List ℕ) (count name_at word_at : ℕ) (word : Word
   pub white_inside : AllByRecursion IsWhite inside
   pub white : AllByRecursion IsWhite gap
   pub begins : BeginsTyped 0 name_at word_at word inside gap (take count piece)
+
+-- a member `geometry` up to its type, with such white space after the bracket and after the colons
+abbrev pub before_type : List ℕ → List ℕ → List ℕ
+before_type inside gap = named (codes "geometry") gap ++ (open_brace ∷ (inside ++ named (codes "type") gap))
+
+-- a piece starts with these bytes, so many, with a space after each colon
+pub record ComesToType (piece : List ℕ) (count : ℕ) : Type 0 where
+  pub inside : List ℕ
+  pub white_inside : AllByRecursion IsWhite inside
+  pub spelled : take count piece ≡ before_type inside (space ∷ [])
+  pub long : count ≡ length (before_type inside (space ∷ []))
 
 -- a piece starts with a member `geometry` that begins so and goes on by its coordinates
 pub record IsLocated (piece : List ℕ) (count bracket name_at word_at coordinates : ℕ) (word : Word) : Type 0 where

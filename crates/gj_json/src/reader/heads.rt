@@ -26,10 +26,10 @@ use crate::mode::Mode;
 use crate::names::Word;
 use crate::sink::EventSink;
 
-/// Whether a byte looks like the first of the name of an object's type.
+/// Whether a byte looks like the first of the name of an object's type, with a space before the name or none.
 #[inline(always)]
 fn may_be_typed(piece: &[u8]) -> bool {
-    piece.len() > 2 && piece[2] == b't'
+    piece.len() > 3 && (piece[2] == b't' || piece[3] == b't')
 }
 
 /// Whether two bytes look like the end of a feature, after the byte that ends its last member.
@@ -38,10 +38,12 @@ fn may_end_feature(piece: &[u8]) -> bool {
     piece.len() > 2 && piece[1] == b'}' && piece[2] == b','
 }
 
-/// Whether a few bytes look like the name of a geometry, with a name right after the bracket of its object.
+/// Whether a few bytes look like the name of a geometry, with a name after the bracket of its object.
 #[inline(always)]
 fn may_be_geometry(piece: &[u8]) -> bool {
-    piece.len() > 13 && piece[1] == b'g' && (piece[12] == b'"' || piece[13] == b'"')
+    piece.len() > 14
+        && piece[1] == b'g'
+        && (piece[12] == b'"' || piece[13] == b'"' || piece[14] == b'"')
 }
 
 /// Whether a few bytes look like the name `properties` with the bracket of an object after it.
@@ -105,7 +107,7 @@ impl Reader {
         self.skip(typed.count, Mode::NameDue)
     }
 
-    /// Takes the beginning of an object. A look at one byte mostly shows whether it may begin by its type.
+    /// Takes the beginning of an object. A look at two bytes mostly shows whether it may begin by its type.
     #[inline(always)]
     pub(super) fn take_object<S: EventSink>(&mut self, piece: &[u8], sink: &mut S) -> usize
         requires some { 0 < length piece.now }
