@@ -1,12 +1,14 @@
 //! The beginnings of features and geometries as most writers put them, each recognized by a comparison of words.
 
-ghost use Rattle.std.specs.Prelude.{◌≡◌, ◌+◌, ◌<◌, ◌≤◌, ◌∷◌, [], length, take, drop, get_or};
-ghost use Rattle.gj_json.specs.Bytes.{close_brace, comma};
-ghost use Rattle.gj_json.specs.Internal.WholeHeads.{IsTyped, IsLocated, ComesToType, OpensProperties};
+ghost use Rattle.std.specs.Prelude.{◌≡◌, ◌+◌, ◌<◌, ◌≤◌, length, take};
+ghost use Rattle.std.specs.List.{AllByRecursion};
+ghost use Rattle.gj_json.specs.Bytes.{IsWhite};
+ghost use Rattle.gj_json.specs.Internal.FlatParts.{cut};
+ghost use Rattle.gj_json.specs.Internal.WholeHeads.{IsTyped, IsFollowing, IsLocated, ComesToType, OpensProperties};
 ghost use Rattle.gj_json.specs.declared.heads.TheConstants.{ROOM};
 ghost use Rattle.gj_json.specs.declared.names.Word.{Word};
 
-use crate::lanes::{begins, begins_long};
+use crate::lanes::{begins, begins_long, is_white};
 use crate::names::Word;
 use crate::usual::usual_text;
 
@@ -20,6 +22,15 @@ pub struct UsualTyped {
     pub name_at: usize,
     pub word_at: usize,
     pub word: Word,
+}
+
+/// The end of an element and the beginning of the next, of which there is none where it has no bytes: where the bracket stands that
+/// ends the element, and the one that begins the next.
+#[derive(Clone, Copy)]
+pub struct UsualNext {
+    pub close: usize,
+    pub at: usize,
+    pub typed: UsualTyped,
 }
 
 /// The beginning of a member `geometry`: how many bytes it has up to its coordinates, or 0 where there is none, and where
@@ -39,6 +50,12 @@ const NOT_TYPED: UsualTyped = UsualTyped {
     name_at: 0,
     word_at: 0,
     word: Word::Other,
+};
+
+const NO_NEXT: UsualNext = UsualNext {
+    close: 0,
+    at: 0,
+    typed: NOT_TYPED,
 };
 
 const NOT_LOCATED: UsualLocated = UsualLocated {
@@ -133,41 +150,43 @@ pub fn usual_typed(piece: &[u8]) -> UsualTyped
     spaced_typed(piece)
 }
 
-/// The beginning of the next feature, after the two brackets and the comma that the piece starts with.
+/// Where the white space at an index of a piece ends, of which one byte is passed at the most.
 #[inline(always)]
-pub fn next_typed(piece: &[u8]) -> UsualTyped
-    ensures within { 0 < result.count → 3 + result.count ≤ length piece.now }
-    ensures few { result.word_at ≤ result.count }
-    ensures on { 0 < result.count → result.name_at < result.word_at }
-    ensures ends { 0 < result.count → take 3 piece.now ≡ close_brace ∷ close_brace ∷ comma ∷ [] }
-    ensures usual { 0 < result.count → IsTyped (drop 3 piece.now) result.count result.name_at result.word_at result.word }
+pub fn gap_end(piece: &[u8], at: usize) -> usize
+    requires { at ≤ length piece.now }
+    ensures on { at ≤ result }
+    ensures few { result ≤ at + 1 }
+    ensures within { result ≤ length piece.now }
+    ensures white { AllByRecursion IsWhite (cut piece.now at result) }
 {
-    if piece.len() < ROOM {
-        return NOT_TYPED;
+    if at < piece.len() && is_white(piece[at]) {
+        return at + 1;
     }
-    if begins(piece, b"}},             ", 3) {
-        return usual_typed(&piece[3..]);
-    }
-    NOT_TYPED
+    at
 }
 
-/// The beginning of the next feature, after the bracket and the comma that the piece starts with.
+/// The end of the element that the piece starts with, and the beginning of the next feature, with a byte of white space before that
+/// end and after the comma, or none.
 #[inline(always)]
-pub fn following_typed(piece: &[u8]) -> UsualTyped
-    ensures within { 0 < result.count → 2 + result.count ≤ length piece.now }
-    ensures few { result.word_at ≤ result.count }
-    ensures on { 0 < result.count → result.name_at < result.word_at }
-    ensures bracket { 0 < result.count → get_or piece.now 0 0 ≡ close_brace }
-    ensures comma { 0 < result.count → get_or piece.now 1 0 ≡ comma }
-    ensures usual { 0 < result.count → IsTyped (drop 2 piece.now) result.count result.name_at result.word_at result.word }
+pub fn following_typed(piece: &[u8]) -> UsualNext
+    ensures within { 0 < result.typed.count → result.at + result.typed.count ≤ length piece.now }
+    ensures on { 0 < result.typed.count → result.typed.name_at < result.typed.word_at }
+    ensures few { result.typed.word_at ≤ result.typed.count }
+    ensures follows { 0 < result.typed.count → IsFollowing piece.now result }
 {
     if piece.len() < ROOM {
-        return NOT_TYPED;
+        return NO_NEXT;
     }
-    if piece[0] == b'}' && piece[1] == b',' {
-        return usual_typed(&piece[2..]);
+    let close = gap_end(piece, 0);
+    if piece[close] != b'}' || piece[close + 1] != b',' {
+        return NO_NEXT;
     }
-    NOT_TYPED
+    let at = gap_end(piece, close + 2);
+    UsualNext {
+        close,
+        at,
+        typed: usual_typed(&piece[at..]),
+    }
 }
 
 /// The beginning of a member `geometry` of a usual type that the piece starts with, with no white space in it.

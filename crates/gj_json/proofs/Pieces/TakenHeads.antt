@@ -10,6 +10,7 @@ use Rattle.gj_json.specs.declared.event.What.{What}
 use Rattle.gj_json.specs.declared.flat.Flat.{Flat}
 use Rattle.gj_json.specs.declared.head.Located.{Located}
 use Rattle.gj_json.specs.declared.heads.UsualLocated.{UsualLocated}
+use Rattle.gj_json.specs.declared.heads.UsualNext.{UsualNext}
 use Rattle.gj_json.specs.declared.levels.Level.{Level}
 use Rattle.gj_json.specs.declared.levels.Level.TheVariants.{Array, Object}
 use Rattle.gj_json.specs.declared.mode.Ending.{Ending}
@@ -33,14 +34,14 @@ use Rattle.gj_json.specs.Internal.ReaderState.{StandsWell}
 use Rattle.gj_json.specs.Internal.ReaderStep.{opened}
 use Rattle.gj_json.specs.Internal.SpelledNumbers.{IsFlat}
 use Rattle.gj_json.specs.Internal.ToldEvents.{event_at}
-use Rattle.gj_json.specs.Internal.WholeHeads.{quoted, named, BeginsTyped, IsTyped, IsFound, IsLocatedAt, OpensProperties}
+use Rattle.gj_json.specs.Internal.WholeHeads.{quoted, named, BeginsTyped, IsTyped, IsFollowing, IsFound, IsLocatedAt, OpensProperties}
 use Rattle.gj_json.specs.Internal.WholeTokens.{IsQuoted, Lands, names, may_begin}
 use Rattle.gj_json.proofs.Grammar.ClassOfBytes.{class_is}
 use Rattle.gj_json.proofs.Grammar.SpelledTokens.{colon_by}
 use Rattle.gj_json.proofs.Grammar.UsualTokens.{plain}
 use Rattle.gj_json.proofs.Pieces.QuietModes.{quiet_leads}
 use Rattle.gj_json.proofs.Pieces.QuietRuns.{quiet_run}
-use Rattle.gj_json.proofs.Pieces.PieceCuts.{cut_length}
+use Rattle.gj_json.proofs.Pieces.PieceCuts.{cut_length, cut_byte, cut_joins}
 use Rattle.gj_json.proofs.Pieces.TakenFlats.{all_quiet, value_well, flat_well}
 use Rattle.gj_json.proofs.Pieces.TakenTokens.{Moved, lands_feeds, done_go, done_close, as_string, string_leads, name_well, may_begin_due, open_well}
 
@@ -218,32 +219,34 @@ module _ (limits : Allowed) where
         (rw (class_is close_class close_brace refl (λ e. cc)) refl);
   }
 
-  -- the end of an element that is an object, the comma after it, and an object that begins by its type
-  following_carries : (around : List Level) (name_at word_at : ℕ) (word : Word) (inside gap bytes : List ℕ) → length around + 2 ≤ limits.depth
-      → AllByRecursion IsWhite inside → AllByRecursion IsWhite gap → BeginsTyped 0 name_at word_at word inside gap bytes
-      → Carries limits ValueDone (Object ∷ Array ∷ around) NameDue (Object ∷ Array ∷ around) (close_brace ∷ comma ∷ bytes)
-      (λ n. event_at n What.CloseObject ∷ typed_told inside gap word (n + 1 + 1))
-  following_carries around name_at word_at word inside gap bytes deep white_inside white h =
+  white_done : (gap : List ℕ) → AllByRecursion IsWhite gap → AllByRecursion (IsQuiet ValueDone) gap
+  white_done [] h = tt
+  white_done (x ∷ xs) h = (record { moves = λ turn inner words. rw (class_is white_class x h.0 (λ e. cc)) refl; on = refl }, white_done xs h.1)
+
+  done_carries : (levels : List Level) (gap : List ℕ) → AllByRecursion IsWhite gap → Carries limits ValueDone levels ValueDone levels gap (λ n. [])
+  done_carries levels gap white = quiet ValueDone ValueDone levels gap (quiet_leads ValueDone gap (white_done gap white))
+
+  -- the end of an element that is an object, the comma after it, and an object that begins by its type, with white space between them
+  following_carries : (around : List Level) (name_at word_at : ℕ) (word : Word) (inside gap before between bytes : List ℕ) → length around + 2 ≤ limits.depth
+      → AllByRecursion IsWhite inside → AllByRecursion IsWhite gap → AllByRecursion IsWhite before → AllByRecursion IsWhite between
+      → BeginsTyped 0 name_at word_at word inside gap bytes
+      → Carries limits ValueDone (Object ∷ Array ∷ around) NameDue (Object ∷ Array ∷ around) (before ++ (close_brace ∷ comma ∷ (between ++ bytes)))
+      (λ n. event_at (n + length before) What.CloseObject ∷ typed_told inside gap word (n + length before + 1 + 1 + length between))
+  following_carries around name_at word_at word inside gap before between bytes deep white_inside white white_before white_between h =
       let second = Object ∷ Array ∷ around in
       let third = Array ∷ around in
-      both ValueDone ValueDone NameDue second third second (close_brace ∷ []) (comma ∷ bytes) (λ n. event_at n What.CloseObject ∷ [])
-      (λ n. typed_told inside gap word (n + 1)) (close_carries third)
-      (both ValueDone ValueDue NameDue third third second (comma ∷ []) bytes (λ n. []) (typed_told inside gap word)
+      both ValueDone ValueDone NameDue second second second before (close_brace ∷ comma ∷ (between ++ bytes)) (λ n. [])
+      (λ n. event_at n What.CloseObject ∷ typed_told inside gap word (n + 1 + 1 + length between)) (done_carries second before white_before)
+      (both ValueDone ValueDone NameDue second third second (close_brace ∷ []) (comma ∷ (between ++ bytes)) (λ n. event_at n What.CloseObject ∷ [])
+      (λ n. typed_told inside gap word (n + 1 + length between)) (close_carries third)
+      (both ValueDone ValueDue NameDue third third second (comma ∷ []) (between ++ bytes) (λ n. []) (λ n. typed_told inside gap word (n + length between))
       (record {
         moved = λ start offset bytes k room.
             done_go limits third start offset bytes comma k (omega (arith, room)) ValueDue Ending.Item (rw (class_is comma_class comma refl (λ e. cc)) refl);
       })
-      (typed_carries ValueDue third 0 name_at word_at word inside gap bytes refl (omega (arith, deep)) white_inside white h))
-
-  next_carries : (around : List Level) (name_at word_at : ℕ) (word : Word) (inside gap bytes : List ℕ) → length around + 2 ≤ limits.depth
-      → AllByRecursion IsWhite inside → AllByRecursion IsWhite gap → BeginsTyped 0 name_at word_at word inside gap bytes
-      → Carries limits ValueDone (Object ∷ Object ∷ Array ∷ around) NameDue (Object ∷ Array ∷ around) (close_brace ∷ close_brace ∷ comma ∷ bytes)
-      (λ n. event_at n What.CloseObject ∷ event_at (n + 1) What.CloseObject ∷ typed_told inside gap word (n + 1 + 1 + 1))
-  next_carries around name_at word_at word inside gap bytes deep white_inside white h =
-      let second = Object ∷ Array ∷ around in
-      both ValueDone ValueDone NameDue (Object ∷ second) second second (close_brace ∷ []) (close_brace ∷ comma ∷ bytes)
-      (λ n. event_at n What.CloseObject ∷ []) (λ n. event_at n What.CloseObject ∷ typed_told inside gap word (n + 1 + 1)) (close_carries second)
-      (following_carries around name_at word_at word inside gap bytes deep white_inside white h)
+      (both ValueDue ValueDue NameDue third third second between bytes (λ n. []) (typed_told inside gap word)
+      (quiet ValueDue ValueDue third between (quiet_leads ValueDue between (all_quiet between white_between)))
+      (typed_carries ValueDue third 0 name_at word_at word inside gap bytes refl (omega (arith, deep)) white_inside white h))))
 
 -- ---- from reader to reader
 
@@ -293,76 +296,64 @@ opened_taken {before} {after} old new piece count live due room w deep h p heard
     lands_feeds {before = before} {after = after} old new given (opened Object) (Object ∷ levels) (opened_told old.limits h.gap old.offset) live
     (subst P (sym long) p) refl (λ bytes k. whole.moved old.start old.offset bytes k (omega (arith, long, room, w))) (subst Q e heard)
 
-pub next_taken : {before after : List Event → Type 0} (old new : Reader) (piece : List ℕ) (count name_at word_at : ℕ) (word : Word) (around : List Level)
-    → old.fault ≡ None → old.mode ≡ ValueDone → old.offset + length piece ≤ old.limits.bytes → 3 + count ≤ length piece
-    → take 3 piece ≡ close_brace ∷ close_brace ∷ comma ∷ [] → levels_in old.levels ≡ Object ∷ Object ∷ Array ∷ around
-    → IsTyped (drop 3 piece) count name_at word_at word → Lands (3 + count) NameDue (Object ∷ Array ∷ around) old new
-    → ((events : List Event) → before events → after (events ++ (event_at old.offset What.CloseObject ∷ event_at (old.offset + 1) What.CloseObject
-    ∷ event_at (old.offset + 3) What.OpenObject ∷ event_at (old.offset + 3 + name_at) (What.Name TypeName) ∷ event_at (old.offset + 3 + word_at) (What.Text word)
-    ∷ [])))
-    → FeedsAll before after old new (take (3 + count) piece)
-next_taken {before} {after} old new piece count name_at word_at word around live done room w ends levels h p heard =
-    let given = take count (drop 3 piece) in
-    let all = close_brace ∷ close_brace ∷ comma ∷ given in
-    let same : take (3 + count) piece ≡ all = take-add 3 count piece ∙ ap (λ xs. xs ++ given) ends in
-    let long : length (take (3 + count) piece) ≡ 3 + count = length-take-le (3 + count) piece w in
+-- the bytes of an end and of what comes before and after it
+end_bytes : (piece : List ℕ) (close at : ℕ) → close + 2 ≤ at → at ≤ length piece → get_or piece close 0 ≡ close_brace → get_or piece (close + 1) 0 ≡ comma
+    → take at piece ≡ cut piece 0 close ++ (close_brace ∷ comma ∷ cut piece (close + 2) at)
+end_bytes piece close at w within e f =
+    let two : close + 1 + 1 ≡ close + 2 = omega arith in
+    let rest : cut piece close at ≡ close_brace ∷ comma ∷ cut piece (close + 2) at =
+    cut_byte piece close at (omega (arith, w, within)) (omega (arith, w)) ∙ ap (λ b. b ∷ cut piece (close + 1) at) e
+    ∙ ap (λ xs. close_brace ∷ xs)
+    (cut_byte piece (close + 1) at (omega (arith, w, within)) (omega (arith, w)) ∙ ap (λ b. b ∷ cut piece (close + 1 + 1) at) f
+    ∙ ap (λ n. comma ∷ cut piece n at) two) in
+    let whole : at ≡ at - 0 = omega arith in
+    ap (λ n. take n piece) whole ∙ cut_joins piece 0 close at (omega arith) (omega (arith, w)) ∙ ap (λ xs. cut piece 0 close ++ xs) rest
+
+in_four : (xs ys zs : List ℕ) → (xs ++ (close_brace ∷ comma ∷ ys)) ++ zs ≡ xs ++ (close_brace ∷ comma ∷ (ys ++ zs))
+in_four xs ys zs = append_assoc xs (close_brace ∷ comma ∷ ys) zs
+
+pub following_taken : {before after : List Event → Type 0} (old new : Reader) (piece : List ℕ) (next : UsualNext) (around : List Level)
+    → old.fault ≡ None → old.mode ≡ ValueDone → old.offset + length piece ≤ old.limits.bytes → next.at + next.typed.count ≤ length piece
+    → levels_in old.levels ≡ Object ∷ Array ∷ around → IsFollowing piece next
+    → Lands (next.at + next.typed.count) NameDue (Object ∷ Array ∷ around) old new
+    → ((events : List Event) → before events → after (events ++ (event_at (old.offset + next.close) What.CloseObject
+    ∷ event_at (old.offset + next.at) What.OpenObject ∷ event_at (old.offset + next.at + next.typed.name_at) (What.Name TypeName)
+    ∷ event_at (old.offset + next.at + next.typed.word_at) (What.Text next.typed.word) ∷ [])))
+    → FeedsAll before after old new (take (next.at + next.typed.count) piece)
+following_taken {before} {after} old new piece next around live done room w levels h p heard =
+    let t = h.typed in
+    let count = next.typed.count in
+    let front = cut piece 0 next.close in
+    let between = cut piece (next.close + 2) next.at in
+    let given = take count (drop next.at piece) in
+    let all = front ++ (close_brace ∷ comma ∷ (between ++ given)) in
+    let same : take (next.at + count) piece ≡ all =
+    take-add next.at count piece ∙ ap (λ xs. xs ++ given) (end_bytes piece next.close next.at h.after (omega (arith, w)) h.bracket h.comma)
+    ∙ in_four front between given in
+    let long : length (take (next.at + count) piece) ≡ next.at + count = length-take-le (next.at + count) piece w in
+    let n : length all ≡ next.at + count = ap length (sym same) ∙ long in
+    let nf : length front ≡ next.close = cut_length piece 0 next.close (omega (arith, w, h.after)) ∙ omega arith in
+    let nb : length between ≡ next.at - (next.close + 2) = cut_length piece (next.close + 2) next.at (omega (arith, w)) in
     let deep : length around + 2 ≤ old.limits.depth = omega (arith, old.nested, ap length levels) in
-    let carries = next_carries old.limits around name_at word_at word h.inside h.gap given deep h.white_inside h.white h.begins in
-    let e : old.offset + 3 ≡ old.offset + 1 + 1 + 1 = omega arith in
-    let d : old.offset + 3 + name_at ≡ old.offset + 1 + 1 + 1 + 1 + length h.inside = omega (arith, h.begins.name_place) in
-    let f : old.offset + 3 + word_at ≡ old.offset + 1 + 1 + 1 + 1 + length h.inside + length (named (codes "type") h.gap) =
-    omega (arith, h.begins.name_place, h.begins.word_place) in
-    let told : ℕ → ℕ → ℕ → List Event =
-    λ m l n. event_at old.offset What.CloseObject ∷ event_at (old.offset + 1) What.CloseObject ∷ event_at m What.OpenObject
-    ∷ event_at l (What.Name TypeName) ∷ event_at n (What.Text word) ∷ [] in
+    let carries =
+    following_carries old.limits around next.typed.name_at next.typed.word_at next.typed.word t.inside t.gap front between given deep t.white_inside t.white
+    h.white_before h.white_after t.begins in
+    let start : ℕ = old.offset + length front + 1 + 1 + length between in
+    let d : old.offset + next.close ≡ old.offset + length front = omega (arith, nf) in
+    let e : old.offset + next.at ≡ start = omega (arith, nf, nb, h.after) in
+    let f : old.offset + next.at + next.typed.name_at ≡ start + 1 + length t.inside = omega (arith, nf, nb, h.after, t.begins.name_place) in
+    let g : old.offset + next.at + next.typed.word_at ≡ start + 1 + length t.inside + length (named (codes "type") t.gap) =
+    omega (arith, nf, nb, h.after, t.begins.name_place, t.begins.word_place) in
+    let told : ℕ → ℕ → ℕ → ℕ → List Event =
+    λ k l m o. event_at k What.CloseObject ∷ event_at l What.OpenObject ∷ event_at m (What.Name TypeName) ∷ event_at o (What.Text next.typed.word) ∷ [] in
     let all_told : List Event =
-    event_at old.offset What.CloseObject ∷ event_at (old.offset + 1) What.CloseObject ∷ typed_told old.limits h.inside h.gap word (old.offset + 1 + 1 + 1) in
-    let alike : told (old.offset + 3) (old.offset + 3 + name_at) (old.offset + 3 + word_at) ≡ all_told = rw (f, d, e) refl in
+    event_at (old.offset + length front) What.CloseObject ∷ typed_told old.limits t.inside t.gap next.typed.word start in
+    let alike : told (old.offset + next.close) (old.offset + next.at) (old.offset + next.at + next.typed.name_at) (old.offset + next.at + next.typed.word_at)
+    ≡ all_told =
+    rw (g, f, e, d) refl in
     let P : ℕ → Type 0 = λ n. Lands n NameDue (Object ∷ Array ∷ around) old new in
     let Q : List Event → Type 0 = λ es. (events : List Event) → before events → after (events ++ es) in
     let S : List ℕ → Type 0 = λ xs. FeedsAll before after old new xs in
-    let n : length all ≡ 3 + count = ap length (sym same) ∙ long in
-    let from : (bytes : List ℕ) → StandsWell old.limits old.mode (levels_in old.levels) old.start old.offset bytes
-    → StandsWell old.limits ValueDone (Object ∷ Object ∷ Array ∷ around) old.start old.offset bytes =
-    λ bytes k. (let M : Mode → Type 0 = λ m. StandsWell old.limits m (Object ∷ Object ∷ Array ∷ around) old.start old.offset bytes in
-    let L : List Level → Type 0 = λ ls. StandsWell old.limits old.mode ls old.start old.offset bytes in
-    subst M done (subst L levels k)) in
-    subst S (sym same)
-    (lands_feeds {before = before} {after = after} old new all NameDue (Object ∷ Array ∷ around) all_told live (subst P (sym n) p) refl
-    (λ bytes k. carries.moved old.start old.offset bytes (from bytes k) (omega (arith, n, room, w))) (subst Q alike heard))
-
-pub two_bytes : (piece : List ℕ) (a b : ℕ) → 2 ≤ length piece → get_or piece 0 0 ≡ a → get_or piece 1 0 ≡ b → take 2 piece ≡ a ∷ b ∷ []
-two_bytes [] a b l e f = absurd (omega (arith, l))
-two_bytes (x ∷ []) a b l e f = absurd (omega (arith, l))
-two_bytes (x ∷ (y ∷ rest)) a b l e f = rw (e, f) refl
-
-pub following_taken : {before after : List Event → Type 0} (old new : Reader) (piece : List ℕ) (count name_at word_at : ℕ) (word : Word) (around : List Level)
-    → old.fault ≡ None → old.mode ≡ ValueDone → old.offset + length piece ≤ old.limits.bytes → 2 + count ≤ length piece
-    → take 2 piece ≡ close_brace ∷ comma ∷ [] → levels_in old.levels ≡ Object ∷ Array ∷ around
-    → IsTyped (drop 2 piece) count name_at word_at word → Lands (2 + count) NameDue (Object ∷ Array ∷ around) old new
-    → ((events : List Event) → before events → after (events ++ (event_at old.offset What.CloseObject
-    ∷ event_at (old.offset + 2) What.OpenObject ∷ event_at (old.offset + 2 + name_at) (What.Name TypeName) ∷ event_at (old.offset + 2 + word_at) (What.Text word)
-    ∷ [])))
-    → FeedsAll before after old new (take (2 + count) piece)
-following_taken {before} {after} old new piece count name_at word_at word around live done room w ends levels h p heard =
-    let given = take count (drop 2 piece) in
-    let all = close_brace ∷ comma ∷ given in
-    let same : take (2 + count) piece ≡ all = take-add 2 count piece ∙ ap (λ xs. xs ++ given) ends in
-    let long : length (take (2 + count) piece) ≡ 2 + count = length-take-le (2 + count) piece w in
-    let deep : length around + 2 ≤ old.limits.depth = omega (arith, old.nested, ap length levels) in
-    let carries = following_carries old.limits around name_at word_at word h.inside h.gap given deep h.white_inside h.white h.begins in
-    let e : old.offset + 2 ≡ old.offset + 1 + 1 = omega arith in
-    let d : old.offset + 2 + name_at ≡ old.offset + 1 + 1 + 1 + length h.inside = omega (arith, h.begins.name_place) in
-    let f : old.offset + 2 + word_at ≡ old.offset + 1 + 1 + 1 + length h.inside + length (named (codes "type") h.gap) =
-    omega (arith, h.begins.name_place, h.begins.word_place) in
-    let told : ℕ → ℕ → ℕ → List Event =
-    λ m l n. event_at old.offset What.CloseObject ∷ event_at m What.OpenObject ∷ event_at l (What.Name TypeName) ∷ event_at n (What.Text word) ∷ [] in
-    let all_told : List Event = event_at old.offset What.CloseObject ∷ typed_told old.limits h.inside h.gap word (old.offset + 1 + 1) in
-    let alike : told (old.offset + 2) (old.offset + 2 + name_at) (old.offset + 2 + word_at) ≡ all_told = rw (f, d, e) refl in
-    let P : ℕ → Type 0 = λ n. Lands n NameDue (Object ∷ Array ∷ around) old new in
-    let Q : List Event → Type 0 = λ es. (events : List Event) → before events → after (events ++ es) in
-    let S : List ℕ → Type 0 = λ xs. FeedsAll before after old new xs in
-    let n : length all ≡ 2 + count = ap length (sym same) ∙ long in
     let from : (bytes : List ℕ) → StandsWell old.limits old.mode (levels_in old.levels) old.start old.offset bytes
     → StandsWell old.limits ValueDone (Object ∷ Array ∷ around) old.start old.offset bytes =
     λ bytes k. (let M : Mode → Type 0 = λ m. StandsWell old.limits m (Object ∷ Array ∷ around) old.start old.offset bytes in

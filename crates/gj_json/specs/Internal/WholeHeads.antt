@@ -1,11 +1,13 @@
 -- The beginnings of objects that are reported at once, as they are read.
-use Rattle.std.specs.Prelude.{◌≡◌, ℕ, ◌+◌, ◌≤◌, ◌<◌, List, [], ◌∷◌, ◌++◌, codes, length, take}
+use Rattle.std.specs.Prelude.{◌≡◌, ℕ, ◌+◌, ◌≤◌, ◌<◌, List, [], ◌∷◌, ◌++◌, codes, get_or, length, take, drop}
 use Rattle.std.specs.List.{AllByRecursion}
-use Rattle.gj_json.specs.Bytes.{IsWhite, space, open_brace, comma, colon, quote}
+use Rattle.gj_json.specs.Bytes.{IsWhite, space, open_brace, close_brace, comma as comma_byte, colon, quote}
 use Rattle.gj_json.specs.declared.head.Located.{Located}
 use Rattle.gj_json.specs.declared.heads.UsualLocated.{UsualLocated}
+use Rattle.gj_json.specs.declared.heads.UsualNext.{UsualNext}
 use Rattle.gj_json.specs.declared.names.Word.{Word}
 use Rattle.gj_json.specs.Names.{word_of}
+use Rattle.gj_json.specs.Internal.FlatParts.{cut}
 use Rattle.gj_json.specs.Internal.WholeTokens.{IsQuoted}
 
 abbrev pub quoted : List ℕ → List ℕ
@@ -22,7 +24,7 @@ pub record BeginsTyped (place name_at word_at : ℕ) (word : Word) (inside gap b
   pub type_bytes : List ℕ
   pub is_quoted : IsQuoted content type_bytes
   pub known_as : word_of content ≡ word
-  pub spelled : bytes ≡ open_brace ∷ (inside ++ (named (codes "type") gap ++ (type_bytes ++ (comma ∷ gap))))
+  pub spelled : bytes ≡ open_brace ∷ (inside ++ (named (codes "type") gap ++ (type_bytes ++ (comma_byte ∷ gap))))
   pub name_place : name_at ≡ place + 1 + length inside
   pub word_place : word_at ≡ name_at + length (named (codes "type") gap)
 
@@ -33,6 +35,15 @@ pub record IsTyped (piece : List ℕ) (count name_at word_at : ℕ) (word : Word
   pub white_inside : AllByRecursion IsWhite inside
   pub white : AllByRecursion IsWhite gap
   pub begins : BeginsTyped 0 name_at word_at word inside gap (take count piece)
+
+-- a piece starts with the end of an object, a comma and an object that begins so, with white space before that end and after the comma
+pub record IsFollowing (piece : List ℕ) (next : UsualNext) : Type 0 where
+  pub white_before : AllByRecursion IsWhite (cut piece 0 next.close)
+  pub bracket : get_or piece next.close 0 ≡ close_brace
+  pub comma : get_or piece (next.close + 1) 0 ≡ comma_byte
+  pub after : next.close + 2 ≤ next.at
+  pub white_after : AllByRecursion IsWhite (cut piece (next.close + 2) next.at)
+  pub typed : IsTyped (drop next.at piece) next.typed.count next.typed.name_at next.typed.word_at next.typed.word
 
 -- a member `geometry` up to its type, with such white space after the bracket and after the colons
 abbrev pub before_type : List ℕ → List ℕ → List ℕ

@@ -19,7 +19,7 @@ use crate::flats::read_flat;
 use crate::gaps::Gaps;
 use crate::head::{Head, Located, Opened, Typed};
 use crate::heads::{
-    UsualLocated, following_typed, next_typed, properties_run, usual_located, usual_typed,
+    UsualLocated, following_typed, properties_run, usual_located, usual_typed,
 };
 use crate::levels::Level;
 use crate::mode::Mode;
@@ -32,10 +32,11 @@ fn may_be_typed(piece: &[u8]) -> bool {
     piece.len() > 3 && (piece[2] == b't' || piece[3] == b't')
 }
 
-/// Whether two bytes look like the end of a feature, after the byte that ends its last member.
+/// Whether two bytes look like the end of a feature, after the byte that ends its last member, with a space before it or none.
 #[inline(always)]
 fn may_end_feature(piece: &[u8]) -> bool {
-    piece.len() > 2 && piece[1] == b'}' && piece[2] == b','
+    piece.len() > 2
+        && (piece[1] == b'}' && piece[2] == b',' || piece[1] == b' ' && piece[2] == b'}')
 }
 
 /// Whether a few bytes look like the name of a geometry, with a name after the bracket of its object.
@@ -137,26 +138,11 @@ impl Reader {
         ensures within { result ≤ length piece.now }
         ensures feeds { FeedsAll (S.heard sink.old) (S.heard sink.new) self.old self.new (take result piece.now) }
     {
-        let typed = next_typed(piece);
-        if typed.count == 0 || !self.levels.is_in_feature() {
+        if piece[0] != b'}' || !self.levels.is_in_feature() {
             return self.take_end(piece, sink);
         }
-        sink.tell(Event {
-            place: self.offset,
-            what: What::CloseObject,
-        });
-        sink.tell(Event {
-            place: self.offset + 1,
-            what: What::CloseObject,
-        });
-        sink.tell_head(Head::Object(Typed {
-            place: self.offset + 3,
-            name_at: self.offset + 3 + typed.name_at as u64,
-            word_at: self.offset + 3 + typed.word_at as u64,
-            word: typed.word,
-        }));
-        self.levels.pop();
-        self.skip(3 + typed.count, Mode::NameDue)
+        let taken = self.take_close(Level::Object, 1, sink);
+        taken + self.take_feature_end(&piece[taken..], sink)
     }
 
     /// Takes the end of an object. A look at two bytes mostly shows whether a feature may end there.
@@ -211,21 +197,22 @@ impl Reader {
         ensures within { result ≤ length piece.now }
         ensures feeds { FeedsAll (S.heard sink.old) (S.heard sink.new) self.old self.new (take result piece.now) }
     {
-        let typed = following_typed(piece);
-        if typed.count == 0 || !self.levels.is_in_element() {
+        let next = following_typed(piece);
+        if next.typed.count == 0 || !self.levels.is_in_element() {
             return 0;
         }
         sink.tell(Event {
-            place: self.offset,
+            place: self.offset + next.close as u64,
             what: What::CloseObject,
         });
+        let place = self.offset + next.at as u64;
         sink.tell_head(Head::Object(Typed {
-            place: self.offset + 2,
-            name_at: self.offset + 2 + typed.name_at as u64,
-            word_at: self.offset + 2 + typed.word_at as u64,
-            word: typed.word,
+            place,
+            name_at: place + next.typed.name_at as u64,
+            word_at: place + next.typed.word_at as u64,
+            word: next.typed.word,
         }));
-        self.skip(2 + typed.count, Mode::NameDue)
+        self.skip(next.at + next.typed.count, Mode::NameDue)
     }
 
     /// The beginning of a member `geometry`, which starts at the next byte.
