@@ -32,9 +32,8 @@ use Rattle.gj_json.specs.Internal.OpenLevels.{levels_in}
 use Rattle.gj_json.specs.Internal.QuietBytes.{IsQuiet, Leads}
 use Rattle.gj_json.specs.Internal.ReaderState.{StandsWell}
 use Rattle.gj_json.specs.Internal.ReaderStep.{opened}
-use Rattle.gj_json.specs.Internal.SpelledNumbers.{IsFlat}
 use Rattle.gj_json.specs.Internal.ToldEvents.{event_at}
-use Rattle.gj_json.specs.Internal.WholeHeads.{quoted, named, BeginsTyped, IsTyped, IsFollowing, IsFound, IsLocatedAt, OpensProperties}
+use Rattle.gj_json.specs.Internal.WholeHeads.{quoted, named, BeginsTyped, IsTyped, IsEnclosed, IsFollowing, IsFound, IsLocatedAt, OpensProperties}
 use Rattle.gj_json.specs.Internal.WholeTokens.{IsQuoted, Lands, names, may_begin}
 use Rattle.gj_json.proofs.Grammar.ClassOfBytes.{class_is}
 use Rattle.gj_json.proofs.Grammar.SpelledTokens.{colon_by}
@@ -411,25 +410,35 @@ found_taken {before} {after} old new piece usual located live due room deep h i 
     (subst Q (found_told old.limits old.offset piece usual located h i) heard)
 
 -- a member `geometry` that is a whole Point
+in_three : (xs ys gap last : List ℕ) → ((xs ++ ys) ++ gap) ++ last ≡ xs ++ (ys ++ (gap ++ last))
+in_three xs ys gap last = simp append_assoc
+
 pub point_taken : {before after : List Event → Type 0} (old new : Reader) (piece : List ℕ) (usual : UsualLocated) (located : Located) (flat : Flat) (end : ℕ)
     → old.fault ≡ None → names old.mode ≡ true → old.offset + length piece ≤ old.limits.bytes → length (levels_in old.levels) + 1 < old.limits.depth
-    → IsFound piece usual → IsLocatedAt old.offset usual located → usual.count < end → end < length piece → get_or piece end 0 ≡ close_brace
-    → IsFlat flat (old.offset + usual.count) (cut piece usual.count end) → Lands (end + 1) ValueDone (levels_in old.levels) old new
+    → IsFound piece usual → IsLocatedAt old.offset usual located → end < length piece → IsEnclosed flat old.offset usual.count end piece
+    → Lands (end + 1) ValueDone (levels_in old.levels) old new
     → ((events : List Event) → before events → after (events ++ point_events located flat (old.offset + end)))
     → FeedsAll before after old new (take (end + 1) piece)
-point_taken {before} {after} old new piece usual located flat end live due room deep h i on w closes f p heard =
+point_taken {before} {after} old new piece usual located flat end live due room deep h i w f p heard =
     let levels = levels_in old.levels in
     let limits = old.limits in
+    let within = Object ∷ levels in
+    let until = f.until in
     let xs = take usual.count piece in
-    let ys = cut piece usual.count end in
+    let ys = cut piece usual.count until in
+    let gap = cut piece until end in
     let last = close_brace ∷ [] in
-    let given = xs ++ (ys ++ last) in
+    let given = xs ++ (ys ++ (gap ++ last)) in
     let nx : length xs ≡ usual.count = length-take-le usual.count piece h.within in
-    let ny : length ys ≡ end - usual.count = cut_length piece usual.count end (omega arith) in
-    let upto : usual.count + (end - usual.count) ≡ end = omega arith in
-    let front : take end piece ≡ xs ++ ys = ap (λ n. take n piece) (sym upto) ∙ take-add usual.count (end - usual.count) piece in
+    let ny : length ys ≡ until - usual.count = cut_length piece usual.count until (omega (arith, f.before, w)) in
+    let ng : length gap ≡ end - until = cut_length piece until end (omega (arith, w)) in
+    let upto : usual.count + (until - usual.count) ≡ until = omega (arith, f.some) in
+    let upon : until + (end - until) ≡ end = omega (arith, f.before) in
+    let front : take until piece ≡ xs ++ ys = ap (λ n. take n piece) (sym upto) ∙ take-add usual.count (until - usual.count) piece in
+    let middle : take end piece ≡ (xs ++ ys) ++ gap =
+    ap (λ n. take n piece) (sym upon) ∙ take-add until (end - until) piece ∙ ap (λ zs. zs ++ gap) front in
     let same : take (end + 1) piece ≡ given =
-    take_more piece end 0 w ∙ ap (λ b. take end piece ++ b ∷ []) closes ∙ ap (λ zs. zs ++ last) front ∙ append_assoc xs ys last in
+    take_more piece end 0 w ∙ ap (λ b. take end piece ++ b ∷ []) f.bracket ∙ ap (λ zs. zs ++ last) middle ∙ in_three xs ys gap last in
     let long : length given ≡ end + 1 = ap length (sym same) ∙ length-take-le (end + 1) piece (omega arith) in
     let told = located_told limits h.located.inside h.located.gap h.located.object_bytes usual.word old.offset in
     let es : List Event = told ++ (flat_events flat ++ event_at (old.offset + end) What.CloseObject ∷ []) in
@@ -437,24 +446,31 @@ point_taken {before} {after} old new piece usual located flat end live due room 
     let Q : List Event → Type 0 = λ ls. (events : List Event) → before events
     → after (events ++ (ls ++ (flat_events flat ++ event_at (old.offset + end) What.CloseObject ∷ []))) in
     let S : List ℕ → Type 0 = λ zs. FeedsAll before after old new zs in
-    let m = old.offset + usual.count + length ys in
+    let k : ℕ = old.offset + usual.count in
+    let l : ℕ = k + length ys in
+    let m : ℕ = l + length gap in
     let closing : ℕ → Event = λ n. event_at n What.CloseObject in
     let moved : (bytes : List ℕ) → StandsWell limits old.mode levels old.start old.offset bytes
     → Moved limits ValueDone levels old.offset (old.offset + length given) bytes given es =
-    λ bytes k. (let a = found_moved limits old.mode levels old.start old.offset bytes piece usual h due (omega (arith, deep)) room k in
+    λ bytes o. (let a = found_moved limits old.mode levels old.start old.offset bytes piece usual h due (omega (arith, deep)) room o in
     let b =
-    flat_well limits (Object ∷ levels) a.start ValueDue (old.offset + usual.count) (bytes ++ xs) a.well refl flat ys f (omega (arith, deep))
-    (omega (arith, room, ny, on, w)) in
-    let c = (close_carries limits levels).moved a.start m ((bytes ++ xs) ++ ys) b.well (omega (arith, room, ny, on, w)) in
+    flat_well limits within a.start ValueDue k (bytes ++ xs) a.well refl flat ys f.flat_bytes (omega (arith, deep))
+    (omega (arith, room, ny, f.some, f.before, w)) in
+    let c =
+    (done_carries limits within gap f.white).moved a.start l ((bytes ++ xs) ++ ys) b.well (omega (arith, room, ny, ng, f.some, f.before, w)) in
+    let d =
+    (close_carries limits levels).moved c.start m (((bytes ++ xs) ++ ys) ++ gap) c.well (omega (arith, room, ny, ng, f.some, f.before, w)) in
+    let end_of =
+    moved_on limits ValueDone ValueDone within levels l m (m + 1) ((bytes ++ xs) ++ ys) gap last [] (closing m ∷ []) c d in
     let rest =
-    moved_on limits ValueDone ValueDone (Object ∷ levels) levels (old.offset + usual.count) m (m + 1) (bytes ++ xs) ys last (flat_events flat) (closing m ∷ [])
-    (record { start = a.start; well = b.well; more = b.more }) c in
+    moved_on limits ValueDone ValueDone within levels k l (m + 1) (bytes ++ xs) ys (gap ++ last) (flat_events flat) (closing m ∷ [])
+    (record { start = a.start; well = b.well; more = b.more }) end_of in
     let whole =
-    moved_on limits ValueDue ValueDone (Object ∷ levels) levels old.offset (old.offset + usual.count) (m + 1) bytes xs (ys ++ last) told
+    moved_on limits ValueDue ValueDone within levels old.offset k (m + 1) bytes xs (ys ++ (gap ++ last)) told
     (flat_events flat ++ closing m ∷ []) a rest in
     let R : ℕ → Type 0 = λ n. Moved limits ValueDone levels old.offset (n + 1) bytes given (told ++ (flat_events flat ++ closing n ∷ [])) in
     let T : ℕ → Type 0 = λ n. Moved limits ValueDone levels old.offset n bytes given es in
-    let e : m ≡ old.offset + end = omega (arith, ny, on) in
+    let e : m ≡ old.offset + end = omega (arith, ny, ng, f.some, f.before) in
     let g : old.offset + end + 1 ≡ old.offset + length given = omega (arith, long) in
     subst T g (subst R e whole)) in
     subst S (sym same)

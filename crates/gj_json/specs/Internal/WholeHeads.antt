@@ -2,12 +2,14 @@
 use Rattle.std.specs.Prelude.{◌≡◌, ℕ, ◌+◌, ◌≤◌, ◌<◌, List, [], ◌∷◌, ◌++◌, codes, get_or, length, take, drop}
 use Rattle.std.specs.List.{AllByRecursion}
 use Rattle.gj_json.specs.Bytes.{IsWhite, space, open_brace, close_brace, comma as comma_byte, colon, quote}
+use Rattle.gj_json.specs.declared.flat.Flat.{Flat}
 use Rattle.gj_json.specs.declared.head.Located.{Located}
 use Rattle.gj_json.specs.declared.heads.UsualLocated.{UsualLocated}
 use Rattle.gj_json.specs.declared.heads.UsualNext.{UsualNext}
 use Rattle.gj_json.specs.declared.names.Word.{Word}
 use Rattle.gj_json.specs.Names.{word_of}
 use Rattle.gj_json.specs.Internal.FlatParts.{cut}
+use Rattle.gj_json.specs.Internal.SpelledNumbers.{IsFlat}
 use Rattle.gj_json.specs.Internal.WholeTokens.{IsQuoted}
 
 abbrev pub quoted : List ℕ → List ℕ
@@ -86,6 +88,16 @@ pub record IsLocatedAt (start : ℕ) (usual : UsualLocated) (located : Located) 
   pub word_at : located.typed.word_at ≡ start + usual.word_at
   pub word : located.typed.word ≡ usual.word
   pub coordinates : located.coordinates ≡ start + usual.coordinates
+
+-- the position of a Point stands in a piece from one index on, where the piece begins at the place `start`, and the bracket that closes
+-- its object at another, with white space before it
+pub record IsEnclosed (flat : Flat) (start from close : ℕ) (piece : List ℕ) : Type 0 where
+  pub until : ℕ
+  pub some : from < until
+  pub before : until ≤ close
+  pub flat_bytes : IsFlat flat (start + from) (cut piece from until)
+  pub white : AllByRecursion IsWhite (cut piece until close)
+  pub bracket : get_or piece close 0 ≡ close_brace
 
 -- a member `properties` up to the bracket of its object
 pub record OpensProperties (bytes : List ℕ) : Type 0 where

@@ -1,11 +1,10 @@
 //! The beginnings of features and geometries, taken at once.
 
 ghost use Rattle.std.specs.Prelude.{◌≡◌, ◌+◌, ◌^◌, ◌≤◌, ◌<◌, true, length, take, get_or, None};
-ghost use Rattle.gj_json.specs.Bytes.{open_bracket, open_brace, close_brace};
-ghost use Rattle.gj_json.specs.Internal.FlatParts.{awaits, cut};
+ghost use Rattle.gj_json.specs.Bytes.{open_bracket, open_brace};
+ghost use Rattle.gj_json.specs.Internal.FlatParts.{awaits};
 ghost use Rattle.gj_json.specs.Internal.OpenLevels.{levels_in};
-ghost use Rattle.gj_json.specs.Internal.SpelledNumbers.{IsFlat};
-ghost use Rattle.gj_json.specs.Internal.WholeHeads.{IsFound, IsLocatedAt};
+ghost use Rattle.gj_json.specs.Internal.WholeHeads.{IsEnclosed, IsFound, IsLocatedAt};
 ghost use Rattle.gj_json.specs.Internal.WholeTokens.{names};
 ghost use Rattle.gj_json.specs.declared.limits.TheConstants.{MOST_LEVELS};
 ghost use Rattle.gj_json.specs.declared.mode.Mode.TheVariants.{ValueDone};
@@ -19,7 +18,7 @@ use crate::flats::read_flat;
 use crate::gaps::Gaps;
 use crate::head::{Head, Located, Opened, Typed};
 use crate::heads::{
-    UsualLocated, following_typed, properties_run, usual_located, usual_typed,
+    UsualLocated, following_typed, gap_end, properties_run, usual_located, usual_typed,
 };
 use crate::levels::Level;
 use crate::mode::Mode;
@@ -53,16 +52,14 @@ fn may_be_properties(piece: &[u8]) -> bool {
     piece.len() > 14 && piece[1] == b'p' && (piece[13] == b'{' || piece[14] == b'{')
 }
 
-/// Reads the position of a Point that stands at an index, right before the bracket that closes its object, in a piece that begins at
-/// the place `start`: the index of that bracket, or 0.
+/// Reads the position of a Point that stands at an index, before the bracket that closes its object, in a piece that begins at the
+/// place `start`: the index of that bracket, or 0. A byte of white space may stand between them.
 #[inline(always)]
 fn point_end(piece: &[u8], at: usize, start: u64, flat: &mut Flat) -> usize
     requires within { at ≤ length piece.now }
     requires small { start + length piece.now ≤ 2 ^ 60 }
-    ensures on { 0 < result → at < result }
     ensures within { 0 < result → result < length piece.now }
-    ensures bracket { 0 < result → get_or piece.now result 0 ≡ close_brace }
-    ensures flat { 0 < result → IsFlat flat.new (start + at) (cut piece.now at result) }
+    ensures enclosed { 0 < result → IsEnclosed flat.new start at result piece.now }
 {
     let rest = &piece[at..];
     if !begins_array(rest) {
@@ -71,11 +68,11 @@ fn point_end(piece: &[u8], at: usize, start: u64, flat: &mut Flat) -> usize
     let Some(count) = read_flat(rest, start + at as u64, &mut Gaps::none(), flat) else {
         return 0;
     };
-    let end = at + count;
-    if end >= piece.len() || piece[end] != b'}' {
+    let close = gap_end(piece, at + count);
+    if close >= piece.len() || piece[close] != b'}' {
         return 0;
     }
-    end
+    close
 }
 
 impl Reader {
