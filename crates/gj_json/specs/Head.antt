@@ -1,5 +1,5 @@
 -- The beginnings of objects that are reported at once: the events that each stands for.
-use Rattle.std.specs.Prelude.{ℕ, ◌+◌, List, [], ◌∷◌, ◌++◌}
+use Rattle.std.specs.Prelude.{ℕ, List, [], ◌∷◌, ◌++◌}
 use Rattle.gj_json.specs.declared.event.Event.{Event}
 use Rattle.gj_json.specs.declared.event.What.{What}
 use Rattle.gj_json.specs.declared.flat.Flat.{Flat}
@@ -10,10 +10,10 @@ use Rattle.gj_json.specs.declared.head.Typed.{Typed}
 use Rattle.gj_json.specs.declared.names.Known.TheVariants.{TypeName, Geometry, Coordinates, Properties}
 use Rattle.gj_json.specs.Flat.{flat_events}
 
--- the bracket, the name `type` right after it, and the type
+-- the bracket, the name `type`, and the type
 abbrev pub typed_events : Typed → List Event
 typed_events typed =
-    record { place = typed.place; what = What.OpenObject } ∷ record { place = typed.place + 1; what = What.Name TypeName }
+    record { place = typed.place; what = What.OpenObject } ∷ record { place = typed.name_at; what = What.Name TypeName }
     ∷ record { place = typed.word_at; what = What.Text typed.word } ∷ []
 
 -- the name `geometry`, the beginning of its object, and the name `coordinates`

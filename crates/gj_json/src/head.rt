@@ -4,11 +4,13 @@ ghost use Rattle.std.specs.Prelude.{◌<◌};
 
 use crate::names::Word;
 
-/// The beginning of an object by its type, as `{"type":"Feature",`. The name stands right after the bracket.
+/// The beginning of an object by its type, as `{"type":"Feature",`.
 #[derive(Clone, Copy)]
 pub struct Typed {
     /// The place of `{`, as bytes from the start of the text.
     pub place: u64,
+    /// The place of the name `type`.
+    pub name_at: u64,
     /// The place of the type.
     pub word_at: u64,
     pub word: Word,

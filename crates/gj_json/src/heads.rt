@@ -1,31 +1,45 @@
 //! The beginnings of features and geometries as most writers put them, each recognized by a comparison of words.
 
-ghost use Rattle.std.specs.Prelude.{◌≡◌, ◌+◌, ◌<◌, ◌≤◌, ◌∷◌, [], length, take, drop, get_or};
-ghost use Rattle.gj_json.specs.Bytes.{close_brace, comma};
-ghost use Rattle.gj_json.specs.Internal.WholeHeads.{IsTyped, IsLocated, OpensProperties};
+ghost use Rattle.std.specs.Prelude.{◌≡◌, ◌+◌, ◌<◌, ◌≤◌, length, take};
+ghost use Rattle.std.specs.List.{AllByRecursion};
+ghost use Rattle.gj_json.specs.Bytes.{IsWhite};
+ghost use Rattle.gj_json.specs.Internal.FlatParts.{cut};
+ghost use Rattle.gj_json.specs.Internal.WholeHeads.{IsTyped, IsFollowing, IsLocated, ComesToType, OpensProperties};
 ghost use Rattle.gj_json.specs.declared.heads.TheConstants.{ROOM};
+ghost use Rattle.gj_json.specs.declared.names.Word.{Word};
 
-use crate::lanes::{begins, begins_long};
+use crate::lanes::{begins, begins_long, is_white};
 use crate::names::Word;
 use crate::usual::usual_text;
 
 /// A shorter piece is not looked at: it may have no room for each of them.
-const ROOM: usize = 50;
+const ROOM: usize = 51;
 
-/// The beginning of an object by its type: how many bytes it has, or 0 where there is none, and where the type stands.
+/// The beginning of an object by its type: how many bytes it has, or 0 where there is none, and where the name and the type stand.
 #[derive(Clone, Copy)]
 pub struct UsualTyped {
     pub count: usize,
+    pub name_at: usize,
     pub word_at: usize,
     pub word: Word,
 }
 
+/// The end of an element and the beginning of the next, of which there is none where it has no bytes: where the bracket stands that
+/// ends the element, and the one that begins the next.
+#[derive(Clone, Copy)]
+pub struct UsualNext {
+    pub close: usize,
+    pub at: usize,
+    pub typed: UsualTyped,
+}
+
 /// The beginning of a member `geometry`: how many bytes it has up to its coordinates, or 0 where there is none, and where
-/// the bracket, the type and the second name stand.
+/// the bracket, the name `type`, the type and the name `coordinates` stand.
 #[derive(Clone, Copy)]
 pub struct UsualLocated {
     pub count: usize,
     pub bracket: usize,
+    pub name_at: usize,
     pub word_at: usize,
     pub word: Word,
     pub coordinates: usize,
@@ -33,13 +47,21 @@ pub struct UsualLocated {
 
 const NOT_TYPED: UsualTyped = UsualTyped {
     count: 0,
+    name_at: 0,
     word_at: 0,
     word: Word::Other,
+};
+
+const NO_NEXT: UsualNext = UsualNext {
+    close: 0,
+    at: 0,
+    typed: NOT_TYPED,
 };
 
 const NOT_LOCATED: UsualLocated = UsualLocated {
     count: 0,
     bracket: 0,
+    name_at: 0,
     word_at: 0,
     word: Word::Other,
     coordinates: 0,
@@ -50,9 +72,9 @@ const NOT_LOCATED: UsualLocated = UsualLocated {
 fn dense_typed(piece: &[u8]) -> UsualTyped
     requires room { ROOM ≤ length piece.now }
     ensures within { result.count ≤ length piece.now }
-    ensures on { 0 < result.count → 0 < result.word_at }
+    ensures on { 0 < result.count → result.name_at < result.word_at }
     ensures few { result.word_at ≤ result.count }
-    ensures usual { 0 < result.count → IsTyped piece.now result.count result.word_at result.word }
+    ensures usual { 0 < result.count → IsTyped piece.now result.count result.name_at result.word_at result.word }
 {
     if begins(piece, b"{\"type\":        ", 8) {
         let text = usual_text(&piece[8..]);
@@ -63,6 +85,7 @@ fn dense_typed(piece: &[u8]) -> UsualTyped
         if piece[at] == b',' {
             return UsualTyped {
                 count: at + 1,
+                name_at: 1,
                 word_at: 8,
                 word: text.word,
             };
@@ -71,32 +94,51 @@ fn dense_typed(piece: &[u8]) -> UsualTyped
     NOT_TYPED
 }
 
-/// The beginning of an object by its `type`, with a space after the colon and the comma.
+/// Where the name stands in the beginning of a feature by its `type`, with a space after the colon and the comma, and one after the
+/// bracket or none: 0 where there is none.
+#[inline(always)]
+fn spaced_name_at(piece: &[u8]) -> usize
+    requires room { ROOM ≤ length piece.now }
+    ensures near { result ≤ 2 }
+    ensures spaced { 0 < result → IsTyped piece.now (result + 19) result (result + 8) Word.Feature }
+{
+    if begins_long(piece, b"{\"type\": \"Featur", b"e\",             ", 4) {
+        return 1;
+    }
+    if begins_long(piece, b"{ \"type\": \"Featu", b"re\",            ", 5) {
+        return 2;
+    }
+    0
+}
+
+/// The beginning of an object by its `type`, with such spaces.
 #[inline(always)]
 fn spaced_typed(piece: &[u8]) -> UsualTyped
     requires room { ROOM ≤ length piece.now }
     ensures within { result.count ≤ length piece.now }
-    ensures on { 0 < result.count → 0 < result.word_at }
+    ensures on { 0 < result.count → result.name_at < result.word_at }
     ensures few { result.word_at ≤ result.count }
-    ensures usual { 0 < result.count → IsTyped piece.now result.count result.word_at result.word }
+    ensures usual { 0 < result.count → IsTyped piece.now result.count result.name_at result.word_at result.word }
 {
-    if begins_long(piece, b"{\"type\": \"Featur", b"e\",             ", 4) {
-        return UsualTyped {
-            count: 20,
-            word_at: 9,
-            word: Word::Feature,
-        };
+    let name_at = spaced_name_at(piece);
+    if name_at == 0 {
+        return NOT_TYPED;
     }
-    NOT_TYPED
+    UsualTyped {
+        count: name_at + 19,
+        name_at,
+        word_at: name_at + 8,
+        word: Word::Feature,
+    }
 }
 
 /// The beginning of an object by its `type`, with such spaces or without.
 #[inline(always)]
 pub fn usual_typed(piece: &[u8]) -> UsualTyped
     ensures within { result.count ≤ length piece.now }
-    ensures on { 0 < result.count → 0 < result.word_at }
+    ensures on { 0 < result.count → result.name_at < result.word_at }
     ensures few { result.word_at ≤ result.count }
-    ensures usual { 0 < result.count → IsTyped piece.now result.count result.word_at result.word }
+    ensures usual { 0 < result.count → IsTyped piece.now result.count result.name_at result.word_at result.word }
 {
     if piece.len() < ROOM {
         return NOT_TYPED;
@@ -108,41 +150,43 @@ pub fn usual_typed(piece: &[u8]) -> UsualTyped
     spaced_typed(piece)
 }
 
-/// The beginning of the next feature, after the two brackets and the comma that the piece starts with.
+/// Where the white space at an index of a piece ends, of which one byte is passed at the most.
 #[inline(always)]
-pub fn next_typed(piece: &[u8]) -> UsualTyped
-    ensures within { 0 < result.count → 3 + result.count ≤ length piece.now }
-    ensures few { result.word_at ≤ result.count }
-    ensures on { 0 < result.count → 0 < result.word_at }
-    ensures ends { 0 < result.count → take 3 piece.now ≡ close_brace ∷ close_brace ∷ comma ∷ [] }
-    ensures usual { 0 < result.count → IsTyped (drop 3 piece.now) result.count result.word_at result.word }
+pub fn gap_end(piece: &[u8], at: usize) -> usize
+    requires { at ≤ length piece.now }
+    ensures on { at ≤ result }
+    ensures few { result ≤ at + 1 }
+    ensures within { result ≤ length piece.now }
+    ensures white { AllByRecursion IsWhite (cut piece.now at result) }
 {
-    if piece.len() < ROOM {
-        return NOT_TYPED;
+    if at < piece.len() && is_white(piece[at]) {
+        return at + 1;
     }
-    if begins(piece, b"}},             ", 3) {
-        return usual_typed(&piece[3..]);
-    }
-    NOT_TYPED
+    at
 }
 
-/// The beginning of the next feature, after the bracket and the comma that the piece starts with.
+/// The end of the element that the piece starts with, and the beginning of the next feature, with a byte of white space before that
+/// end and after the comma, or none.
 #[inline(always)]
-pub fn following_typed(piece: &[u8]) -> UsualTyped
-    ensures within { 0 < result.count → 2 + result.count ≤ length piece.now }
-    ensures few { result.word_at ≤ result.count }
-    ensures on { 0 < result.count → 0 < result.word_at }
-    ensures bracket { 0 < result.count → get_or piece.now 0 0 ≡ close_brace }
-    ensures comma { 0 < result.count → get_or piece.now 1 0 ≡ comma }
-    ensures usual { 0 < result.count → IsTyped (drop 2 piece.now) result.count result.word_at result.word }
+pub fn following_typed(piece: &[u8]) -> UsualNext
+    ensures within { 0 < result.typed.count → result.at + result.typed.count ≤ length piece.now }
+    ensures on { 0 < result.typed.count → result.typed.name_at < result.typed.word_at }
+    ensures few { result.typed.word_at ≤ result.typed.count }
+    ensures follows { 0 < result.typed.count → IsFollowing piece.now result }
 {
     if piece.len() < ROOM {
-        return NOT_TYPED;
+        return NO_NEXT;
     }
-    if piece[0] == b'}' && piece[1] == b',' {
-        return usual_typed(&piece[2..]);
+    let close = gap_end(piece, 0);
+    if piece[close] != b'}' || piece[close + 1] != b',' {
+        return NO_NEXT;
     }
-    NOT_TYPED
+    let at = gap_end(piece, close + 2);
+    UsualNext {
+        close,
+        at,
+        typed: usual_typed(&piece[at..]),
+    }
 }
 
 /// The beginning of a member `geometry` of a usual type that the piece starts with, with no white space in it.
@@ -150,10 +194,11 @@ pub fn following_typed(piece: &[u8]) -> UsualTyped
 fn dense_located(piece: &[u8]) -> UsualLocated
     requires room { ROOM ≤ length piece.now }
     ensures within { result.count ≤ length piece.now }
-    ensures on { 0 < result.count → result.bracket < result.word_at }
+    ensures on { 0 < result.count → result.bracket < result.name_at }
+    ensures name { 0 < result.count → result.name_at < result.word_at }
     ensures word_few { result.word_at ≤ result.count }
     ensures few { result.coordinates ≤ result.count }
-    ensures usual { 0 < result.count → IsLocated piece.now result.count result.bracket result.word_at result.coordinates result.word }
+    ensures usual { 0 < result.count → IsLocated piece.now result.count result.bracket result.name_at result.word_at result.coordinates result.word }
 {
     if begins_long(piece, b"\"geometry\":{\"typ", b"e\":             ", 3) {
         let text = usual_text(&piece[19..]);
@@ -165,6 +210,7 @@ fn dense_located(piece: &[u8]) -> UsualLocated
             return UsualLocated {
                 count: at + 15,
                 bracket: 11,
+                name_at: 12,
                 word_at: 19,
                 word: text.word,
                 coordinates: at + 1,
@@ -174,31 +220,53 @@ fn dense_located(piece: &[u8]) -> UsualLocated
     NOT_LOCATED
 }
 
-/// The beginning of a member `geometry`, with a space after each colon and comma.
+/// Where the type stands in the beginning of a member `geometry`, with a space after each colon, and one after the bracket or none: 0
+/// where there is none.
+#[inline(always)]
+fn spaced_word_at(piece: &[u8]) -> usize
+    requires room { ROOM ≤ length piece.now }
+    ensures far { 0 < result → 20 < result }
+    ensures near { result ≤ 22 }
+    ensures spaced { 0 < result → ComesToType piece.now result }
+{
+    if begins_long(piece, b"\"geometry\": {\"ty", b"pe\":            ", 5) {
+        return 21;
+    }
+    if begins_long(piece, b"\"geometry\": { \"t", b"ype\":           ", 6) {
+        return 22;
+    }
+    0
+}
+
+/// The beginning of a member `geometry`, with a space after each colon and comma, and one after the bracket or none.
 #[inline(always)]
 fn spaced_located(piece: &[u8]) -> UsualLocated
     requires room { ROOM ≤ length piece.now }
     ensures within { result.count ≤ length piece.now }
-    ensures on { 0 < result.count → result.bracket < result.word_at }
+    ensures on { 0 < result.count → result.bracket < result.name_at }
+    ensures name { 0 < result.count → result.name_at < result.word_at }
     ensures word_few { result.word_at ≤ result.count }
     ensures few { result.coordinates ≤ result.count }
-    ensures usual { 0 < result.count → IsLocated piece.now result.count result.bracket result.word_at result.coordinates result.word }
+    ensures usual { 0 < result.count → IsLocated piece.now result.count result.bracket result.name_at result.word_at result.coordinates result.word }
 {
-    if begins_long(piece, b"\"geometry\": {\"ty", b"pe\":            ", 5) {
-        let text = usual_text(&piece[21..]);
-        if text.count == 0 {
-            return NOT_LOCATED;
-        }
-        let at = 21 + text.count;
-        if piece[at] == b',' && begins(&piece[at + 1..], b" \"coordinates\": ", 16) {
-            return UsualLocated {
-                count: at + 17,
-                bracket: 12,
-                word_at: 21,
-                word: text.word,
-                coordinates: at + 2,
-            };
-        }
+    let word_at = spaced_word_at(piece);
+    if word_at == 0 {
+        return NOT_LOCATED;
+    }
+    let text = usual_text(&piece[word_at..]);
+    if text.count == 0 {
+        return NOT_LOCATED;
+    }
+    let at = word_at + text.count;
+    if piece[at] == b',' && begins(&piece[at + 1..], b" \"coordinates\": ", 16) {
+        return UsualLocated {
+            count: at + 17,
+            bracket: 12,
+            name_at: word_at - 8,
+            word_at,
+            word: text.word,
+            coordinates: at + 2,
+        };
     }
     NOT_LOCATED
 }
@@ -207,10 +275,11 @@ fn spaced_located(piece: &[u8]) -> UsualLocated
 #[inline(always)]
 pub fn usual_located(piece: &[u8]) -> UsualLocated
     ensures within { result.count ≤ length piece.now }
-    ensures on { 0 < result.count → result.bracket < result.word_at }
+    ensures on { 0 < result.count → result.bracket < result.name_at }
+    ensures name { 0 < result.count → result.name_at < result.word_at }
     ensures word_few { result.word_at ≤ result.count }
     ensures few { result.coordinates ≤ result.count }
-    ensures usual { 0 < result.count → IsLocated piece.now result.count result.bracket result.word_at result.coordinates result.word }
+    ensures usual { 0 < result.count → IsLocated piece.now result.count result.bracket result.name_at result.word_at result.coordinates result.word }
 {
     if piece.len() < ROOM {
         return NOT_LOCATED;

@@ -4,7 +4,7 @@ ghost use Rattle.std.specs.Prelude.{◌≡◌, ℕ, ◌≤◌, ◌<◌, ◌∷�
 use crate::cut_position::CutPosition;
 use crate::event::{Event, What};
 use crate::flat::Flat;
-use crate::head::{Head, Located};
+use crate::head::{Head, Located, Typed};
 use crate::names::{Known, Word};
 use arrayvec::ArrayVec;
 
@@ -17,7 +17,7 @@ pub trait EventSink {
     ghost use Rattle.gj_json.specs.Flat.{flat_events};
     ghost use Rattle.gj_json.specs.declared.flat.Flat.{Flat};
     ghost use Rattle.gj_json.specs.CutPosition.{AreCutPositions, Rise, flats_events};
-    ghost use Rattle.gj_json.specs.Head.{head_events, point_events};
+    ghost use Rattle.gj_json.specs.Head.{head_events, typed_events, point_events};
     ghost use Rattle.gj_json.specs.declared.names.Word.{Word};
     ghost use Rattle.gj_json.specs.Ignored.{Leaves};
 
@@ -67,42 +67,36 @@ pub trait EventSink {
         0
     }
 
+    /// The bracket, the name and the type of an object that begins by its type.
+    fn tell_typed(&mut self, typed: Typed)
+        ensures { (events : List Event) → heard self.old events → heard self.new (events ++ typed_events typed) }
+    {
+        self.tell(Event {
+            place: typed.place,
+            what: What::OpenObject,
+        });
+        self.tell(Event {
+            place: typed.name_at,
+            what: What::Name(Known::TypeName),
+        });
+        self.tell(Event {
+            place: typed.word_at,
+            what: What::Text(typed.word),
+        });
+    }
+
     /// When the beginning of an object is reported at once, it has heard the same as by its events in turn.
     fn tell_head(&mut self, head: Head)
         ensures { (events : List Event) → heard self.old events → heard self.new (events ++ head_events head) }
     {
         match head {
-            Head::Object(typed) => {
-                self.tell(Event {
-                    place: typed.place,
-                    what: What::OpenObject,
-                });
-                self.tell(Event {
-                    place: typed.place + 1,
-                    what: What::Name(Known::TypeName),
-                });
-                self.tell(Event {
-                    place: typed.word_at,
-                    what: What::Text(typed.word),
-                });
-            }
+            Head::Object(typed) => self.tell_typed(typed),
             Head::Geometry(located) => {
                 self.tell(Event {
                     place: located.place,
                     what: What::Name(Known::Geometry),
                 });
-                self.tell(Event {
-                    place: located.typed.place,
-                    what: What::OpenObject,
-                });
-                self.tell(Event {
-                    place: located.typed.place + 1,
-                    what: What::Name(Known::TypeName),
-                });
-                self.tell(Event {
-                    place: located.typed.word_at,
-                    what: What::Text(located.typed.word),
-                });
+                self.tell_typed(located.typed);
                 self.tell(Event {
                     place: located.coordinates,
                     what: What::Name(Known::Coordinates),

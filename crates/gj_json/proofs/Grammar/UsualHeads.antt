@@ -6,35 +6,37 @@ use Rattle.std.specs.List.{AllByRecursion}
 use Rattle.gj_json.specs.Bytes.{IsWhite, open_brace, comma}
 use Rattle.gj_json.specs.declared.names.Word.{Word}
 use Rattle.gj_json.specs.Internal.FlatParts.{cut}
-use Rattle.gj_json.specs.Internal.WholeHeads.{named, IsLocated, IsTyped}
+use Rattle.gj_json.specs.Internal.WholeHeads.{named, before_type, IsLocated, IsTyped}
 use Rattle.gj_json.specs.Internal.WholeTokens.{IsUsualText}
 use Rattle.gj_json.proofs.Pieces.PieceRests.{rest_of}
 
--- the bytes up to the type, and those after it
-abbrev pub before_type : List ℕ → List ℕ
-before_type gap = named (codes "geometry") gap ++ (open_brace ∷ named (codes "type") gap)
-
+-- the bytes after the type
 abbrev pub after_type : List ℕ → List ℕ
 after_type gap = comma ∷ (gap ++ named (codes "coordinates") gap)
 
-in_parts : (a b c d text gap last : List ℕ) → a ≡ b ++ (open_brace ∷ c) → d ≡ comma ∷ (gap ++ last)
-    → (a ++ text) ++ d ≡ b ++ ((open_brace ∷ (c ++ (text ++ (comma ∷ gap)))) ++ last)
-in_parts a b c d text gap last e f = rw (e, f) (simp append_assoc)
+in_parts : (a b i c d text gap last : List ℕ) → a ≡ b ++ (open_brace ∷ (i ++ c)) → d ≡ comma ∷ (gap ++ last)
+    → (a ++ text) ++ d ≡ b ++ ((open_brace ∷ (i ++ (c ++ (text ++ (comma ∷ gap))))) ++ last)
+in_parts a b i c d text gap last e f = rw (e, f) (simp append_assoc)
 
-pub located_by : (gap piece : List ℕ) (a n b coordinates : ℕ) (word : Word) → AllByRecursion IsWhite gap → take a piece ≡ before_type gap
-    → a ≡ length (before_type gap) → IsUsualText (take (length piece - a) (drop a piece)) n word
+pub located_by : (inside gap piece : List ℕ) (a n b name_at coordinates : ℕ) (word : Word) → AllByRecursion IsWhite inside → AllByRecursion IsWhite gap
+    → take a piece ≡ before_type inside gap → a ≡ length (before_type inside gap) → IsUsualText (take (length piece - a) (drop a piece)) n word
     → n ≤ length (take (length piece - a) (drop a piece)) → take b (drop (a + n) piece) ≡ after_type gap
-    → coordinates ≡ a + n + 1 + length gap → IsLocated piece (a + n + b) (length (named (codes "geometry") gap)) a coordinates word
-located_by gap piece a n b coordinates word white front long usual few rear place =
+    → coordinates ≡ a + n + 1 + length gap → a ≡ name_at + length (named (codes "type") gap)
+    → IsLocated piece (a + n + b) (length (named (codes "geometry") gap)) name_at a coordinates word
+located_by inside gap piece a n b name_at coordinates word white_inside white front long usual few rear place name =
     let P : List ℕ → Type 0 = λ xs. IsUsualText xs n word in
     let u : IsUsualText (drop a piece) n word = subst P (rest_of piece a) usual in
     let text = take n (drop a piece) in
     let w : length text ≡ n = length-take-le n (drop a piece) (omega (arith, few, ap length (rest_of piece a))) in
-    let object = open_brace ∷ (named (codes "type") gap ++ (text ++ (comma ∷ gap))) in
+    let first = named (codes "geometry") gap in
+    let last = named (codes "type") gap in
+    let object = open_brace ∷ (inside ++ (last ++ (text ++ (comma ∷ gap)))) in
     let split : take (a + n + b) piece ≡ (take a piece ++ text) ++ take b (drop (a + n) piece) =
     take-add (a + n) b piece ∙ ap (λ xs. xs ++ take b (drop (a + n) piece)) (take-add a n piece) in
     record {
+      inside = inside;
       gap = gap;
+      white_inside = white_inside;
       white = white;
       object_bytes = object;
       begins = record {
@@ -43,26 +45,28 @@ located_by gap piece a n b coordinates word white front long usual few rear plac
         is_quoted = u.quoted;
         known_as = u.known_as;
         spelled = refl;
-        word_place = omega (arith, long, length-append (named (codes "geometry") gap) (open_brace ∷ named (codes "type") gap));
+        name_place = omega (arith, name, long, length-append first (open_brace ∷ (inside ++ last)), length-append inside last);
+        word_place = name;
       };
       spelled = split
-          ∙ in_parts (take a piece) (named (codes "geometry") gap) (named (codes "type") gap) (take b (drop (a + n) piece)) text gap
-          (named (codes "coordinates") gap) front rear;
+          ∙ in_parts (take a piece) first inside last (take b (drop (a + n) piece)) text gap (named (codes "coordinates") gap) front rear;
       bracket_place = refl;
       coordinates_place = omega (
         arith,
         place,
         long,
         w,
-        length-append (named (codes "geometry") gap) (open_brace ∷ named (codes "type") gap),
-        length-append (named (codes "type") gap) (text ++ (comma ∷ gap)),
+        length-append first (open_brace ∷ (inside ++ last)),
+        length-append inside last,
+        length-append inside (last ++ (text ++ (comma ∷ gap))),
+        length-append last (text ++ (comma ∷ gap)),
         length-append text (comma ∷ gap),
       );
     }
 
 pub typed_by : (piece : List ℕ) (a n : ℕ) (word : Word) → take a piece ≡ open_brace ∷ named (codes "type") []
     → a ≡ length (open_brace ∷ named (codes "type") []) → IsUsualText (take (length piece - a) (drop a piece)) n word
-    → n ≤ length (take (length piece - a) (drop a piece)) → a + n < length piece → get_or piece (a + n) 0 ≡ comma → IsTyped piece (a + n + 1) a word
+    → n ≤ length (take (length piece - a) (drop a piece)) → a + n < length piece → get_or piece (a + n) 0 ≡ comma → IsTyped piece (a + n + 1) 1 a word
 typed_by piece a n word front long usual few within ends =
     let P : List ℕ → Type 0 = λ xs. IsUsualText xs n word in
     let u : IsUsualText (drop a piece) n word = subst P (rest_of piece a) usual in
@@ -70,7 +74,9 @@ typed_by piece a n word front long usual few within ends =
     let split : take (a + n + 1) piece ≡ (take a piece ++ text) ++ comma ∷ [] =
     take_more piece (a + n) 0 within ∙ ap (λ b. take (a + n) piece ++ b ∷ []) ends ∙ ap (λ xs. xs ++ comma ∷ []) (take-add a n piece) in
     record {
+      inside = [];
       gap = [];
+      white_inside = tt;
       white = tt;
       begins = record {
         content = cut (drop a piece) 1 (n - 1);
@@ -78,6 +84,7 @@ typed_by piece a n word front long usual few within ends =
         is_quoted = u.quoted;
         known_as = u.known_as;
         spelled = split ∙ ap (λ xs. (xs ++ text) ++ comma ∷ []) front ∙ append_assoc (open_brace ∷ named (codes "type") []) text (comma ∷ []);
+        name_place = refl;
         word_place = long;
       };
     }

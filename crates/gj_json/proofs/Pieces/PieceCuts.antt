@@ -1,5 +1,5 @@
 -- The bytes of a piece from one index up to another.
-use Rattle.std.proofs.Common.{◌≡◌, ℕ, suc, ◌+◌, ◌-◌, ◌≤◌, ◌<◌, List, ◌∷◌, ◌++◌, get_or, length, take, drop, take-add, ap, sym, ◌∙◌, arith}
+use Rattle.std.proofs.Common.{◌≡◌, ℕ, suc, ◌+◌, ◌-◌, ◌≤◌, ◌<◌, List, [], ◌∷◌, ◌++◌, get_or, length, take, drop, take-add, ap, sym, ◌∙◌, arith}
 use Rattle.std.proofs.lemmas.List.{drop-drop, length-drop, length-take-le}
 use Rattle.std.proofs.Math.Seq.{drop-cons}
 use Rattle.gj_json.specs.Internal.FlatParts.{cut}
@@ -20,6 +20,13 @@ cut_byte piece a c w v =
     let e : c - a ≡ suc (c - (a + 1)) = omega arith in
     let f : suc a ≡ a + 1 = omega arith in
     ap (λ n. take n (drop a piece)) e ∙ ap (λ xs. take (suc (c - (a + 1))) xs) (drop-cons piece a 0 w ∙ ap (λ n. get_or piece a 0 ∷ drop n piece) f)
+
+-- none of them, and one
+pub cut_none : (piece : List ℕ) (a : ℕ) → cut piece a a ≡ []
+cut_none piece a = let e : a - a ≡ 0 = omega arith in ap (λ n. take n (drop a piece)) e
+
+pub cut_one : (piece : List ℕ) (a : ℕ) → a < length piece → cut piece a (a + 1) ≡ get_or piece a 0 ∷ []
+cut_one piece a w = cut_byte piece a (a + 1) w (omega arith) ∙ ap (λ xs. get_or piece a 0 ∷ xs) (cut_none piece (a + 1))
 
 -- a prefix of the rest of a piece
 pub cut_front : (piece : List ℕ) (at n : ℕ) → cut piece at (at + n) ≡ take n (take (length piece - at) (drop at piece))

@@ -1,11 +1,10 @@
 //! The beginnings of features and geometries, taken at once.
 
 ghost use Rattle.std.specs.Prelude.{◌≡◌, ◌+◌, ◌^◌, ◌≤◌, ◌<◌, true, length, take, get_or, None};
-ghost use Rattle.gj_json.specs.Bytes.{open_bracket, open_brace, close_brace};
-ghost use Rattle.gj_json.specs.Internal.FlatParts.{awaits, cut};
+ghost use Rattle.gj_json.specs.Bytes.{open_bracket, open_brace};
+ghost use Rattle.gj_json.specs.Internal.FlatParts.{awaits};
 ghost use Rattle.gj_json.specs.Internal.OpenLevels.{levels_in};
-ghost use Rattle.gj_json.specs.Internal.SpelledNumbers.{IsFlat};
-ghost use Rattle.gj_json.specs.Internal.WholeHeads.{IsFound, IsLocatedAt};
+ghost use Rattle.gj_json.specs.Internal.WholeHeads.{IsEnclosed, IsFound, IsLocatedAt};
 ghost use Rattle.gj_json.specs.Internal.WholeTokens.{names};
 ghost use Rattle.gj_json.specs.declared.limits.TheConstants.{MOST_LEVELS};
 ghost use Rattle.gj_json.specs.declared.mode.Mode.TheVariants.{ValueDone};
@@ -19,29 +18,32 @@ use crate::flats::read_flat;
 use crate::gaps::Gaps;
 use crate::head::{Head, Located, Opened, Typed};
 use crate::heads::{
-    UsualLocated, following_typed, next_typed, properties_run, usual_located, usual_typed,
+    UsualLocated, following_typed, gap_end, properties_run, usual_located, usual_typed,
 };
 use crate::levels::Level;
 use crate::mode::Mode;
 use crate::names::Word;
 use crate::sink::EventSink;
 
-/// Whether a byte looks like the first of the name of an object's type.
+/// Whether a byte looks like the first of the name of an object's type, with a space before the name or none.
 #[inline(always)]
 fn may_be_typed(piece: &[u8]) -> bool {
-    piece.len() > 2 && piece[2] == b't'
+    piece.len() > 3 && (piece[2] == b't' || piece[3] == b't')
 }
 
-/// Whether two bytes look like the end of a feature, after the byte that ends its last member.
+/// Whether two bytes look like the end of a feature, after the byte that ends its last member, with a space before it or none.
 #[inline(always)]
 fn may_end_feature(piece: &[u8]) -> bool {
-    piece.len() > 2 && piece[1] == b'}' && piece[2] == b','
+    piece.len() > 2
+        && (piece[1] == b'}' && piece[2] == b',' || piece[1] == b' ' && piece[2] == b'}')
 }
 
-/// Whether a few bytes look like the name of a geometry, with a name right after the bracket of its object.
+/// Whether a few bytes look like the name of a geometry, with a name after the bracket of its object.
 #[inline(always)]
 fn may_be_geometry(piece: &[u8]) -> bool {
-    piece.len() > 13 && piece[1] == b'g' && (piece[12] == b'"' || piece[13] == b'"')
+    piece.len() > 14
+        && piece[1] == b'g'
+        && (piece[12] == b'"' || piece[13] == b'"' || piece[14] == b'"')
 }
 
 /// Whether a few bytes look like the name `properties` with the bracket of an object after it.
@@ -50,16 +52,14 @@ fn may_be_properties(piece: &[u8]) -> bool {
     piece.len() > 14 && piece[1] == b'p' && (piece[13] == b'{' || piece[14] == b'{')
 }
 
-/// Reads the position of a Point that stands at an index, right before the bracket that closes its object, in a piece that begins at
-/// the place `start`: the index of that bracket, or 0.
+/// Reads the position of a Point that stands at an index, before the bracket that closes its object, in a piece that begins at the
+/// place `start`: the index of that bracket, or 0. A byte of white space may stand between them.
 #[inline(always)]
 fn point_end(piece: &[u8], at: usize, start: u64, flat: &mut Flat) -> usize
     requires within { at ≤ length piece.now }
     requires small { start + length piece.now ≤ 2 ^ 60 }
-    ensures on { 0 < result → at < result }
     ensures within { 0 < result → result < length piece.now }
-    ensures bracket { 0 < result → get_or piece.now result 0 ≡ close_brace }
-    ensures flat { 0 < result → IsFlat flat.new (start + at) (cut piece.now at result) }
+    ensures enclosed { 0 < result → IsEnclosed flat.new start at result piece.now }
 {
     let rest = &piece[at..];
     if !begins_array(rest) {
@@ -68,11 +68,11 @@ fn point_end(piece: &[u8], at: usize, start: u64, flat: &mut Flat) -> usize
     let Some(count) = read_flat(rest, start + at as u64, &mut Gaps::none(), flat) else {
         return 0;
     };
-    let end = at + count;
-    if end >= piece.len() || piece[end] != b'}' {
+    let close = gap_end(piece, at + count);
+    if close >= piece.len() || piece[close] != b'}' {
         return 0;
     }
-    end
+    close
 }
 
 impl Reader {
@@ -97,6 +97,7 @@ impl Reader {
         }
         sink.tell_head(Head::Object(Typed {
             place: self.offset,
+            name_at: self.offset + typed.name_at as u64,
             word_at: self.offset + typed.word_at as u64,
             word: typed.word,
         }));
@@ -104,7 +105,7 @@ impl Reader {
         self.skip(typed.count, Mode::NameDue)
     }
 
-    /// Takes the beginning of an object. A look at one byte mostly shows whether it may begin by its type.
+    /// Takes the beginning of an object. A look at two bytes mostly shows whether it may begin by its type.
     #[inline(always)]
     pub(super) fn take_object<S: EventSink>(&mut self, piece: &[u8], sink: &mut S) -> usize
         requires some { 0 < length piece.now }
@@ -134,25 +135,11 @@ impl Reader {
         ensures within { result ≤ length piece.now }
         ensures feeds { FeedsAll (S.heard sink.old) (S.heard sink.new) self.old self.new (take result piece.now) }
     {
-        let typed = next_typed(piece);
-        if typed.count == 0 || !self.levels.is_in_feature() {
+        if piece[0] != b'}' || !self.levels.is_in_feature() {
             return self.take_end(piece, sink);
         }
-        sink.tell(Event {
-            place: self.offset,
-            what: What::CloseObject,
-        });
-        sink.tell(Event {
-            place: self.offset + 1,
-            what: What::CloseObject,
-        });
-        sink.tell_head(Head::Object(Typed {
-            place: self.offset + 3,
-            word_at: self.offset + 3 + typed.word_at as u64,
-            word: typed.word,
-        }));
-        self.levels.pop();
-        self.skip(3 + typed.count, Mode::NameDue)
+        let taken = self.take_close(Level::Object, 1, sink);
+        taken + self.take_feature_end(&piece[taken..], sink)
     }
 
     /// Takes the end of an object. A look at two bytes mostly shows whether a feature may end there.
@@ -207,27 +194,30 @@ impl Reader {
         ensures within { result ≤ length piece.now }
         ensures feeds { FeedsAll (S.heard sink.old) (S.heard sink.new) self.old self.new (take result piece.now) }
     {
-        let typed = following_typed(piece);
-        if typed.count == 0 || !self.levels.is_in_element() {
+        let next = following_typed(piece);
+        if next.typed.count == 0 || !self.levels.is_in_element() {
             return 0;
         }
         sink.tell(Event {
-            place: self.offset,
+            place: self.offset + next.close as u64,
             what: What::CloseObject,
         });
+        let place = self.offset + next.at as u64;
         sink.tell_head(Head::Object(Typed {
-            place: self.offset + 2,
-            word_at: self.offset + 2 + typed.word_at as u64,
-            word: typed.word,
+            place,
+            name_at: place + next.typed.name_at as u64,
+            word_at: place + next.typed.word_at as u64,
+            word: next.typed.word,
         }));
-        self.skip(2 + typed.count, Mode::NameDue)
+        self.skip(next.at + next.typed.count, Mode::NameDue)
     }
 
     /// The beginning of a member `geometry`, which starts at the next byte.
     #[inline(always)]
     fn located_here(&self, usual: &UsualLocated) -> Located
         requires within { self.now.offset + usual.now.count ≤ 2 ^ 60 }
-        requires bracket { usual.now.bracket < usual.now.word_at }
+        requires bracket { usual.now.bracket < usual.now.name_at }
+        requires name { usual.now.name_at < usual.now.word_at }
         requires word { usual.now.word_at ≤ usual.now.count }
         requires coordinates { usual.now.coordinates ≤ usual.now.count }
         ensures { IsLocatedAt self.now.offset usual.now result }
@@ -236,6 +226,7 @@ impl Reader {
             place: self.offset,
             typed: Typed {
                 place: self.offset + usual.bracket as u64,
+                name_at: self.offset + usual.name_at as u64,
                 word_at: self.offset + usual.word_at as u64,
                 word: usual.word,
             },

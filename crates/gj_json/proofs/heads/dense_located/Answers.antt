@@ -11,5 +11,5 @@ returns-then-begins-clause-usual c = λ some.
     let text = c.usual_text-text.result in
     let at = 19 + text.count in
     let rear : take 15 (drop at piece) ≡ after_type [] = ap (take 15) (sym (rest_of piece at)) ∙ same_bytes _ _ c.if-begins.ensures in
-    located_by [] piece 19 text.count 15 (at + 1) text.word tt (same_bytes _ _ c.if-begins_long.ensures) refl
-    (c.usual_text-text.ensures.usual (omega arith)) c.usual_text-text.ensures.within rear (omega arith)
+    located_by [] [] piece 19 text.count 15 12 (at + 1) text.word tt tt (same_bytes _ _ c.if-begins_long.ensures) refl
+    (c.usual_text-text.ensures.usual (omega arith)) c.usual_text-text.ensures.within rear (omega arith) refl

@@ -1,5 +1,5 @@
 -- The beginning of a member, by its bytes, with spaces.
-use Rattle.std.proofs.Common.{◌≡◌, ◌+◌, inl, [], ◌∷◌, codes, take, drop, suc, refl, sym, ap, ap₂, ◌∙◌, arith}
+use Rattle.std.proofs.Common.{◌≡◌, ◌+◌, ◌-◌, inl, [], ◌∷◌, codes, take, drop, suc, refl, sym, ap, ap₂, ◌∙◌, arith}
 use Rattle.std.proofs.Math.Seq.{drop-cons}
 use Rattle.gj_json.specs.Bytes.{space}
 use Rattle.gj_json.proofs.Grammar.UsualHeads.{located_by, after_type}
@@ -10,12 +10,16 @@ use Rattle.gj_json.proofs.heads.spaced_located.Goals as goal
 pub returns-then-begins-clause-usual : goal.returns-then-begins-clause-usual
 returns-then-begins-clause-usual c = λ some.
     let piece = c.args.piece.now in
+    let word_at = c.spaced_word_at-word_at.result in
     let text = c.usual_text-text.result in
-    let at = 21 + text.count in
+    let to = c.spaced_word_at-word_at.ensures.spaced (omega arith) in
+    let far = c.spaced_word_at-word_at.ensures.far (omega arith) in
+    let at = word_at + text.count in
     let next : suc at ≡ at + 1 = omega arith in
     let name : take 16 (drop (suc at) piece) ≡ codes " \"coordinates\": " =
     ap (λ k. take 16 (drop k piece)) next ∙ ap (take 16) (sym (rest_of piece (at + 1))) ∙ same_bytes _ _ c.if-begins.ensures in
     let rear : take 17 (drop at piece) ≡ after_type (space ∷ []) =
-    ap (take 17) (drop-cons piece at 0 (omega (arith, c.requires.room, c.usual_text-text.ensures.short))) ∙ ap₂ (λ x xs. x ∷ xs) c.if-piece-at-eq44.true name in
-    located_by (space ∷ []) piece 21 text.count 17 (at + 2) text.word (inl refl, tt) (same_bytes _ _ c.if-begins_long.ensures) refl
-    (c.usual_text-text.ensures.usual (omega arith)) c.usual_text-text.ensures.within rear (omega arith)
+    ap (take 17) (drop-cons piece at 0 (omega (arith, c.requires.room, c.usual_text-text.ensures.short, c.spaced_word_at-word_at.ensures.near)))
+    ∙ ap₂ (λ x xs. x ∷ xs) c.if-piece-at-eq44.true name in
+    located_by to.inside (space ∷ []) piece word_at text.count 17 (word_at - 8) (at + 2) text.word to.white_inside (inl refl, tt) to.spelled to.long
+    (c.usual_text-text.ensures.usual (omega arith)) c.usual_text-text.ensures.within rear (omega arith) (omega (arith, far))

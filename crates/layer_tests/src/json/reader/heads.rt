@@ -4,8 +4,9 @@ use super::flats::{expect_same, padded};
 use gj_json::Limits;
 use std::process::Abort;
 
-/// A feature and its members without white space, the same with spaces, a name that is twice there, and other orders.
-static TEXTS: [&str; 11] = [
+/// A feature and its members without white space, the same with spaces, a name that is twice there, other orders, and spaces inside
+/// brackets with a feature on each line.
+static TEXTS: [&str; 16] = [
     "[{\"type\":\"Feature\",\"id\":1},{\"type\":\"Feature\",\"geometry\":{\"type\":\"Point\",\"coordinates\":[1,2]}}]",
     "[{\"type\": \"Feature\", \"geometry\": {\"type\": \"LineString\", \"coordinates\": [[1, 2], [3, 4]]}}]",
     "{\"geometry\":{\"type\":\"Polygon\",\"coordinates\":[[]]},\"geometry\":{\"type\":\"Feature\",\"coordinates\":{}}}",
@@ -17,12 +18,17 @@ static TEXTS: [&str; 11] = [
     "{\"properties\":{\"a\":[1]},\"properties\": {\"b\":2},\"geometry\":{\"type\":\"Point\",\"coordinates\":[1,2]}}",
     "[{\"geometry\":{\"type\":\"Point\",\"coordinates\":[1,2]}},{\"type\":\"Feature\",\"geometry\": {\"type\": \"Point\", \"coordinates\": [1, 2]}}]",
     "{\"geometry\":{\"type\":\"MultiPoint\",\"coordinates\":[]},\"g\":{\"type\":\"Pointy\",\"coordinates\":[]}}",
+    "[\n{ \"type\": \"Feature\", \"properties\": { \"n\": 5 }, \"geometry\": { \"type\": \"Point\", \"coordinates\": [ 12.5, 41.9 ] } }\n]",
+    "[{ \"geometry\": { \"type\": \"Point\", \"coordinates\": [ 1, 2 ] } },\n{ \"type\": \"Feature\", \"id\": 1 }\n]",
+    "[{ \"a\": { \"b\": 1 } },\n{ \"type\": \"Feature\", \"geometry\": { \"type\": \"LineString\", \"coordinates\": [ [ 1, 2 ] ] } }\n]",
+    "[{\"geometry\": {\"type\": \"Point\", \"coordinates\": [1, 2]}}, {\"type\": \"Feature\", \"c\": {\"d\": 1}}]",
+    "[{\"d\": {\"e\": 0}}, {\"type\": \"Feature\", \"f\": {\"g\": 1} } ,{ \"type\": \"Feature\", \"h\": {\"i\": 2}}]",
 ];
 
 /// Each byte changed to each of these.
 fn expect_each(rt: &impl Abort, limits: Limits, text: &str) {
     for index in 0..text.len() {
-        for byte in b"\"\\,:}] gtFn{" {
+        for byte in b"\"\\,:}] gtFn{\n" {
             let mut piece = padded(text.as_bytes());
             if index < 128 {
                 piece[index] = *byte;

@@ -36,7 +36,7 @@ fn expect(rt: &impl Abort, text: &str, expected: Verdict) {
     }
 }
 
-static HEADS: [(&str, Wanted); 21] = [
+static HEADS: [(&str, Wanted); 24] = [
     (
         "{\"type\":\"Feature\",\"properties\":null,\"geometry\":{\"type\":\"Point\",\"coordinates\":[1,2]}}",
         Valid(&[]),
@@ -139,6 +139,21 @@ static HEADS: [(&str, Wanted); 21] = [
     (
         "{\"type\":\"FeatureCollection\",\"features\":[{\"type\":\"Feature\",\"geometry\":null,\"properties\":{\"ab\":1}},{\"type\":\"Feature\",\"geometry\":null,\"properties\":{\"ab':2}}]}",
         NotJson(Cause::Truncated, 256),
+    ),
+    // A space inside each bracket, and each feature on a line.
+    (
+        "{\n\"type\": \"FeatureCollection\",\n\"features\": [\n{ \"type\": \"Feature\", \"properties\": { \"n\": 5 }, \"geometry\": { \"type\": \"Point\", \"coordinates\": [ 12.5, 41.9 ] } },\n{ \"type\": \"Feature\", \"properties\": { }, \"geometry\": null }\n]\n}",
+        Valid(&[]),
+    ),
+    // A Feature is no geometry, with spaces inside the brackets.
+    (
+        "{ \"type\": \"Feature\", \"properties\": null, \"geometry\": { \"type\": \"Feature\", \"coordinates\": [ 1, 2 ] } }",
+        Broken(Rule::G3, 63),
+    ),
+    // The same in the second feature, on a line of its own.
+    (
+        "{ \"type\": \"FeatureCollection\", \"features\": [\n{ \"type\": \"Feature\", \"properties\": null, \"geometry\": { \"type\": \"Point\", \"coordinates\": [ 1, 2 ] } },\n{ \"type\": \"Feature\", \"properties\": null, \"geometry\": { \"type\": \"Feature\", \"coordinates\": [ 1, 2 ] } }\n] }",
+        Broken(Rule::G3, 209),
     ),
 ];
 

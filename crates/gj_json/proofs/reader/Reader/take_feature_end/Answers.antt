@@ -2,7 +2,7 @@
 use Rattle.std.proofs.Common.{◌≡◌, ◌∷◌, ◌++◌, [], List, subst, append_assoc, ap, ◌∙◌, arith}
 use Rattle.gj_json.specs.declared.event.Event.{Event}
 use Rattle.gj_json.specs.Internal.OpenLevels.{levels_in, outer_of}
-use Rattle.gj_json.proofs.Pieces.TakenHeads.{two_bytes, following_taken}
+use Rattle.gj_json.proofs.Pieces.TakenHeads.{following_taken}
 use Rattle.gj_json.proofs.reader.Reader.take_feature_end.Goals as goal
 
 four : (xs : List Event) (a b c d : Event) → (xs ++ a ∷ []) ++ (b ∷ c ∷ d ∷ []) ≡ xs ++ (a ∷ b ∷ c ∷ d ∷ [])
@@ -10,17 +10,14 @@ four xs a b c d = simp append_assoc
 
 pub returns-clause-feeds : goal.returns-clause-feeds
 returns-clause-feeds g c =
-    let typed = c.following_typed-typed.result in
-    let found = c.following_typed-typed.ensures in
-    let piece = c.args.piece.now in
+    let next = c.following_typed-next.result in
+    let found = c.following_typed-next.ensures in
     let p = c.skip.ensures.passed in
     let inside = c.is_in_element.ensures c.if-not-is_in_element.false in
     let H : List Event → Type 0 = λ es. g.S.EventSink.heard c.tell_head.new.self es in
     rw (c.skip.ensures.count)
-    (following_taken c.args.self.now c.skip.new.self piece typed.count typed.word_at typed.word (outer_of (outer_of (levels_in c.args.self.now.levels)))
-    c.requires.live c.requires.done c.requires.room (found.within (omega arith))
-    (two_bytes piece _ _ (omega (arith, found.within (omega arith))) (found.bracket (omega arith)) (found.comma (omega arith))) inside
-    (found.usual (omega arith))
+    (following_taken c.args.self.now c.skip.new.self c.args.piece.now next (outer_of (outer_of (levels_in c.args.self.now.levels)))
+    c.requires.live c.requires.done c.requires.room (found.within (omega arith)) inside (found.follows (omega arith))
     (record {
       limits = p.limits;
       fault = p.fault;

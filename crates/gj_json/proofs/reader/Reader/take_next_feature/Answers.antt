@@ -1,30 +1,28 @@
--- The end of a feature, and the beginning of the next.
-use Rattle.std.proofs.Common.{◌≡◌, ◌∷◌, ◌++◌, [], List, subst, append_assoc, ap, ◌∙◌, arith}
-use Rattle.gj_json.specs.declared.event.Event.{Event}
-use Rattle.gj_json.specs.Internal.OpenLevels.{levels_in, outer_of}
-use Rattle.gj_json.proofs.Pieces.TakenHeads.{next_taken}
+-- The end of the last member of a feature, and what follows it.
+use Rattle.std.proofs.Common.{◌≡◌, get_or, refl, ap, ◌∙◌, sym, arith}
+use Rattle.gj_json.specs.Bytes.{close_brace}
+use Rattle.gj_json.specs.declared.class.Class.TheVariants.{CloseObject as close_class}
+use Rattle.gj_json.specs.declared.levels.Level.TheVariants.{Object}
+use Rattle.gj_json.specs.declared.mode.Move.TheVariants.{Close}
+use Rattle.gj_json.specs.Internal.ByteClasses.{class_of}
+use Rattle.gj_json.specs.Internal.OpenLevels.{levels_in, inner_of}
+use Rattle.gj_json.specs.Internal.Transitions.{after_move}
+use Rattle.gj_json.proofs.Grammar.ClassOfBytes.{class_is}
+use Rattle.gj_json.proofs.Pieces.TakenTokens.{end_closes}
+use Rattle.gj_json.proofs.Readers.CallsInTurn.{piece_all, rest_all}
 use Rattle.gj_json.proofs.reader.Reader.take_next_feature.Goals as goal
-
-five : (xs : List Event) (a b c d e : Event) → ((xs ++ a ∷ []) ++ b ∷ []) ++ (c ∷ d ∷ e ∷ []) ≡ xs ++ (a ∷ b ∷ c ∷ d ∷ e ∷ [])
-five xs a b c d e = simp append_assoc
 
 pub returns-clause-feeds : goal.returns-clause-feeds
 returns-clause-feeds g c =
-    let typed = c.next_typed-typed.result in
-    let p = c.skip.ensures.passed in
-    let levels = levels_in c.args.self.now.levels in
+    let reader = c.args.self.now in
+    let mid = c.take_close-taken.new.self in
+    let last = c.take_feature_end in
+    let piece = c.args.piece.now in
     let inside = c.is_in_feature.ensures c.if-not-is_in_feature.false in
-    let H : List Event → Type 0 = λ es. g.S.EventSink.heard c.tell_head.new.self es in
-    rw (c.skip.ensures.count)
-    (next_taken c.args.self.now c.skip.new.self c.args.piece.now typed.count typed.word_at typed.word (outer_of (outer_of (outer_of levels)))
-    c.requires.live c.requires.done c.requires.room (c.next_typed-typed.ensures.within (omega arith)) (c.next_typed-typed.ensures.ends (omega arith)) inside
-    (c.next_typed-typed.ensures.usual (omega arith))
-    (record {
-      limits = p.limits;
-      fault = p.fault;
-      offset = p.offset;
-      mode_is = p.mode_is;
-      levels_are =
-          ap levels_in p.levels ∙ c.pop.ensures ∙ ap outer_of inside;
-    })
-    (λ events h. subst H (five events _ _ _ _ _) (c.tell_head.ensures _ (c.tell-2.ensures _ (c.tell.ensures events h)))))
+    let closes : class_of (get_or piece 0 0) ≡ close_class = ap class_of c.if-piece-ne125.false ∙ class_is close_class close_brace refl (λ e. cc) in
+    let made : after_move (inner_of (levels_in reader.levels)) (class_of (get_or piece 0 0)) ≡ Close Object = rw (inside, closes) refl in
+    piece_all reader mid last.new.self piece c.take_close-taken.result last.result
+    (rw (c.take_close-taken.ensures.count)
+    (end_closes reader mid piece Object c.requires.some c.requires.live c.requires.done c.requires.room made c.take_close-taken.ensures.lands
+    (λ events h. c.take_close-taken.ensures.heard events h)))
+    (rest_all mid last.new.self piece c.take_close-taken.result last.result last.ensures.feeds)

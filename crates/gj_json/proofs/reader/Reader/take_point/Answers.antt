@@ -17,7 +17,7 @@ returns-clause-feeds g c =
     piece_all reader mid last.new.self piece c.skip-taken.result last.result
     (rw (c.skip-taken.ensures.count)
     (point_taken reader mid piece c.args.usual.now c.located_here.result c.point_end-end.new.flat end c.requires.live c.requires.due c.requires.room
-    (omega (arith, c.if-len-depth.false, c.len.ensures.value, c.depth.ensures.value)) c.requires.found c.located_here.ensures (found.on (omega arith))
-    (found.within (omega arith)) (found.bracket (omega arith)) (found.flat (omega arith))
+    (omega (arith, c.if-len-depth.false, c.len.ensures.value, c.depth.ensures.value)) c.requires.found c.located_here.ensures
+    (found.within (omega arith)) (found.enclosed (omega arith))
     (passed_lands (end + 1) ValueDone reader mid c.skip-taken.ensures.passed) (λ events h. c.tell_point.ensures events h)))
     (rest_all mid last.new.self piece c.skip-taken.result last.result last.ensures.feeds)

@@ -1,0 +1,21 @@
+-- The beginning of a member up to its type, by its bytes.
+use Rattle.std.proofs.Common.{inl, [], ◌∷◌, refl}
+use Rattle.gj_json.specs.Bytes.{space}
+use Rattle.gj_json.proofs.Grammar.UsualTokens.{same_bytes}
+use Rattle.gj_json.proofs.heads.spaced_word_at.Goals as goal
+
+pub returns-then-begins_long-clause-spaced : goal.returns-then-begins_long-clause-spaced
+returns-then-begins_long-clause-spaced c = λ some. record {
+  inside = [];
+  white_inside = tt;
+  spelled = same_bytes _ _ c.if-begins_long.ensures;
+  long = refl;
+}
+
+pub returns-then-begins_long-2-clause-spaced : goal.returns-then-begins_long-2-clause-spaced
+returns-then-begins_long-2-clause-spaced c = λ some. record {
+  inside = space ∷ [];
+  white_inside = (inl refl, tt);
+  spelled = same_bytes _ _ c.if-begins_long-2.ensures;
+  long = refl;
+}
