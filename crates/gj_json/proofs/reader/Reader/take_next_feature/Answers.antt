@@ -1,5 +1,5 @@
 -- The end of the last member of a feature, and what follows it.
-use Rattle.std.proofs.Common.{◌≡◌, get_or, refl, ap, ◌∙◌, sym, arith}
+use Rattle.std.proofs.Common.{◌≡◌, get_or, refl, ap, ◌∙◌}
 use Rattle.gj_json.specs.Bytes.{close_brace}
 use Rattle.gj_json.specs.declared.class.Class.TheVariants.{CloseObject as close_class}
 use Rattle.gj_json.specs.declared.levels.Level.TheVariants.{Object}
