@@ -134,6 +134,20 @@ pub fn read_flat(piece: &[u8], start: u64, gaps: &mut Gaps, flat: &mut Flat) -> 
     Some(pair.end + 2)
 }
 
+/// As `read_flat`, of an array that stands by itself.
+// It is one function for all that take such an array: written out in each of them, it takes 13 KB more, and points take longer.
+#[inline(never)]
+pub fn read_lone_flat(piece: &[u8], start: u64, flat: &mut Flat) -> Option<usize>
+    requires some { 0 < length piece.now }
+    requires bracket { get_or piece.now 0 0 ≡ open_bracket }
+    requires small { start + length piece.now ≤ 2 ^ 60 }
+    ensures some { IfSome result (λ count. 0 < count) }
+    ensures within { IfSome result (λ count. count ≤ length piece.now) }
+    ensures flat { IfSome result (λ count. IsFlat flat.new start (take count piece.now)) }
+{
+    read_flat(piece, start, &mut Gaps::none(), flat)
+}
+
 /// As `read_flat`, of numbers of any length, with white space around them.
 #[inline(always)]
 fn read_any_flat(piece: &[u8], start: u64, gaps: &mut Gaps, flat: &mut Flat) -> usize

@@ -9,7 +9,7 @@ ghost use Rattle.gj_json.specs.declared.levels.Level.TheVariants.{Array};
 use super::Reader;
 use super::positions::{FEW, arrays_before_next};
 use crate::flat::Flat;
-use crate::flats::{comma_run, read_flat};
+use crate::flats::{comma_run, read_flat, read_lone_flat};
 use crate::gaps::Gaps;
 use crate::levels::Level;
 use crate::mode::Mode;
@@ -127,7 +127,7 @@ impl Reader {
         ensures feeds { FeedsAll (S.heard sink.old) (S.heard sink.new) self.old self.new (take result piece.now) }
     {
         let mut flat = Flat::blank();
-        let Some(count) = read_flat(piece, self.offset, &mut Gaps::none(), &mut flat) else {
+        let Some(count) = read_lone_flat(piece, self.offset, &mut flat) else {
             return 0;
         };
         sink.tell_flat(&flat);

@@ -14,8 +14,7 @@ use super::Reader;
 use super::flats::begins_array;
 use crate::event::{Event, What};
 use crate::flat::Flat;
-use crate::flats::read_flat;
-use crate::gaps::Gaps;
+use crate::flats::read_lone_flat;
 use crate::head::{Head, Located, Opened, Typed};
 use crate::heads::{
     UsualLocated, following_typed, gap_end, properties_run, usual_located, usual_typed,
@@ -65,7 +64,7 @@ fn point_end(piece: &[u8], at: usize, start: u64, flat: &mut Flat) -> usize
     if !begins_array(rest) {
         return 0;
     }
-    let Some(count) = read_flat(rest, start + at as u64, &mut Gaps::none(), flat) else {
+    let Some(count) = read_lone_flat(rest, start + at as u64, flat) else {
         return 0;
     };
     let close = gap_end(piece, at + count);
