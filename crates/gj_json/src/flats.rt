@@ -135,7 +135,7 @@ pub fn read_flat(piece: &[u8], start: u64, gaps: &mut Gaps, flat: &mut Flat) -> 
 }
 
 /// As `read_flat`, of an array that stands by itself.
-// It is one function for all that take such an array: written out in each of them, it takes 13 KB more, and points take longer.
+// It is one function for all that take such an array, so that its code does not stand in each of them.
 #[inline(never)]
 pub fn read_lone_flat(piece: &[u8], start: u64, flat: &mut Flat) -> Option<usize>
     requires some { 0 < length piece.now }
