@@ -4,6 +4,7 @@ ghost use Rattle.gj_json.specs.Internal.Transitions.{IsMode};
 ghost use Rattle.gj_json.specs.Internal.OpenLevels.{levels_in};
 
 use crate::content::Content;
+use crate::cut_position::CutPosition;
 use crate::event::Event;
 use crate::fault::{Cause, JsonFault};
 use crate::levels::Levels;
@@ -11,6 +12,7 @@ use crate::limits::{Limits, MOST_LEVELS};
 use crate::mode::{Mode, Move};
 use crate::move_events::last_event;
 use crate::name_lengths::NameLengths;
+use crate::positions::MOST_POSITIONS;
 use crate::sink::{EventPair, EventSink};
 use arrayvec::ArrayVec;
 use gj_number::Literal;
@@ -33,6 +35,8 @@ pub struct Reader {
     fault: Option<JsonFault>,
     /// How long the names of members are whose events do not matter to the sink.
     names: NameLengths,
+    /// Room for positions that are read at once. What is in it between two calls says nothing.
+    positions: [CutPosition; MOST_POSITIONS],
     ghost sound: { IsMode mode },
     ghost within: { offset ≤ limits.bytes },
     ghost nested: { length (levels_in levels) ≤ limits.depth },
@@ -68,6 +72,7 @@ impl Reader {
             mode: Mode::TextDue,
             fault: None,
             names: NameLengths::none(),
+            positions: [CutPosition::blank(); MOST_POSITIONS],
         }
     }
 
@@ -195,6 +200,7 @@ impl Reader {
     }
 }
 
+mod again;
 mod bytes;
 mod flats;
 mod heads;

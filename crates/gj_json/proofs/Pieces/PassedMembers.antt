@@ -46,6 +46,7 @@ with_names old names sound within nested = record {
   mode = old.mode;
   fault = old.fault;
   names = names;
+  positions = old.positions;
   sound = sound;
   within = within;
   nested = nested;

@@ -311,6 +311,7 @@ mid_of old n mode sound room = record {
   mode = mode;
   fault = old.fault;
   names = old.names;
+  positions = old.positions;
   sound = sound;
   within = room;
   nested = old.nested;

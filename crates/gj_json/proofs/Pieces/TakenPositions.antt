@@ -9,6 +9,7 @@ use Rattle.gj_json.specs.declared.cut_position.CutPosition.{CutPosition}
 use Rattle.gj_json.specs.declared.event.Event.{Event}
 use Rattle.gj_json.specs.declared.flat.Flat.{Flat}
 use Rattle.gj_json.specs.declared.levels.Level.TheVariants.{Array}
+use Rattle.gj_json.specs.declared.mode.Mode.{Mode}
 use Rattle.gj_json.specs.declared.mode.Mode.TheVariants.{ValueDue}
 use Rattle.gj_json.specs.declared.reader.Reader.{Reader}
 use Rattle.gj_json.specs.Flat.{flat_events}
@@ -40,6 +41,48 @@ heard_less {before} {after} {less} old new given fed says = record {
   live = fed.live;
   offset = fed.offset;
 }
+
+-- ---- what is in its room for positions says nothing of a reader
+
+abbrev pub with_room : (r : Reader) → List CutPosition → IsMode r.mode → r.offset ≤ r.limits.bytes → length (levels_in r.levels) ≤ r.limits.depth → Reader
+with_room r ps sound within nested = record {
+  limits = r.limits;
+  offset = r.offset;
+  start = r.start;
+  levels = r.levels;
+  literal = r.literal;
+  content = r.content;
+  mode = r.mode;
+  fault = r.fault;
+  names = r.names;
+  positions = ps;
+  sound = sound;
+  within = within;
+  nested = nested;
+}
+
+module _ (old new : Reader) {ps : List CutPosition} where
+  pub room_filled : {before after : List Event → Type 0} (given : List ℕ) {sound : IsMode new.mode} {within : new.offset ≤ new.limits.bytes}
+      {nested : length (levels_in new.levels) ≤ new.limits.depth} → FeedsAll before after old new given
+      → FeedsAll before after old (with_room new ps sound within nested) given
+  room_filled given fed = record {
+    feeds = record { limits = fed.feeds.limits; on = fed.feeds.on; stands = fed.feeds.stands; told = fed.feeds.told };
+    live = fed.live;
+    offset = fed.offset;
+  }
+
+  pub room_passed : {count : ℕ} {mode : Mode} {sound : IsMode old.mode} {within : old.offset ≤ old.limits.bytes}
+      {nested : length (levels_in old.levels) ≤ old.limits.depth} → Passed count mode (with_room old ps sound within nested) new → Passed count mode old new
+  room_passed p = record {
+    limits = p.limits;
+    fault = p.fault;
+    levels = p.levels;
+    start = p.start;
+    literal = p.literal;
+    content = p.content;
+    offset = p.offset;
+    mode_is = p.mode_is;
+  }
 
 one_then : (gap : ℕ) (before : List Event → Type 0) (p : CutPosition) (start : ℕ) (piece : List ℕ) (s : SpellsPosition gap p start piece) (events : List Event)
     → before events → Then before (p ∷ []) (events ++ flat_events s.flat)

@@ -7,7 +7,7 @@ ghost use Rattle.gj_json.specs.Internal.OpenLevels.{levels_in, inner_of};
 ghost use Rattle.gj_json.specs.declared.levels.Level.TheVariants.{Array};
 
 use super::Reader;
-use super::positions::{FEW, arrays_before_next};
+use super::positions::arrays_before_next;
 use crate::flat::Flat;
 use crate::flats::{comma_run, read_flat, read_lone_flat};
 use crate::gaps::Gaps;
@@ -181,7 +181,7 @@ impl Reader {
         let mut rest = piece;
         let mut begins = true;
         let mut gaps = Gaps::none();
-        let mut left = FEW;
+        let mut left = 0;
         while begins {
             let Some(count) = read_flat(rest, self.offset, &mut gaps, &mut flat) else {
                 return piece.len() - rest.len();

@@ -6,22 +6,18 @@ ghost use Rattle.gj_json.specs.Internal.OpenLevels.{levels_in, inner_of};
 ghost use Rattle.gj_json.specs.declared.levels.Level.TheVariants.{Array};
 
 use super::Reader;
-use crate::cut_position::CutPosition;
 use crate::mode::Mode;
 use crate::positions::{ArrayForm, MOST_POSITIONS, read_positions};
 use crate::sink::EventSink;
 use gj_number::Signs;
 
-/// After so many arrays, one after another, positions are looked for, and looked for again after a run that was found.
-pub(super) const FEW: u8 = 5;
-
-/// After so many more they are looked for again where none was found.
+/// After so many arrays, one after another, positions are looked for again where none was found.
 const MANY: u8 = 32;
 
 /// How many arrays come before positions are looked for again, where the last search took so many bytes.
 #[inline(always)]
 pub(super) fn arrays_before_next(count: usize) -> u8 {
-    if count > 0 { FEW } else { MANY }
+    if count > 0 { 0 } else { MANY }
 }
 
 impl Reader {
@@ -48,16 +44,15 @@ impl Reader {
         ensures levels { self.new.levels ≡ self.old.levels }
         ensures feeds { FeedsAll (S.heard sink.old) (S.heard sink.new) self.old self.new (take result piece.now) }
     {
-        let mut positions = [CutPosition::blank(); MOST_POSITIONS];
         let mut rest = piece;
         let mut taken = MOST_POSITIONS;
         while taken == MOST_POSITIONS {
-            let found = read_positions(rest, signs, form, self.offset, &mut positions);
-            taken = sink.tell_positions(&positions[..found]);
+            let found = read_positions(rest, signs, form, self.offset, &mut self.positions);
+            taken = sink.tell_positions(&self.positions[..found]);
             if taken == 0 {
                 return piece.len() - rest.len();
             }
-            let last = positions[taken - 1];
+            let last = self.positions[taken - 1];
             let next = last.place + last.close_at as u64 + 2 + form.after_comma as u64;
             let count = (next - self.offset) as usize;
             self.skip(count, Mode::ValueDue);

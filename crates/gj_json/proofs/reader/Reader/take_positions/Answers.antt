@@ -12,7 +12,7 @@ use Rattle.gj_json.proofs.Readers.CallsInTurn.{piece_left}
 use Rattle.gj_json.proofs.Pieces.PieceRests.{rest_of, left_within, left_is}
 use Rattle.gj_json.proofs.Pieces.FlatsInTurn.{depth_left, room_left}
 use Rattle.gj_json.proofs.Pieces.ReadPositions.{rising, end_is, end_begins}
-use Rattle.gj_json.proofs.Pieces.TakenPositions.{Then, heard_less, first_taken}
+use Rattle.gj_json.proofs.Pieces.TakenPositions.{Then, heard_less, room_filled, room_passed, first_taken}
 use Rattle.gj_json.proofs.reader.Reader.take_positions.Goals as goal
 
 -- where those end that the sink takes
@@ -55,15 +55,17 @@ returns-then-taken-eq0-clause-feeds g c =
     let piece = c.args.piece.now in
     let P : ℕ → Type 0 = λ n. AreCutPositions (take n told) [] in
     let none : P c.tell_positions-taken.result = subst P (sym c.if-taken-eq0.true) tt in
-    heard_less c.args.self.now c.loop-taken.self (take (length piece - length c.loop-taken.rest.now) piece) i.fed
-    (λ events h. subst (g.S.EventSink.heard c.tell_positions-taken.new.self) (append-nil events) (c.tell_positions-taken.ensures.heard [] none events h))
+    let bytes = take (length piece - length c.loop-taken.rest.now) piece in
+    room_filled c.args.self.now c.loop-taken.self bytes
+    (heard_less c.args.self.now c.loop-taken.self bytes i.fed
+    (λ events h. subst (g.S.EventSink.heard c.tell_positions-taken.new.self) (append-nil events) (c.tell_positions-taken.ensures.heard [] none events h)))
 
 pub overflow_add-next-in-loop-taken : goal.overflow_add-next-in-loop-taken
 overflow_add-next-in-loop-taken g c =
     let i = c.loop-taken.invariant in
     let all = c.read_positions-found.new.positions in
     let gap = gap_of c.args.form in
-    let e = ends gap all c.index-positions-taken.result c.read_positions-found.result _ c.loop-taken.self.offset c.loop-taken.rest.now
+    let e = ends gap all c.index-self-taken.result c.read_positions-found.result _ c.loop-taken.self.offset c.loop-taken.rest.now
     c.if-taken-eq0.false c.tell_positions-taken.ensures.few c.read_positions-found.ensures.spelled in
     let less = e.within in
     let limits = ap (λ l. l.bytes) i.fed.feeds.limits in
@@ -75,7 +77,7 @@ overflow_add-next-in-loop-taken-2 g c =
     let i = c.loop-taken.invariant in
     let all = c.read_positions-found.new.positions in
     let gap = gap_of c.args.form in
-    let e = ends gap all c.index-positions-taken.result c.read_positions-found.result _ c.loop-taken.self.offset c.loop-taken.rest.now
+    let e = ends gap all c.index-self-taken.result c.read_positions-found.result _ c.loop-taken.self.offset c.loop-taken.rest.now
     c.if-taken-eq0.false c.tell_positions-taken.ensures.few c.read_positions-found.ensures.spelled in
     let less = e.within in
     let limits = ap (λ l. l.bytes) i.fed.feeds.limits in
@@ -86,7 +88,7 @@ pub overflow_sub-count : goal.overflow_sub-count
 overflow_sub-count g c =
     let all = c.read_positions-found.new.positions in
     let gap = gap_of c.args.form in
-    let e = ends gap all c.index-positions-taken.result c.read_positions-found.result _ c.loop-taken.self.offset c.loop-taken.rest.now
+    let e = ends gap all c.index-self-taken.result c.read_positions-found.result _ c.loop-taken.self.offset c.loop-taken.rest.now
     c.if-taken-eq0.false c.tell_positions-taken.ensures.few c.read_positions-found.ensures.spelled in
     let on = e.on in
     omega arith
@@ -96,7 +98,7 @@ skip-requires-clause-room g c =
     let i = c.loop-taken.invariant in
     let all = c.read_positions-found.new.positions in
     let gap = gap_of c.args.form in
-    let e = ends gap all c.index-positions-taken.result c.read_positions-found.result _ c.loop-taken.self.offset c.loop-taken.rest.now
+    let e = ends gap all c.index-self-taken.result c.read_positions-found.result _ c.loop-taken.self.offset c.loop-taken.rest.now
     c.if-taken-eq0.false c.tell_positions-taken.ensures.few c.read_positions-found.ensures.spelled in
     let less = e.within in
     let room = room_left c.args.self.now c.loop-taken.self c.args.piece.now c.loop-taken.rest.now i.within i.fed c.requires.room in
@@ -106,7 +108,7 @@ pub slice_bounds-rest-count : goal.slice_bounds-rest-count
 slice_bounds-rest-count g c =
     let all = c.read_positions-found.new.positions in
     let gap = gap_of c.args.form in
-    let e = ends gap all c.index-positions-taken.result c.read_positions-found.result _ c.loop-taken.self.offset c.loop-taken.rest.now
+    let e = ends gap all c.index-self-taken.result c.read_positions-found.result _ c.loop-taken.self.offset c.loop-taken.rest.now
     c.if-taken-eq0.false c.tell_positions-taken.ensures.few c.read_positions-found.ensures.spelled in
     let less = e.within in
     omega arith
@@ -115,7 +117,7 @@ pub slice_bounds-rest-start : goal.slice_bounds-rest-start
 slice_bounds-rest-start g c =
     let all = c.read_positions-found.new.positions in
     let gap = gap_of c.args.form in
-    let e = ends gap all c.index-positions-taken.result c.read_positions-found.result _ c.loop-taken.self.offset c.loop-taken.rest.now
+    let e = ends gap all c.index-self-taken.result c.read_positions-found.result _ c.loop-taken.self.offset c.loop-taken.rest.now
     c.if-taken-eq0.false c.tell_positions-taken.ensures.few c.read_positions-found.ensures.spelled in
     let less = e.within in
     omega arith
@@ -125,9 +127,9 @@ loop-taken-smaller g c =
     let gap = gap_of c.args.form in
     let rest = c.loop-taken.rest.now in
     let all = c.read_positions-found.new.positions in
-    let e = ends gap all c.index-positions-taken.result c.read_positions-found.result _ c.loop-taken.self.offset rest c.if-taken-eq0.false
+    let e = ends gap all c.index-self-taken.result c.read_positions-found.result _ c.loop-taken.self.offset rest c.if-taken-eq0.false
     c.tell_positions-taken.ensures.few c.read_positions-found.ensures.spelled in
-    let last = place_after gap (get_or all (c.tell_positions-taken.result - 1) c.index-positions-taken.result) in
+    let last = place_after gap (get_or all (c.tell_positions-taken.result - 1) c.index-self-taken.result) in
     let n = last - c.loop-taken.self.offset in
     let on = e.on in
     let less = e.within in
@@ -142,10 +144,10 @@ loop-taken-preserved g c =
     let rest = c.loop-taken.rest.now in
     let told = take c.read_positions-found.result c.read_positions-found.new.positions in
     let k = c.tell_positions-taken.result in
-    let last = place_after gap (get_or c.read_positions-found.new.positions (k - 1) c.index-positions-taken.result) in
+    let last = place_after gap (get_or c.read_positions-found.new.positions (k - 1) c.index-self-taken.result) in
     let n = last - old.offset in
     let all = c.read_positions-found.new.positions in
-    let e = ends gap all c.index-positions-taken.result c.read_positions-found.result _ old.offset rest c.if-taken-eq0.false
+    let e = ends gap all c.index-self-taken.result c.read_positions-found.result _ old.offset rest c.if-taken-eq0.false
     c.tell_positions-taken.ensures.few c.read_positions-found.ensures.spelled in
     let on = e.on in
     let less = e.within in
@@ -155,7 +157,7 @@ loop-taken-preserved g c =
     (take (m - old.offset) rest) in
     let taken = subst Q e.end (first_taken gap told k old c.skip.new.self rest e.some c.tell_positions-taken.ensures.few e.spelled i.fed.live i.next.due
     (depth_left c.args.self.now old piece rest i.within i.fed i.levels c.requires.deep) (rw (i.levels) c.requires.inner)
-    (room_left c.args.self.now old piece rest i.within i.fed c.requires.room) (subst P (sym e.end) c.skip.ensures.passed)) in
+    (room_left c.args.self.now old piece rest i.within i.fed c.requires.room) (subst P (sym e.end) (room_passed old c.skip.new.self c.skip.ensures.passed))) in
     let heard = heard_less old c.skip.new.self (take n rest) taken
     (λ es (flats, are, events, h, is). subst (g.S.EventSink.heard c.tell_positions-taken.new.self) (sym is)
     (c.tell_positions-taken.ensures.heard flats are events h)) in
