@@ -140,6 +140,6 @@ impl<S: ForgetfulSink> FeatureLinter<S> {
         ensures offset { offset_of self.new ≡ 0 }
     {
         self.rules.begin_again();
-        self.reader = Reader::new(limits);
+        self.reader.begin_again(limits);
     }
 }

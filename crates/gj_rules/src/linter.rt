@@ -165,7 +165,7 @@ impl Linter {
         ensures levels { levels_of self.new ≡ 0 }
     {
         self.rules.begin_again();
-        self.reader = Reader::new(limits);
+        self.reader.begin_again(limits);
     }
 
     /// The verdict of the input that was fed. The linter begins anew under these limits, in place: little is written, so it costs

@@ -1,6 +1,6 @@
 //! A reader that reads one text after another.
 
-ghost use Rattle.std.specs.Prelude.{◌≡◌, [], None};
+ghost use Rattle.std.specs.Prelude.{◌≡◌, ℕ, [], List, None};
 
 use super::Reader;
 use crate::levels::Levels;
@@ -8,6 +8,9 @@ use crate::limits::Limits;
 use crate::mode::Mode;
 
 impl Reader {
+    ghost use Rattle.gj_json.specs.Tree.{Text};
+    ghost use Rattle.gj_json.specs.Text.{IsText};
+    ghost use Rattle.gj_json.specs.Events.{events_by};
     ghost use Rattle.gj_json.specs.Reader.{StandsFor, limits_of, refusal_of, offset_of, levels_of};
 
     /// Begins anew, before the first byte of a text under these limits. It costs less than a new reader, and the names of members
@@ -18,6 +21,7 @@ impl Reader {
         ensures offset { offset_of self.new ≡ 0 }
         ensures open { refusal_of self.new ≡ None }
         ensures levels { levels_of self.new ≡ 0 }
+        ensures events { (text : Text) (rest : List ℕ) → IsText text rest → events_by 0 text ≡ [] }
     {
         self.levels = Levels::new();
         self.offset = 0;

@@ -1,6 +1,7 @@
--- A reader that begins anew is before the first byte of a text.
+-- A reader that begins anew is before the first byte of a text, and nothing is complete.
 use Rattle.std.proofs.Common.{refl, arith}
 use Rattle.gj_json.specs.Internal.TextMachine.{text_due}
+use Rattle.gj_json.proofs.Events.FinishedTexts.{none_at_first}
 use Rattle.gj_json.proofs.reader.Reader.begin_again.Goals as goal
 
 pub returns-clause-stands : goal.returns-clause-stands
@@ -16,3 +17,6 @@ returns-clause-stands c = record {
   };
   keeps = tt;
 }
+
+pub returns-clause-events : goal.returns-clause-events
+returns-clause-events c = λ text rest t. none_at_first text rest t

@@ -8,7 +8,7 @@ pub returns-clause-stands : goal.returns-clause-stands
 unfolding StandsFor
 returns-clause-stands g c =
     let rules = c.begin_again.new.self in (
-      c.new-self.ensures.stands,
-      new_told c.new-self.result
-          (Stand (g.S.FeatureSink.told rules.sink) rules.rules rules.count) c.new-self.ensures.offset c.begin_again.ensures c.new-self.ensures.events,
+      c.begin_again-2.ensures.stands,
+      new_told c.begin_again-2.new.self
+          (Stand (g.S.FeatureSink.told rules.sink) rules.rules rules.count) c.begin_again-2.ensures.offset c.begin_again.ensures c.begin_again-2.ensures.events,
     )

@@ -7,7 +7,7 @@ use Rattle.gj_rules.proofs.linter.Linter.begin_again.Goals as goal
 pub returns-clause-stands : goal.returns-clause-stands
 unfolding StandsFor
 returns-clause-stands c = (
-  c.new-self.ensures.stands,
-  new_told c.new-self.result
-      (RulesStandFor c.begin_again.new.self) c.new-self.ensures.offset c.begin_again.ensures.stands c.new-self.ensures.events,
+  c.begin_again-2.ensures.stands,
+  new_told c.begin_again-2.new.self
+      (RulesStandFor c.begin_again.new.self) c.begin_again-2.ensures.offset c.begin_again.ensures.stands c.begin_again-2.ensures.events,
 )
