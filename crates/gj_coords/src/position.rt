@@ -178,8 +178,8 @@ impl Numbers {
     ghost use Rattle.std.specs.Prelude.{◌≡◌};
     ghost use Rattle.gj_json.specs.declared.event.What.TheVariants.{OpenArray, Number};
     ghost use Rattle.gj_coords.specs.Internal.SentEvents.{event_at};
-    ghost use Rattle.gj_coords.specs.Internal.PositionGather.{number_added, first_judged, array_counted, numbers_start, position_least, position_noted};
-    ghost use Rattle.gj_coords.specs.Internal.PositionGather.{judged_noted};
+    ghost use Rattle.gj_coords.specs.Internal.PositionGather.{number_added, first_judged, array_counted, arrays_counted, numbers_start};
+    ghost use Rattle.gj_coords.specs.Internal.PositionGather.{position_least, position_noted, judged_noted};
     ghost use Rattle.gj_coords.specs.Internal.SteadyWalk.{IsCounted};
 
     pub fn none() -> Numbers
@@ -260,6 +260,18 @@ impl Numbers {
     {
         if self.tally.is_open() {
             self.count_one();
+        }
+    }
+
+    /// Counts so many elements that are arrays, whose faults change nothing. It stops where as many are counted as are.
+    #[inline(always)]
+    pub fn count_arrays(&mut self, count: usize)
+        ensures { IsCounted self.old → self.new ≡ arrays_counted count self.old }
+    {
+        let mut left = count;
+        while self.tally.is_open() && left > 0 {
+            self.count_one();
+            left -= 1;
         }
     }
 

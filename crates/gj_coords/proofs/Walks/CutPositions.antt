@@ -2,6 +2,7 @@
 use Rattle.std.proofs.Common.{◌≡◌, ◌∙◌, ℕ, zero, suc, ◌+◌, ◌<◌, ◌≤◌, ℤ, List, [], ◌∷◌, ◌++◌, length, take, slice_index_or, Bool, true, false}
 use Rattle.std.proofs.Common.{Option, Some, None, option_map, refl, sym, ap, subst, arith}
 use Rattle.std.proofs.lemmas.Bool.Decides.{Decides-eqb, Decides-and}
+use Rattle.std.proofs.lemmas.List.{length-take-le}
 use Rattle.gj_json.specs.declared.cut_position.CutPosition.{CutPosition}
 use Rattle.gj_json.specs.declared.flat.Flat.{Flat}
 use Rattle.gj_json.specs.CutPosition.{IsCutPosition, AreCutPositions, RiseAfter, Rise}
@@ -18,7 +19,7 @@ use Rattle.gj_coords.specs.Winding.{corner_of, both}
 use Rattle.gj_coords.specs.Internal.AddedPositions.{positions_added, all_noted, all_steady, all_first, AllAfter}
 use Rattle.gj_coords.specs.Internal.CutPositionGather.{counted_noted, HasCounted, IsAdded}
 use Rattle.gj_coords.specs.Internal.FlatPosition.{flat_position, flat_values, precise_noted}
-use Rattle.gj_coords.specs.Internal.PositionGather.{corner_in, same_values, sound_noted, array_counted}
+use Rattle.gj_coords.specs.Internal.PositionGather.{corner_in, same_values, sound_noted, arrays_counted}
 use Rattle.gj_coords.specs.Internal.PositionsGather.{position_added}
 use Rattle.gj_coords.specs.Internal.SteadyWalk.{second_steady, first_steady}
 use Rattle.gj_coords.specs.Internal.WindingGather.{winding_added, with_sum}
@@ -143,25 +144,25 @@ counts_more w ps d at old new less one all flats are =
 
 -- ---- by the arrays around them
 
--- where four are counted, the count stays
-steady_same : (f : Flat) (h : Level) → h.numbers ≡ array_counted h.numbers
-    → second_steady f h ≡ record h { positions = position_added h.positions (flat_position f) }
-steady_same f h e = λ i. record h { numbers = sym e i; positions = position_added h.positions (flat_position f) }
+-- as many as there are cut values
+pub as_many : (ps : List CutPosition) (k : ℕ) (flats : List Flat) → k ≤ length ps → AreCutPositions (take k ps) flats → length flats ≡ k
+as_many ps k flats few are = go (take k ps) flats are ∙ length-take-le k ps few
+  where
+    go : (ps : List CutPosition) (flats : List Flat) → AreCutPositions ps flats → length flats ≡ length ps
+    go [] [] are = refl
+    go [] (f ∷ fs) are = absurd are
+    go (p ∷ ps) [] are = absurd are
+    go (p ∷ ps) (f ∷ fs) are = ap suc (go ps fs are.1)
 
-pub level_added : (fs : List Flat) (h : Level) → h.numbers ≡ array_counted h.numbers → all_steady h fs ≡ record h { positions = positions_added h.positions fs }
-level_added [] h e = refl
-level_added (f ∷ fs) h e =
-    ap (λ k. all_steady k fs) (steady_same f h e) ∙ level_added fs (record h { positions = position_added h.positions (flat_position f) }) e
+pub level_added : (fs : List Flat) (h : Level) → all_steady h fs
+    ≡ record h { numbers = arrays_counted (length fs) h.numbers; positions = positions_added h.positions fs }
+level_added [] h = refl
+level_added (f ∷ fs) h = level_added fs (second_steady f h)
 
-first_same : (f : Flat) (g : Outermost) → g.numbers ≡ array_counted g.numbers
-    → first_steady f g ≡ record g { positions_warned = sound_noted g.positions_warned (flat_position f) }
-first_same f g e = λ i. record g { numbers = sym e i; positions_warned = sound_noted g.positions_warned (flat_position f) }
-
-pub outermost_added : (fs : List Flat) (g : Outermost) → g.numbers ≡ array_counted g.numbers
-    → all_first g fs ≡ record g { positions_warned = all_noted g.positions_warned fs }
-outermost_added [] g e = refl
-outermost_added (f ∷ fs) g e =
-    ap (λ k. all_first k fs) (first_same f g e) ∙ outermost_added fs (record g { positions_warned = sound_noted g.positions_warned (flat_position f) }) e
+pub outermost_added : (fs : List Flat) (g : Outermost) → all_first g fs
+    ≡ record g { numbers = arrays_counted (length fs) g.numbers; positions_warned = all_noted g.positions_warned fs }
+outermost_added [] g = refl
+outermost_added (f ∷ fs) g = outermost_added fs (first_steady f g)
 
 -- ---- all of them stand after a place
 

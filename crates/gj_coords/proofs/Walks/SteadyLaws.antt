@@ -1,5 +1,5 @@
 -- Where a walk is steady, a position that is reported as one changes only what is gathered of positions, and their count.
-use Rattle.std.proofs.Common.{◌≡◌, ℕ, zero, suc, ◌<◌, ◌≤◌, min, Option, Some, None, Bool, true, false, ◌&&◌, nat_lt, if◌then◌else◌, refl, sym, ◌∙◌, ap, subst}
+use Rattle.std.proofs.Common.{◌≡◌, ℕ, zero, suc, ◌<◌, ◌≤◌, ◌-◌, min, Option, Some, None, Bool, true, false, ◌&&◌, nat_lt, if◌then◌else◌, refl, sym, ◌∙◌, ap, subst}
 use Rattle.std.proofs.Common.{arith}
 use Rattle.std.specs.Option.{option_map_or}
 use Rattle.std.proofs.lemmas.Bool.Decides.{nat_tests}
@@ -16,7 +16,7 @@ use Rattle.gj_coords.specs.Fault.{fault_at, comes_first, lesser, number_of}
 use Rattle.gj_coords.specs.Internal.SentEvents.{event_at}
 use Rattle.gj_coords.specs.Internal.LeastLaws.{Tests, lesser-none}
 use Rattle.gj_coords.specs.Internal.ElementCount.{one_counted}
-use Rattle.gj_coords.specs.Internal.PositionGather.{pushed, precise_with, number_added, array_counted, sound_noted}
+use Rattle.gj_coords.specs.Internal.PositionGather.{pushed, precise_with, number_added, array_counted, arrays_counted, sound_noted}
 use Rattle.gj_coords.specs.Internal.PositionsGather.{position_added}
 use Rattle.gj_coords.specs.declared.walk.level.Level.{Level}
 use Rattle.gj_coords.specs.declared.walk.outermost.Outermost.{Outermost}
@@ -79,7 +79,7 @@ counted_next m (suc (suc (suc n))) values e h =
     let P : ℕ → Type 0 = λ x. (pushed x None values).count ≡ 3 in
     subst P (sym full) (h ∙ full) ∙ sym (least_next (nat_lt (suc (suc (suc n))) 4) (suc (suc (suc n))) most)
 
-counted_still : (n : Numbers) → IsCounted n → IsCounted (array_counted n)
+pub counted_still : (n : Numbers) → IsCounted n → IsCounted (array_counted n)
 counted_still n k = counted_next n.values.count n.tally.count n.values k refl
 
 settled_still : (floor : ℕ) (n : Numbers) → IsSettled floor n → IsSettled floor (array_counted n)
@@ -98,6 +98,16 @@ counted_whole n k e =
     let build : Values → ℕ → Numbers = λ values count. record n { values = values; tally = record { place = n.tally.place; count = count } } in
     sym (ap (λ x. build x (one_counted n.tally.count)) (pushed_full n.values.count n.values full)
     ∙ ap (λ x. build n.values x) (ap (λ b. if b then suc n.tally.count else n.tally.count) e))
+
+-- nor are several more
+pub counted_enough : (count : ℕ) (n : Numbers) → IsCounted n → nat_lt n.tally.count 4 ≡ false → n ≡ arrays_counted count n
+counted_enough zero n k e = refl
+counted_enough (suc m) n k e = counted_enough m n k e ∙ ap (arrays_counted m) (counted_whole n k e)
+
+-- one of those that are left
+pub counted_one : (left : ℕ) (n : Numbers) → 0 < left → arrays_counted (left - 1) (array_counted n) ≡ arrays_counted left n
+counted_one zero n some = absurd (omega (arith, some))
+counted_one (suc m) n some = let e : suc m - 1 ≡ m = omega arith in ap (λ x. arrays_counted x (array_counted n)) e
 
 -- ---- the levels
 

@@ -75,6 +75,11 @@ number_added s e = record {
 abbrev pub array_counted : Numbers → Numbers
 array_counted s = record s { values = pushed s.values.count None s.values; tally = counted s.tally }
 
+-- so many arrays more
+abbrev pub arrays_counted : ℕ → Numbers → Numbers
+arrays_counted zero s = s
+arrays_counted (suc n) s = arrays_counted n (array_counted s)
+
 abbrev pub position_least : Numbers → Option Fault
 position_least s = lesser (few_in 2 G12 s.tally) s.fault
 

@@ -96,17 +96,16 @@ impl Level {
         self.positions.add_quick(position);
     }
 
-    /// Adds such elements that come as their cut values, up to the first of which more is asked, where no fault and no count
-    /// changes: how many.
+    /// Adds such elements that come as their cut values, up to the first of which more is asked, where they change no
+    /// fault: how many.
     pub fn add_cuts(&mut self, positions: &[CutPosition]) -> usize
         ensures few { result ≤ length positions.now }
         ensures added { (flats : List Flat) → AreCutPositions (take result positions.now) flats → IsCounted self.old.numbers
             → self.new ≡ all_steady self.old flats }
     {
-        if self.numbers.tally.is_open() {
-            return 0;
-        }
-        self.positions.add_cuts(positions)
+        let count = self.positions.add_cuts(positions);
+        self.numbers.count_arrays(count);
+        count
     }
 
     /// Adds an element that is a number.

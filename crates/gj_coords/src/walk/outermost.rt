@@ -114,17 +114,16 @@ impl Outermost {
         flat::warn_quick(position, &mut self.positions_warned);
     }
 
-    /// Adds such elements that come as their cut values, up to the first of which more is asked, where no fault and no count
-    /// changes: how many.
+    /// Adds such elements that come as their cut values, up to the first of which more is asked, where they change no
+    /// fault: how many.
     pub fn add_cuts(&mut self, positions: &[CutPosition]) -> usize
         ensures few { result ≤ length positions.now }
         ensures added { (flats : List Flat) → AreCutPositions (take result positions.now) flats → IsCounted self.old.numbers
             → self.new ≡ all_first self.old flats }
     {
-        if self.numbers.tally.is_open() {
-            return 0;
-        }
-        cuts::warn_all(positions, &mut self.positions_warned)
+        let count = cuts::warn_all(positions, &mut self.positions_warned);
+        self.numbers.count_arrays(count);
+        count
     }
 
     /// Takes a position that is the whole value and comes as one [`Flat`]: it keeps the least fault of its numbers as

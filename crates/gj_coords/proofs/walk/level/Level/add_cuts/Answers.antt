@@ -1,10 +1,14 @@
-use Rattle.std.proofs.Common.{◌∙◌, sym, ap}
-use Rattle.gj_coords.proofs.Walks.CutPositions.{level_added}
-use Rattle.gj_coords.proofs.Walks.SteadyLaws.{counted_whole}
+-- The positions that were added are counted.
+use Rattle.std.proofs.Common.{◌∙◌, length, sym, ap}
+use Rattle.gj_coords.specs.Internal.PositionGather.{arrays_counted}
+use Rattle.gj_coords.proofs.Walks.CutPositions.{as_many, level_added}
 use Rattle.gj_coords.proofs.walk.level.Level.add_cuts.Goals as goal
 
 pub returns-clause-added : goal.returns-clause-added
 returns-clause-added c = λ flats are counted.
     let h = c.args.self.now in
-    ap (λ ps. record h { positions = ps }) (c.add_cuts.ensures.added flats are)
-    ∙ sym (level_added flats h (counted_whole h.numbers counted (sym c.is_open.ensures ∙ c.if-is_open.false)))
+    let ps = c.add_cuts-count.new.self in
+    let many = as_many c.args.positions.now c.add_cuts-count.result flats c.add_cuts-count.ensures.few are in
+    ap (λ n. record h { numbers = n; positions = ps }) (c.count_arrays.ensures counted ∙ ap (λ k. arrays_counted k h.numbers) (sym many))
+    ∙ ap (λ x. record h { numbers = arrays_counted (length flats) h.numbers; positions = x }) (c.add_cuts-count.ensures.added flats are)
+    ∙ sym (level_added flats h)
