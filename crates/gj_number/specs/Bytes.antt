@@ -37,6 +37,10 @@ comma = 44
 abbrev pub space : ℕ
 space = 32
 
+-- line feed
+abbrev pub line_feed : ℕ
+line_feed = 10
+
 -- `[`
 abbrev pub open_bracket : ℕ
 open_bracket = 91

@@ -1,7 +1,7 @@
 -- Two ordinary numbers as their cut values: what it says of a piece that it starts with them.
 use Rattle.std.specs.Prelude.{◌≡◌, ℕ, ◌+◌, ◌-◌, ◌<◌, ◌≤◌, ◌↔◌, IsTrue, Some, List, get_or, drop}
 use mir.Val.{bool_byte}
-use Rattle.gj_number.specs.Bytes.{comma, close_bracket, space}
+use Rattle.gj_number.specs.Bytes.{comma, close_bracket, line_feed, space}
 use Rattle.gj_number.specs.Exact.{cut_of, cut_places, places_of}
 use Rattle.gj_number.specs.Short.{exact_of, StartsUsual, StartsWithNumber}
 use Rattle.gj_number.specs.declared.short.Short.{Short}
@@ -55,3 +55,16 @@ pub record StartsUsualCuts (piece : List ℕ) (form : PairForm) : Type 0 where
   pub other : StartsUsual (drop (second_after form comma_at) piece) length_other (byte_after form.after)
   pub bracket : form.after ≡ Space → get_or piece (second_after form comma_at + length_other + 1) 0 ≡ close_bracket
   pub next : get_or piece (second_after form comma_at + length_other + before_comma form.after) 0 ≡ comma
+
+-- The piece starts with two ordinary numbers, with a comma between them at its index and so many bytes after it, and a line
+-- feed stands after the second, which ends before the other index.
+pub record StartsWithSpreadPair (piece : List ℕ) (gap : ℕ) (pair : CutPair) : Type 0 where
+  pub one : Short
+  pub other : Short
+  pub starts : StartsWithNumber piece (exact_of one) pair.comma
+  pub comma : get_or piece pair.comma 0 ≡ comma
+  pub ordered : pair.comma + 1 + gap ≤ pair.end
+  pub ends : StartsWithNumber (drop (pair.comma + 1 + gap) piece) (exact_of other) (pair.end - (pair.comma + 1 + gap))
+  pub after : get_or piece pair.end 0 ≡ line_feed
+  pub first : IsCut one pair.first
+  pub second : IsCut other pair.second
