@@ -29,7 +29,7 @@ pub use literal::{Literal, Step};
 pub use prefix::read_decimal;
 pub use short::Short;
 pub use short::cuts::{After, Cut, CutPair, PairForm, Signs, read_cut_pair};
-pub use short::spread::read_spread_pair;
 pub use short::pair::{Pair, read_last_pair, read_pair};
 pub use short::prefix::read_short;
+pub use short::spread::read_spread_pair;
 pub use short::unsigned::unsigned_run;

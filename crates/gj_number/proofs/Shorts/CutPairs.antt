@@ -5,8 +5,8 @@ use mir.Val.{bool_byte}
 use lib.Lanes.{Each1}
 use Rattle.std.proofs.lemmas.List.{drop-drop, get_or-drop, take_rest}
 use Rattle.std.proofs.lemmas.List.Sums.{fold-append}
-use Rattle.gj_number.specs.Bytes.{comma, space, decimal_point, IsDigit}
-use Rattle.gj_number.specs.Cuts.{StartsWithCutPair, byte_after, second_after}
+use Rattle.gj_number.specs.Bytes.{comma, line_feed, space, decimal_point, IsDigit}
+use Rattle.gj_number.specs.Cuts.{StartsWithCutPair, StartsWithSpreadPair, byte_after, second_after}
 use Rattle.gj_number.specs.Exact.{signed, cut_magnitude, places_of}
 use Rattle.gj_number.specs.Short.{short_value, StartsWithNumber}
 use Rattle.gj_number.specs.Value.{with_digit, number_of}
@@ -26,6 +26,10 @@ use Rattle.gj_number.proofs.Shorts.CutPlaces.{natural_digits, fraction_digits, w
 use Rattle.gj_number.proofs.Shorts.NumberPrefixes.{sign_length, sign_at, one_of, point_plain}
 use Rattle.gj_number.proofs.Shorts.ShortDecimals.{cut_some}
 use Rattle.gj_number.proofs.Shorts.WrittenExponents.{plain_front}
+
+pub line_feed_other : class_of line_feed ≡ Other
+unfolding class_of
+line_feed_other = refl
 
 pub after_other : (after : After) → class_of (byte_after after) ≡ Other
 after_other Comma = comma_other
@@ -181,3 +185,42 @@ module _ (piece : List ℕ) (form : PairForm) (end_one end_other : ℕ) (negativ
     first = record { value = sym (cut_some negative one.digits one.places value one.small one.cut) ∙ ap Some first_is; precise = one.rest };
     second = record { value = sym (cut_some minus other.digits other.places more other.small other.cut) ∙ ap Some second_is; precise = other.rest };
   }
+
+-- ---- a number in the rest of a piece
+
+pub whole_after : (piece rest : List ℕ) (at fraction end : ℕ) (precise : Bool) → rest ≡ drop at piece → IsWhole piece fraction (at + end) precise
+    → IsWhole rest fraction end precise
+whole_after piece rest at fraction end precise is w =
+    let P : ℕ → Type 0 = λ b. IsDigit b in
+    record {
+      other = w.other;
+      last =
+          λ many i from to. subst P (sym (ap (λ xs. get_or xs i 0) is ∙ get_or-drop at piece i 0)) (w.last many (at + i) (omega arith) (omega arith));
+    }
+
+module _ (piece rest : List ℕ) (gap end_one end_other : ℕ) (negative minus : Bool) (value more : ℕ) (precise more_precise : Bool)
+    (one : IsCutNumber piece 0 negative end_one value precise) (other : IsCutNumber rest 0 minus end_other more more_precise) where
+  pub spread_is : (v w : ℤ) → signed negative value ≡ v → signed minus more ≡ w → rest ≡ drop (end_one + 1 + gap) piece
+      → get_or piece end_one 0 ≡ comma → get_or rest end_other 0 ≡ line_feed
+      → StartsWithSpreadPair piece gap (record {
+        first = record { value = v; precise = precise };
+        second = record { value = w; precise = more_precise };
+        comma = end_one;
+        end = end_one + 1 + gap + end_other;
+      })
+  spread_is v w first_is second_is rest_is at_comma at_end =
+      let at : ℕ = end_one + 1 + gap in
+      let back : end_one - 0 ≡ end_one = omega arith in
+      let back_other : end_other - 0 ≡ at + end_other - at = omega arith in
+      let P : List ℕ → ℕ → Type 0 = λ xs k. StartsWithNumber xs (short_value minus other.digits other.places) k in
+      record {
+        one = record { digits = one.digits; places = one.places; negative = negative; small = one.small; few = one.few };
+        other = record { digits = other.digits; places = other.places; negative = minus; small = other.small; few = other.few };
+        starts = subst (λ k. StartsWithNumber piece (short_value negative one.digits one.places) k) back one.starts;
+        comma = at_comma;
+        ordered = omega arith;
+        ends = subst (P (drop at piece)) back_other (subst (λ xs. P xs (end_other - 0)) rest_is other.starts);
+        after = sym (ap (λ xs. get_or xs end_other 0) rest_is ∙ get_or-drop at piece end_other 0) ∙ at_end;
+        first = record { value = sym (cut_some negative one.digits one.places value one.small one.cut) ∙ ap Some first_is; precise = one.rest };
+        second = record { value = sym (cut_some minus other.digits other.places more other.small other.cut) ∙ ap Some second_is; precise = other.rest };
+      }

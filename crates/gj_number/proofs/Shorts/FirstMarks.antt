@@ -64,11 +64,11 @@ mask_after_none zero ms = omega arith
 mask_after_none (suc k) ms = rw (pow-suc 2 k) (let e = mask_after_none k ms in omega arith)
 
 -- the number of a mark after so many bytes
-one_mark : (k : ℕ) (ms : List Bool) → mask_l (replicate k false ++ true ∷ ms) ≡ (1 + 2 * mask_l ms) * 2 ^ k
+pub one_mark : (k : ℕ) (ms : List Bool) → mask_l (replicate k false ++ true ∷ ms) ≡ (1 + 2 * mask_l ms) * 2 ^ k
 one_mark k ms = mask_after_none k (true ∷ ms)
 
 -- the next mark, once the one before is off
-next_mark : (k j : ℕ) (ms : List Bool) → mask_l (replicate j false ++ true ∷ ms) * 2 ^ k ≡ (1 + 2 * mask_l ms) * 2 ^ (k + j)
+pub next_mark : (k j : ℕ) (ms : List Bool) → mask_l (replicate j false ++ true ∷ ms) * 2 ^ k ≡ (1 + 2 * mask_l ms) * 2 ^ (k + j)
 next_mark k j ms =
     ap (λ n. n * 2 ^ k) (one_mark j ms) ∙ mul_assoc (1 + 2 * mask_l ms) (2 ^ j) (2 ^ k)
     ∙ ap (λ n. (1 + 2 * mask_l ms) * n) (sym (pow-add 2 j k) ∙ ap (λ n. 2 ^ n) {x = j + k} {y = k + j} (omega arith))
@@ -98,7 +98,7 @@ module _ (marks second third fourth : ℕ) (small : marks < 2 ^ 64) (small_secon
 
 -- ---- sixteen bytes after sixteen
 
-mask_joined : (ms ns : List Bool) → mask_l (ms ++ ns) ≡ mask_l ms + 2 ^ length ms * mask_l ns
+pub mask_joined : (ms ns : List Bool) → mask_l (ms ++ ns) ≡ mask_l ms + 2 ^ length ms * mask_l ns
 mask_joined [] ns = omega arith
 mask_joined (m ∷ ms) ns =
     let e = mask_joined ms ns in
@@ -114,10 +114,10 @@ parts_joined x y z X Y Z =
     let low : bit_or x (y * 65536 % 18446744073709551616) ≡ y * 2 ^ 16 + x = ap (bit_or x) a ∙ or_comm x (y * 2 ^ 16) ∙ or_shifted y 16 x X in
     (λ i. bit_or (low i) (b i)) ∙ or_comm (y * 2 ^ 16 + x) (z * 2 ^ 32) ∙ or_shifted z 32 (y * 2 ^ 16 + x) (omega arith) ∙ omega arith
 
-sixteen_long : (p : ℕ → Bool) (xs : List ℕ) → 16 ≤ length xs → length (map p (take 16 xs)) ≡ 16
+pub sixteen_long : (p : ℕ → Bool) (xs : List ℕ) → 16 ≤ length xs → length (map p (take 16 xs)) ≡ 16
 sixteen_long p xs long = length-map (take 16 xs) p ∙ length-take-le 16 xs long
 
-sixteen_small : (p : ℕ → Bool) (xs : List ℕ) → 16 ≤ length xs → mask_l (map p (take 16 xs)) < 65536
+pub sixteen_small : (p : ℕ → Bool) (xs : List ℕ) → 16 ≤ length xs → mask_l (map p (take 16 xs)) < 65536
 sixteen_small p xs long =
     let P : ℕ → Type 0 = λ n. mask_l (map p (take 16 xs)) < 2 ^ n in
     subst P (sixteen_long p xs long) (mask_l-lt (map p (take 16 xs)))

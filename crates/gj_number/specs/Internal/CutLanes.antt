@@ -55,14 +55,22 @@ pub record IsWhole (piece : List ℕ) (fraction end : ℕ) (precise : Bool) : Ty
   pub other : 12 < fraction → precise ≡ true
   pub last : 12 < fraction → (i : ℕ) → end ≤ i + 3 → i < end → IsDigit (get_or piece i 0)
 
--- a byte that ends a part of a number in a list of them
+-- a byte that ends a part of a number, where this one stands after the number
+abbrev pub is_mark_by : ℕ → ℕ → Bool
+is_mark_by behind b = b == behind || b == decimal_point
+
+-- the same in a list of numbers
 abbrev pub is_mark : ℕ → Bool
-is_mark b = b == comma || b == decimal_point
+is_mark b = is_mark_by comma b
 
 -- after so many bytes a mark, after so many more another, and so on, to four of them
 abbrev pub AreMarks : List Bool → ℕ → ℕ → ℕ → ℕ → Type 0
 AreMarks marks a b c d = (rest : List Bool)
     × (marks ≡ replicate a false ++ true ∷ (replicate b false ++ true ∷ (replicate c false ++ true ∷ (replicate d false ++ true ∷ rest))))
+
+-- the same of two marks
+abbrev pub AreTwoMarks : List Bool → ℕ → ℕ → Type 0
+AreTwoMarks marks a b = (rest : List Bool) × (marks ≡ replicate a false ++ true ∷ (replicate b false ++ true ∷ rest))
 
 -- the indices of the first four marks
 pub record HasMarks (point comma other_point next a b c d : ℕ) : Type 0 where

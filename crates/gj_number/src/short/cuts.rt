@@ -86,10 +86,10 @@ pub struct Signs {
 
 /// The index of a number's first digit, and how many bytes stand before its point and after it.
 #[derive(Clone, Copy)]
-struct Span {
-    first: usize,
-    natural: usize,
-    fraction: usize,
+pub(super) struct Span {
+    pub(super) first: usize,
+    pub(super) natural: usize,
+    pub(super) fraction: usize,
 }
 
 /// The indices of the first four marks in a piece, 64 for one that is not there. `next` is that of the comma after the
@@ -116,7 +116,7 @@ fn marks_at(piece: &[u8], at: usize) -> u64
 
 /// A number without its lowest bit.
 #[inline(always)]
-fn without_lowest(bits: u64) -> u64
+pub(super) fn without_lowest(bits: u64) -> u64
     ensures { (k rest : ℕ) → bits ≡ (1 + 2 * rest) * 2 ^ k → result ≡ rest * 2 ^ (k + 1) }
 {
     bits & bits.wrapping_sub(1)
@@ -156,7 +156,7 @@ fn may_lead(byte: u8, natural: usize) -> bool
 /// The number that begins at an index, with a minus sign if it is to be negative and else without, has its point at another
 /// index and ends before a third, where this byte stands. There may be no digit before the point, or none after it.
 #[inline(always)]
-fn span_between(
+pub(super) fn span_between(
     piece: &[u8],
     at: usize,
     negative: bool,
@@ -212,7 +212,7 @@ fn is_judged(fraction: usize, precise: bool) -> bool
 
 /// Whether digits of two numbers are in all their lanes, or those in none are digits and say nothing more.
 #[inline(always)]
-fn are_whole(
+pub(super) fn are_whole(
     piece: &[u8],
     one: Span,
     comma: usize,
