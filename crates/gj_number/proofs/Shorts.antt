@@ -17,6 +17,7 @@ pub mod SpreadMarks
 pub mod CutPlaces
 pub mod CutPairs
 pub mod UsualMarks
+pub mod UsualSpreads
 pub mod PointedNumbers
 pub mod LastDigits
 pub mod UnsignedNumbers

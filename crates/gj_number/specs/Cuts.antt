@@ -68,3 +68,11 @@ pub record StartsWithSpreadPair (piece : List ℕ) (gap : ℕ) (pair : CutPair) 
   pub after : get_or piece pair.end 0 ≡ line_feed
   pub first : IsCut one pair.first
   pub second : IsCut other pair.second
+
+-- Two usual numbers stand at the start of the piece, with a comma and so many bytes between them, and a line feed after the
+-- second.
+pub record StartsUsualSpread (piece : List ℕ) (gap : ℕ) : Type 0 where
+  pub comma_at : ℕ
+  pub length_other : ℕ
+  pub one : StartsUsual piece comma_at comma
+  pub other : StartsUsual (drop (comma_at + 1 + gap) piece) length_other line_feed

@@ -14,7 +14,7 @@ use Rattle.gj_number.specs.Bytes.{comma, minus_sign, decimal_point, space, close
 use Rattle.gj_number.specs.Denotation.{SpellsSign}
 use Rattle.gj_number.specs.Short.{StartsUsual}
 use Rattle.gj_number.specs.Cuts.{StartsUsualCuts, byte_after, before_comma, second_after}
-use Rattle.gj_number.specs.Internal.CutLanes.{is_mark, before_point, after_point, in_lanes, AreMarks, HasMarks, IsMarkedSpan, IsSpan}
+use Rattle.gj_number.specs.Internal.CutLanes.{is_mark, is_mark_by, before_point, after_point, in_lanes, AreMarks, HasMarks, IsMarkedSpan, IsSpan}
 use Rattle.gj_number.specs.Internal.DigitLanes.{lane_of}
 use Rattle.gj_number.specs.Internal.DigitRuns.{IsPointed}
 use Rattle.gj_number.specs.declared.short.cuts.After.{After}
@@ -27,33 +27,40 @@ use Rattle.gj_number.proofs.Shorts.OrdinaryNumbers.{first_digit, laid, laid_leng
 
 -- ---- the marks of bytes
 
-digits_unmarked : (xs : List ℕ) → AllByRecursion IsDigit xs → map is_mark xs ≡ replicate (length xs) false
-digits_unmarked [] d = refl
-digits_unmarked (x ∷ xs) d =
-    let low = d.0.0 in
-    let high = d.0.1 in
-    let e : is_mark x ≡ false = grind (arith, nat_tests) in
-    (λ i. e i ∷ digits_unmarked xs d.1 i)
+module _ (stop : ℕ) (low : stop < minus_sign) where
+  abbrev mark : ℕ → Bool
+  mark = is_mark_by stop
 
-sign_unmarked : (negative : Bool) (sign : List ℕ) → SpellsSign negative sign → map is_mark sign ≡ replicate (length sign) false
-sign_unmarked false sign s = rw s refl
-sign_unmarked true sign s = rw s refl
+  digits_unmarked : (xs : List ℕ) → AllByRecursion IsDigit xs → map mark xs ≡ replicate (length xs) false
+  digits_unmarked [] d = refl
+  digits_unmarked (x ∷ xs) d =
+      let low_digit = d.0.0 in
+      let high_digit = d.0.1 in
+      let e : mark x ≡ false = grind (arith, nat_tests) in
+      (λ i. e i ∷ digits_unmarked xs d.1 i)
 
-number_marks : (sign natural fraction more : List ℕ) (b : ℕ) → map is_mark sign ≡ replicate (length sign) false → AllByRecursion IsDigit natural
-    → map is_mark fraction ≡ replicate (length fraction) false → is_mark b ≡ true
-    → map is_mark (sign ++ (natural ++ ((decimal_point ∷ fraction) ++ (b ∷ more))))
-    ≡ replicate (length sign + length natural) false ++ true ∷ (replicate (length fraction) false ++ true ∷ map is_mark more)
-number_marks sign natural fraction more b s n f e =
-    let rest : List ℕ = (decimal_point ∷ fraction) ++ (b ∷ more) in
-    let tail : map is_mark (fraction ++ (b ∷ more)) ≡ replicate (length fraction) false ++ true ∷ map is_mark more =
-    map-append is_mark fraction (b ∷ more) ∙ (λ i. f i ++ e i ∷ map is_mark more) in
-    let back : map is_mark rest ≡ true ∷ (replicate (length fraction) false ++ true ∷ map is_mark more) = ap (λ ms. true ∷ ms) tail in
-    map-append is_mark sign (natural ++ rest) ∙ (λ i. s i ++ map-append is_mark natural rest i)
-    ∙ (λ i. replicate (length sign) false ++ (digits_unmarked natural n i ++ back i))
-    ∙ sym (append_assoc (replicate (length sign) false) (replicate (length natural) false) _)
-    ∙ ap (λ ms. ms ++ true ∷ (replicate (length fraction) false ++ true ∷ map is_mark more)) (replicate-append-replicate (length sign) (length natural) false)
+  sign_unmarked : (negative : Bool) (sign : List ℕ) → SpellsSign negative sign → map mark sign ≡ replicate (length sign) false
+  sign_unmarked false sign s = rw s refl
+  sign_unmarked true sign s = let e : mark minus_sign ≡ false = grind (arith, nat_tests) in rw s (λ i. e i ∷ [])
 
-take_past : (k a : ℕ) (ms : List Bool) → a + 1 ≤ k → take k (replicate a false ++ true ∷ ms) ≡ replicate a false ++ true ∷ take (k - (a + 1)) ms
+  point_marked : mark decimal_point ≡ true
+  point_marked = grind (arith, nat_tests)
+
+  number_marks : (sign natural fraction more : List ℕ) (b : ℕ) → map mark sign ≡ replicate (length sign) false → AllByRecursion IsDigit natural
+      → map mark fraction ≡ replicate (length fraction) false → mark b ≡ true
+      → map mark (sign ++ (natural ++ ((decimal_point ∷ fraction) ++ (b ∷ more))))
+      ≡ replicate (length sign + length natural) false ++ true ∷ (replicate (length fraction) false ++ true ∷ map mark more)
+  number_marks sign natural fraction more b s n f e =
+      let rest : List ℕ = (decimal_point ∷ fraction) ++ (b ∷ more) in
+      let tail : map mark (fraction ++ (b ∷ more)) ≡ replicate (length fraction) false ++ true ∷ map mark more =
+      map-append mark fraction (b ∷ more) ∙ (λ i. f i ++ e i ∷ map mark more) in
+      let back : map mark rest ≡ true ∷ (replicate (length fraction) false ++ true ∷ map mark more) = (λ i. point_marked i ∷ tail i) in
+      map-append mark sign (natural ++ rest) ∙ (λ i. s i ++ map-append mark natural rest i)
+      ∙ (λ i. replicate (length sign) false ++ (digits_unmarked natural n i ++ back i))
+      ∙ sym (append_assoc (replicate (length sign) false) (replicate (length natural) false) _)
+      ∙ ap (λ ms. ms ++ true ∷ (replicate (length fraction) false ++ true ∷ map mark more)) (replicate-append-replicate (length sign) (length natural) false)
+
+pub take_past : (k a : ℕ) (ms : List Bool) → a + 1 ≤ k → take k (replicate a false ++ true ∷ ms) ≡ replicate a false ++ true ∷ take (k - (a + 1)) ms
 take_past zero a ms h = absurd (omega arith)
 take_past (suc k) zero ms h = let e : k ≡ suc k - (0 + 1) = omega arith in ap (λ n. true ∷ take n ms) e
 take_past (suc k) (suc a) ms h =
@@ -106,10 +113,11 @@ module _ (xs : List ℕ) (n behind : ℕ) (u : StartsUsual xs n behind) where
   digits = pointed xs negative n behind refl u
 
   -- so many bytes after it are no marks, and the next is one
-  pub marks_past : (k : ℕ) → map is_mark (take k (drop n xs)) ≡ replicate k false → is_mark (get_or xs (n + k) 0) ≡ true → n + k < length xs
-      → map is_mark xs ≡ replicate (bool_byte negative + before) false
-      ++ true ∷ (replicate (after + k) false ++ true ∷ map is_mark (drop (suc (n + k)) xs))
-  marks_past k unmarked marked within =
+  pub marks_past : (stop : ℕ) → stop < minus_sign → (k : ℕ) → map (is_mark_by stop) (take k (drop n xs)) ≡ replicate k false
+      → is_mark_by stop (get_or xs (n + k) 0) ≡ true → n + k < length xs
+      → map (is_mark_by stop) xs ≡ replicate (bool_byte negative + before) false
+      ++ true ∷ (replicate (after + k) false ++ true ∷ map (is_mark_by stop) (drop (suc (n + k)) xs))
+  marks_past stop low k unmarked marked within =
       let x = u.number.ordinary in
       let between = take k (drop n xs) in
       let more = drop (suc (n + k)) xs in
@@ -130,27 +138,27 @@ module _ (xs : List ℕ) (n behind : ℕ) (u : StartsUsual xs n behind) where
             let size = sign_size negative x.negative x.sign rest x.spells_sign e (first_digit x.natural _ x.spells_natural) in
             let room : k ≤ length (drop n xs) = omega (arith, length-drop n xs) in
             let long : length tail ≡ after + k = length-append x.fraction between ∙ ap (λ m. after + m) (length-take-le k (drop n xs) room) in
-            let off : map is_mark tail ≡ replicate (length tail) false =
-            map-append is_mark x.fraction between ∙ (λ i. digits_unmarked x.fraction (all_digits x.fraction h.1) i ++ unmarked i)
+            let off : map (is_mark_by stop) tail ≡ replicate (length tail) false =
+            map-append (is_mark_by stop) x.fraction between ∙ (λ i. digits_unmarked stop low x.fraction (all_digits x.fraction h.1) i ++ unmarked i)
             ∙ replicate-append-replicate (length x.fraction) k false ∙ ap (λ m. replicate m false) (sym long) in
-            ap (map is_mark) all
-            ∙ number_marks x.sign x.natural tail more b (sign_unmarked x.negative x.sign x.spells_sign) (natural_digits x.natural x.spells_natural)
-            off marked
-            ∙ ap (λ m. replicate (m + before) false ++ true ∷ (replicate (length tail) false ++ true ∷ map is_mark more)) size
-            ∙ ap (λ m. replicate (bool_byte negative + before) false ++ true ∷ (replicate m false ++ true ∷ map is_mark more)) long
+            ap (map (is_mark_by stop)) all
+            ∙ number_marks stop low x.sign x.natural tail more b (sign_unmarked stop low x.negative x.sign x.spells_sign)
+            (natural_digits x.natural x.spells_natural) off marked
+            ∙ ap (λ m. replicate (m + before) false ++ true ∷ (replicate (length tail) false ++ true ∷ map (is_mark_by stop) more)) size
+            ∙ ap (λ m. replicate (bool_byte negative + before) false ++ true ∷ (replicate m false ++ true ∷ map (is_mark_by stop) more)) long
       ]
 
   -- the byte after it is a mark
-  pub marks_are : is_mark behind ≡ true → map is_mark xs ≡ replicate (bool_byte negative + before) false
-      ++ true ∷ (replicate after false ++ true ∷ map is_mark (drop (suc n) xs))
-  marks_are marked =
+  pub marks_are : (stop : ℕ) → stop < minus_sign → is_mark_by stop behind ≡ true → map (is_mark_by stop) xs ≡ replicate (bool_byte negative + before) false
+      ++ true ∷ (replicate after false ++ true ∷ map (is_mark_by stop) (drop (suc n) xs))
+  marks_are stop low marked =
       let within = u.number.within in
-      let P : ℕ → ℕ → Type 0 = λ a m. map is_mark xs ≡ replicate (bool_byte negative + before) false
-      ++ true ∷ (replicate a false ++ true ∷ map is_mark (drop (suc m) xs)) in
+      let P : ℕ → ℕ → Type 0 = λ a m. map (is_mark_by stop) xs ≡ replicate (bool_byte negative + before) false
+      ++ true ∷ (replicate a false ++ true ∷ map (is_mark_by stop) (drop (suc m) xs)) in
       let none : n + 0 ≡ n = omega arith in
       let no_more : after + 0 ≡ after = omega arith in
-      let there : is_mark (get_or xs (n + 0) 0) ≡ true = ap (λ k. is_mark (get_or xs k 0)) none ∙ ap is_mark u.ends ∙ marked in
-      subst (λ a. P a n) no_more (subst (P (after + 0)) none (marks_past 0 refl there (omega arith)))
+      let there : is_mark_by stop (get_or xs (n + 0) 0) ≡ true = ap (λ k. is_mark_by stop (get_or xs k 0)) none ∙ ap (is_mark_by stop) u.ends ∙ marked in
+      subst (λ a. P a n) no_more (subst (P (after + 0)) none (marks_past stop low 0 refl there (omega arith)))
 
 -- where it stands in a piece
 module _ (piece : List ℕ) (at point end n behind : ℕ) (u : StartsUsual (drop at piece) n behind)
@@ -334,12 +342,12 @@ module _ (piece : List ℕ) (form : PairForm) (u : StartsUsualCuts piece form) w
       ∙ ap (λ k. get_or second k 0) {x = u.length_other + 0} {y = u.length_other} (omega arith) ∙ u.other.ends)
       (λ is. get_or-drop u.length_other second 1 0 ∙ bracket_follows is) in
       let past : map is_mark second ≡ replicate other_point_at false ++ true ∷ fours =
-      marks_past second u.length_other behind u.other ends bytes_after (ap is_mark comma_follows) (omega arith) in
+      marks_past second u.length_other behind u.other comma (omega arith) ends bytes_after (ap is_mark comma_follows) (omega arith) in
       let joined : replicate spaces false ++ map is_mark second ≡ threes =
       ap (λ ms. replicate spaces false ++ ms) past ∙ sym (append_assoc (replicate spaces false) (replicate other_point_at false) (true ∷ fours))
       ∙ ap (λ ms. ms ++ true ∷ fours) (replicate-append-replicate spaces other_point_at false) in
       let whole : map is_mark piece ≡ replicate point_at false ++ true ∷ twos =
-      marks_are piece u.comma_at comma u.one refl
+      marks_are piece u.comma_at comma u.one comma (omega arith) refl
       ∙ ap (λ ms. replicate point_at false ++ true ∷ (replicate places false ++ true ∷ ms)) (marks_between long ∙ joined) in
       let k : ℕ = 48 - (point_at + 1) in
       let l : ℕ = k - (places + 1) in

@@ -1,7 +1,9 @@
 //! Two numbers on a line each, read as their cut values.
 ghost use Rattle.std.specs.Prelude.{◌≡◌, ℕ, ◌+◌, ◌≤◌, ◌<◌, get_or, length, map, take, drop, IfSome};
 ghost use Rattle.std.specs.Simd.Lanes.{mask_l};
-ghost use Rattle.gj_number.specs.Cuts.{StartsWithSpreadPair};
+ghost use Rattle.std.specs.Option.{IsSome};
+ghost use Rattle.gj_number.specs.Cuts.{StartsWithSpreadPair, StartsUsualSpread};
+ghost use Rattle.gj_number.specs.Internal.DigitRuns.{StartsSigned};
 ghost use Rattle.gj_number.specs.Internal.CutLanes.{is_mark_by, AreTwoMarks};
 
 use super::cut_lanes::{are_digits, cuts_of, placed_digits, rests_of};
@@ -50,6 +52,8 @@ pub fn read_spread_pair(piece: &[u8], signs: Signs, gap: usize) -> Option<CutPai
     requires gap { gap ≤ 32 }
     ensures numbers { IfSome result (λ pair. StartsWithSpreadPair piece.now gap pair) }
     ensures near { IfSome result (λ pair. pair.end < 80) }
+    ensures taken { (usual : StartsUsualSpread piece.now gap) → StartsSigned piece.now signs.first
+        → StartsSigned (drop (usual.comma_at + 1 + gap) piece.now) signs.second → IsSome result }
 {
     let ends = first_ends(piece, b',');
     let comma = ends.end;
