@@ -8,7 +8,8 @@
 //! A [`Short`] is an ordinary number, of at most eighteen digits and no exponent, which [`read_short`] reads whole from
 //! the start of a piece. What its methods say of it, they say of its decimal. [`read_decimal`] reads longer numbers too,
 //! and gives their decimal. [`read_pair`] reads two ordinary numbers at once, and [`read_cut_pair`] two of
-//! which no more is needed than their cut values. [`unsigned_run`] only counts the bytes of a number without a sign.
+//! which no more is needed than their cut values, as [`read_spread_pair`] does of two on a line
+//! each. [`unsigned_run`] only counts the bytes of a number without a sign.
 #![tactic(auto)]
 
 mod decimal;
