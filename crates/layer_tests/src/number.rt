@@ -4,4 +4,5 @@ mod literal;
 mod pair;
 mod prefix;
 mod short;
+mod spread;
 mod unsigned;
