@@ -1,6 +1,6 @@
 //! White space that is looked for first where it ended before.
 
-ghost use Rattle.std.specs.Prelude.{◌≤◌, ◌*◌, length};
+ghost use Rattle.std.specs.Prelude.{◌≤◌, ◌+◌, ◌*◌, length, IsTrue};
 ghost use Rattle.std.specs.List.{AllByRecursion};
 ghost use Rattle.gj_json.specs.Bytes.{IsWhite};
 ghost use Rattle.gj_json.specs.Internal.FlatParts.{cut};
@@ -37,6 +37,16 @@ fn far_white_end(piece: &[u8], at: usize) -> usize
     white_end(piece, at)
 }
 
+/// Whether so many bytes of white space stand at an index.
+#[inline(always)]
+pub fn has_white(piece: &[u8], at: usize, count: usize) -> bool
+    requires room { at + 2 * LANES ≤ length piece.now }
+    requires few { count ≤ 2 * LANES }
+    ensures { IsTrue result → AllByRecursion IsWhite (cut piece.now at (at + count)) }
+{
+    begins_white(&piece[at..], count)
+}
+
 impl Gap {
     /// Before the first.
     pub fn none() -> Gap {
@@ -56,7 +66,7 @@ impl Gap {
             if piece[at] > b' ' {
                 return at;
             }
-            if begins_white(&piece[at..], self.bytes) && piece[at + self.bytes] > b' ' {
+            if has_white(piece, at, self.bytes) && piece[at + self.bytes] > b' ' {
                 return at + self.bytes;
             }
         }

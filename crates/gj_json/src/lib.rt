@@ -33,6 +33,7 @@ mod positions;
 mod reader;
 mod runs;
 mod sink;
+mod spread_positions;
 mod strings;
 mod tokens;
 mod usual;

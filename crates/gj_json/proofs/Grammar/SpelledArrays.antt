@@ -1,15 +1,21 @@
 -- An array of two or three numbers is spelled by its numbers, each where it stands, and what stands around them.
-use Rattle.std.proofs.Common.{◌≡◌, ℕ, ◌+◌, ◌≤◌, ◌<◌, Bool, true, false, IsTrue, inl, refl, List, ◌∷◌, get_or, length, take, subst, sym, arith}
+use Rattle.std.proofs.Common.{◌≡◌, ℕ, ◌+◌, ◌-◌, ◌≤◌, ◌<◌, Bool, true, false, IsTrue, inl, refl, List, ◌∷◌, get_or, drop, length, take, subst, sym, arith, w64}
 use Rattle.std.specs.List.{AllByRecursion}
 use Rattle.std.specs.Option.{option_to_list}
-use mir.Val.{bool_byte}
+use Rattle.std.proofs.lemmas.Int.{to_z-of_z}
+use Rattle.std.proofs.lemmas.List.{drop-drop}
+use mir.Val.{SFits, to_z, of_z, bool_byte}
+use Rattle.gj_number.specs.declared.short.Short.{Short}
+use Rattle.gj_number.specs.declared.short.cuts.Cut.{Cut}
+use Rattle.gj_number.specs.Short.{StartsWithNumber, exact_of}
+use Rattle.gj_number.specs.Cuts.{IsCut}
 use Rattle.gj_json.specs.Bytes.{open_bracket, comma, space, IsWhite}
 use Rattle.gj_json.specs.declared.flat.Numbered.{Numbered}
 use Rattle.gj_json.specs.Internal.SpelledNumbers.{SpellsNumbers}
 use Rattle.gj_json.specs.Internal.SpelledPositions.{ClosesAt}
 use Rattle.gj_json.specs.Internal.FlatParts.{cut, IsValued, IsItem}
 use Rattle.gj_json.proofs.Pieces.PieceCuts.{cut_byte}
-use Rattle.gj_json.proofs.Grammar.SpelledPairs.{none_cut}
+use Rattle.gj_json.proofs.Grammar.SpelledPairs.{none_cut, valued_cut}
 use Rattle.gj_json.proofs.Grammar.SpelledFlats.{item_cut, more_cut, flat_cut}
 
 pub at_most_one : (b : Bool) → bool_byte b ≤ 1
@@ -26,6 +32,20 @@ one_space piece at false within is =
 one_space piece at true within is =
     let Q : List ℕ → Type 0 = λ xs. AllByRecursion IsWhite xs in
     subst Q (sym (cut_byte piece at (at + 1) within (omega arith))) (inl (is refl), none_cut piece (at + 1))
+
+-- the cut value as a field of 64 bits has it
+pub of_value : (short : Short) (cut : Cut) → SFits w64 cut.value → IsCut short cut
+    → IsCut short (record { value = to_z w64 (of_z w64 cut.value); precise = cut.precise })
+of_value short cut fits is = subst (λ v. IsCut short (record { value = v; precise = cut.precise })) (sym (to_z-of_z w64 cut.value fits)) is
+
+-- a number of a rest of a piece, as it stands in the piece
+pub valued_there : (piece : List ℕ) (at k end : ℕ) (value : Short) → k ≤ end → StartsWithNumber (drop k (drop at piece)) (exact_of value) (end - k)
+    → IsValued value (cut piece (at + k) (at + end))
+valued_there piece at k end value less read =
+    let e : at + k + (end - k) ≡ at + end = omega arith in
+    let P : ℕ → Type 0 = λ n. IsValued value (cut piece (at + k) n) in
+    let Q : List ℕ → Type 0 = λ xs. StartsWithNumber xs (exact_of value) (end - k) in
+    subst P e (valued_cut piece (at + k) (end - k) value (subst Q (drop-drop k at piece) read))
 
 -- where the first number begins, the comma after it, the second number and its end, and the closing bracket
 module _ (piece : List ℕ) (start : ℕ) (first second : Numbered) (first_at comma_at second_at end close : ℕ) (closes : ClosesAt piece start end close)

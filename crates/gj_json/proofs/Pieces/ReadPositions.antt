@@ -6,6 +6,7 @@ use Rattle.gj_json.specs.Bytes.{open_bracket}
 use Rattle.gj_json.specs.declared.cut_position.CutPosition.{CutPosition}
 use Rattle.gj_json.specs.CutPosition.{RiseAfter, Rise}
 use Rattle.gj_json.specs.Internal.SpelledPositions.{place_after, place_after_all, SpellsPosition, SpellsPositions}
+use Rattle.gj_json.proofs.Pieces.PieceRests.{rest_of}
 
 -- the place after one lies after its start
 pub one_on : (gap : ℕ) (p : CutPosition) (start : ℕ) (piece : List ℕ) → SpellsPosition gap p start piece → start + 1 ≤ place_after gap p
@@ -125,3 +126,61 @@ module _ (gap : ℕ) (ps : List CutPosition) (d : CutPosition) (k start : ℕ) (
           let all = all_on gap (take n qs) (place_after gap q) (drop (place_after gap q - start) piece) t in
           let within = b.0 in
           (omega (arith, e), omega (arith, e), ap (λ m. get_or piece (m - start) 0) (sym e) ∙ b.1)
+
+-- ---- a loop over them
+
+-- A piece starts with these positions, and this rest of it stands after them.
+pub record ReadTo (gap start : ℕ) (piece : List ℕ) (before : List CutPosition) (rest : List ℕ) : Type 0 where
+  pub place_is : start + length piece - length rest ≡ place_after_all gap before start
+  pub rest_is : rest ≡ drop (length piece - length rest) piece
+  pub bracket : get_or rest 0 0 ≡ open_bracket
+  pub spelled : SpellsPositions gap before start piece
+
+-- none, and one more
+pub none_read : (gap start : ℕ) (piece : List ℕ) → get_or piece 0 0 ≡ open_bracket → ReadTo gap start piece [] piece
+none_read gap start piece bracket = record {
+  place_is = omega arith;
+  rest_is = (let none : 0 ≡ length piece - length piece = omega arith in ap (λ n. drop n piece) none);
+  bracket = bracket;
+  spelled = tt;
+}
+
+module _ (gap start : ℕ) (piece : List ℕ) (before : List CutPosition) (rest : List ℕ) (within : length rest ≤ length piece)
+    (read : ReadTo gap start piece before rest) (p : CutPosition) (s : SpellsPosition gap p (start + length piece - length rest) rest) where
+  pub one_less : p.close_at + 2 + gap < length rest
+  one_less =
+      let at = s.at in
+      let b = (left_begins gap p (start + length piece - length rest) rest s).0 in
+      let on = one_on gap p (start + length piece - length rest) rest s in
+      omega arith
+
+  pub one_read : (more : List CutPosition) → more ≡ before ++ p ∷ []
+      → ReadTo gap start piece more (take (length rest - (p.close_at + 2 + gap)) (drop (p.close_at + 2 + gap) rest))
+  one_read more is =
+      let place = start + length piece - length rest in
+      let n = p.close_at + 2 + gap in
+      let next = place_after gap p in
+      let at = s.at in
+      let bytes : n ≡ next - place = omega arith in
+      let on = one_on gap p place rest s in
+      let b = left_begins gap p place rest s in
+      let less = one_less in
+      let same : take (length rest - n) (drop n rest) ≡ drop n rest = rest_of rest n in
+      let size : length (take (length rest - n) (drop n rest)) ≡ length rest - n = ap length same ∙ length-drop n rest in
+      let P : List CutPosition → Type 0 = λ ps. SpellsPositions gap ps start piece in
+      let Q : ℕ → List ℕ → Type 0 = λ m xs. SpellsPosition gap p m xs in
+      let here : rest ≡ drop (place - start) piece =
+      read.rest_is ∙ ap (λ k. drop k piece) {x = length piece - length rest} {y = place - start} (omega arith) in
+      let there : SpellsPosition gap p (place_after_all gap before start) (drop (place_after_all gap before start - start) piece) =
+      subst (λ (m : ℕ). Q m (drop (m - start) piece)) read.place_is (subst (λ (xs : List ℕ). Q place xs) here s) in
+      record {
+        place_is =
+            (let e : start + length piece - length (take (length rest - n) (drop n rest)) ≡ next = omega arith in
+            e ∙ sym (after_more gap before p start) ∙ ap (λ ps. place_after_all gap ps start) (sym is));
+        rest_is =
+            same ∙ ap (drop n) here ∙ ap (λ k. drop k (drop (place - start) piece)) bytes
+            ∙ in_two piece start place next (omega arith) (omega arith)
+            ∙ ap (λ k. drop k piece) {x = next - start} {y = length piece - length (take (length rest - n) (drop n rest))} (omega arith);
+        bracket = ap (λ xs. get_or xs 0 0) same ∙ ap (λ k. get_or (drop k rest) 0 0) bytes ∙ b.1;
+        spelled = subst P (sym is) (one_more gap before p start piece read.spelled there);
+      }

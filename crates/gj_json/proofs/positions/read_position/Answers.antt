@@ -1,35 +1,18 @@
+-- The array, by what stands between the numbers and the brackets.
 use Rattle.std.proofs.Common.{◌≡◌, ◌∙◌, ◌+◌, ◌-◌, ◌≤◌, List, ℕ, get_or, drop, refl, sym, ap, subst, arith, rules, w64}
-use mir.Val.{SFits, to_z, of_z, bool_byte}
+use mir.Val.{SFits, bool_byte}
 use Rattle.std.specs.List.{AllByRecursion}
-use Rattle.std.proofs.lemmas.Int.{to_z-of_z}
-use Rattle.std.proofs.lemmas.List.{get_or-drop, drop-drop}
-use Rattle.gj_number.specs.declared.short.Short.{Short}
-use Rattle.gj_number.specs.declared.short.cuts.Cut.{Cut}
+use Rattle.std.proofs.lemmas.List.{get_or-drop}
 use Rattle.gj_number.specs.declared.short.cuts.PairForm.{PairForm}
-use Rattle.gj_number.specs.Short.{StartsWithNumber, exact_of}
-use Rattle.gj_number.specs.Cuts.{IsCut, StartsWithCutPair, second_after}
+use Rattle.gj_number.specs.Cuts.{StartsWithCutPair, second_after}
 use Rattle.gj_json.specs.Bytes.{IsWhite, comma}
 use Rattle.gj_json.specs.declared.flat.Flat.{Flat}
 use Rattle.gj_json.specs.declared.flat.Numbered.{Numbered}
 use Rattle.gj_json.specs.Internal.FlatParts.{cut, IsValued}
-use Rattle.gj_json.proofs.Grammar.SpelledArrays.{at_most_one, one_space, array_spelled}
+use Rattle.gj_json.proofs.Grammar.SpelledArrays.{at_most_one, one_space, of_value, valued_there, array_spelled}
 use Rattle.gj_json.proofs.Grammar.SpelledPairs.{valued_cut}
 use Rattle.gj_json.proofs.Pieces.PieceRests.{rest_of}
 use Rattle.gj_json.proofs.positions.read_position.Goals as goal
-
--- the cut value as a field of 64 bits has it
-of_value : (short : Short) (cut : Cut) → SFits w64 cut.value → IsCut short cut
-    → IsCut short (record { value = to_z w64 (of_z w64 cut.value); precise = cut.precise })
-of_value short cut fits is = subst (λ v. IsCut short (record { value = v; precise = cut.precise })) (sym (to_z-of_z w64 cut.value fits)) is
-
--- a number of a rest of a piece, as it stands in the piece
-valued_there : (piece : List ℕ) (at k end : ℕ) (value : Short) → k ≤ end → StartsWithNumber (drop k (drop at piece)) (exact_of value) (end - k)
-    → IsValued value (cut piece (at + k) (at + end))
-valued_there piece at k end value less read =
-    let e : at + k + (end - k) ≡ at + end = omega arith in
-    let P : ℕ → Type 0 = λ n. IsValued value (cut piece (at + k) n) in
-    let Q : List ℕ → Type 0 = λ xs. StartsWithNumber xs (exact_of value) (end - k) in
-    subst P e (valued_cut piece (at + k) (end - k) value (subst Q (drop-drop k at piece) read))
 
 pub invariant_of-result : goal.invariant_of-result
 invariant_of-result c =

@@ -1,0 +1,123 @@
+//! Reads positions over several lines as their cut values.
+
+ghost use Rattle.std.specs.Prelude.{◌≡◌, ◌+◌, ◌^◌, ◌≤◌, length, take, get_or, IfSome};
+ghost use Rattle.gj_json.specs.Bytes.{open_bracket};
+ghost use Rattle.gj_json.specs.Internal.SpelledPositions.{SpellsPosition, SpellsPositions};
+
+use crate::cut_position::CutPosition;
+use crate::gaps::has_white;
+use crate::lanes::LANES;
+use crate::positions::MOST_POSITIONS;
+use gj_number::{Signs, read_spread_pair};
+
+/// How many bytes of white space are read at a place at the most.
+const MOST_WHITE: usize = 2 * LANES;
+
+/// How long a piece must be at the least for its position to be read: the bracket, what two numbers and the white space before
+/// them are read with, and what stands after them up to the next bracket.
+const ROOM: usize = 179;
+
+/// How the arrays of a run are written that have each number and the closing bracket on a line of its own, each as the others.
+#[derive(Clone, Copy)]
+pub struct SpreadForm {
+    /// How many bytes of white space stand before each number.
+    pub number_gap: usize,
+    /// How many stand before the closing bracket, and how many before the next array.
+    pub bracket_gap: usize,
+    ghost few_before_numbers: { number_gap ≤ 32 },
+    ghost few_before_brackets: { bracket_gap ≤ 32 },
+}
+
+impl SpreadForm {
+    /// The form with so many bytes of white space, unless positions are not read with so many.
+    #[inline(always)]
+    pub fn of(number_gap: usize, bracket_gap: usize) -> Option<SpreadForm>
+        ensures { IfSome result (λ form. form.bracket_gap ≡ bracket_gap) }
+    {
+        if number_gap > MOST_WHITE || bracket_gap > MOST_WHITE {
+            return None;
+        }
+        Some(SpreadForm {
+            number_gap,
+            bracket_gap,
+        })
+    }
+}
+
+/// The position that the piece starts with, where its array has this form, its numbers have these signs, and a comma and
+/// another array follow. The piece begins at the place `start`.
+#[inline(always)]
+fn read_spread_position(
+    piece: &[u8],
+    signs: Signs,
+    form: SpreadForm,
+    start: u64,
+) -> Option<CutPosition>
+    requires bracket { get_or piece.now 0 0 ≡ open_bracket }
+    requires small { start + length piece.now ≤ 2 ^ 60 }
+    ensures { IfSome result (λ position. SpellsPosition form.bracket_gap position start piece.now) }
+{
+    if piece.len() < ROOM {
+        return None;
+    }
+    let first = 1 + form.number_gap;
+    let Some(pair) = read_spread_pair(&piece[first..], signs, form.number_gap) else {
+        return None;
+    };
+    let comma = first + pair.comma;
+    let end = first + pair.end;
+    let close = end + form.bracket_gap;
+    let after = close + 1;
+    if piece[close] != b']' || piece[after] != b',' {
+        return None;
+    }
+    if piece[after + 1 + form.bracket_gap] != b'[' {
+        return None;
+    }
+    if !has_white(piece, 1, form.number_gap) || !has_white(piece, comma + 1, form.number_gap) {
+        return None;
+    }
+    if !has_white(piece, end, form.bracket_gap) || !has_white(piece, after + 1, form.bracket_gap) {
+        return None;
+    }
+    Some(CutPosition {
+        first: pair.first.value,
+        second: pair.second.value,
+        place: start,
+        first_at: first as u16,
+        second_at: (comma + 1 + form.number_gap) as u16,
+        close_at: close as u16,
+        first_precise: pair.first.precise,
+        second_precise: pair.second.precise,
+    })
+}
+
+/// Writes to `positions` those that the piece starts with whose arrays have this form and whose numbers have these signs, each
+/// with a comma and another array after it, as far as there is room, and returns how many.
+#[inline(never)]
+pub fn read_spread_positions(
+    piece: &[u8],
+    signs: Signs,
+    form: SpreadForm,
+    start: u64,
+    positions: &mut [CutPosition; MOST_POSITIONS],
+) -> usize
+    requires bracket { get_or piece.now 0 0 ≡ open_bracket }
+    requires small { start + length piece.now ≤ 2 ^ 60 }
+    ensures few { result ≤ 24 }
+    ensures spelled { SpellsPositions form.bracket_gap (take result positions.new) start piece.now }
+{
+    let end = start + piece.len() as u64;
+    let mut count = 0;
+    let mut rest = piece;
+    while count < MOST_POSITIONS {
+        let place = end - rest.len() as u64;
+        let Some(position) = read_spread_position(rest, signs, form, place) else {
+            return count;
+        };
+        rest = &rest[position.close_at as usize + 2 + form.bracket_gap..];
+        positions[count] = position;
+        count += 1;
+    }
+    count
+}
