@@ -31,6 +31,7 @@ mod names;
 mod path;
 mod positions;
 mod reader;
+mod run_form;
 mod runs;
 mod sink;
 mod spread_positions;

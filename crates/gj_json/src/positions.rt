@@ -3,9 +3,11 @@
 ghost use Rattle.std.specs.Prelude.{◌≡◌, ℕ, ◌+◌, ◌^◌, ◌<◌, ◌≤◌, length, take, get_or, IsTrue, IfSome};
 ghost use Rattle.gj_number.specs.Cuts.{byte_after};
 ghost use Rattle.gj_json.specs.Bytes.{open_bracket, comma, space};
-ghost use Rattle.gj_json.specs.Internal.SpelledPositions.{gap_of, second_ends_with, BeginsNext, ClosesAt, SpellsPosition, SpellsPositions};
+ghost use Rattle.gj_json.specs.Internal.SpelledPositions.{gap_of, near_gap, second_ends_with, BeginsNext, ClosesAt, SpellsPosition, SpellsPositions};
 
 use crate::cut_position::CutPosition;
+use crate::run_form::{ArrayForm, RunForm};
+use crate::spread_positions::read_spread_positions;
 use gj_number::{After, PairForm, Short, Signs, read_cut_pair, read_short};
 
 /// How many positions are read at once, at the most.
@@ -20,17 +22,6 @@ const MOST_PLACES_OF_THIRD: u8 = 7;
 /// How long a piece must be at the least for its position to be read: the bracket and a space, what two numbers are read with,
 /// a third one, and what stands around them up to the next bracket.
 const ROOM: usize = 104;
-
-/// How the arrays of a run are written, each as the others.
-#[derive(Clone, Copy)]
-pub struct ArrayForm {
-    /// Whether one space stands after the opening bracket, and one before the closing one. Else none does.
-    pub inside: bool,
-    /// Whether one space stands after each comma. Else none does.
-    pub after_comma: bool,
-    /// Whether a third number follows the two.
-    pub third: bool,
-}
 
 /// What stands after the second number of an array of this form.
 #[inline(always)]
@@ -126,7 +117,7 @@ fn begins_next(piece: &[u8], at: usize, spaced: bool) -> bool
 fn read_position(piece: &[u8], signs: Signs, form: ArrayForm, start: u64) -> Option<CutPosition>
     requires bracket { get_or piece.now 0 0 ≡ open_bracket }
     requires small { start + length piece.now ≤ 2 ^ 60 }
-    ensures { IfSome result (λ position. SpellsPosition (gap_of form) position start piece.now) }
+    ensures { IfSome result (λ position. SpellsPosition (near_gap form) position start piece.now) }
 {
     if piece.len() < ROOM {
         return None;
@@ -173,7 +164,7 @@ fn read_in_form(
     requires bracket { get_or piece.now 0 0 ≡ open_bracket }
     requires small { start + length piece.now ≤ 2 ^ 60 }
     ensures few { result ≤ 24 }
-    ensures spelled { SpellsPositions (gap_of form) (take result positions.new) start piece.now }
+    ensures spelled { SpellsPositions (near_gap form) (take result positions.new) start piece.now }
 {
     let end = start + piece.len() as u64;
     let mut count = 0;
@@ -228,15 +219,14 @@ fn read_other(
     requires bracket { get_or piece.now 0 0 ≡ open_bracket }
     requires small { start + length piece.now ≤ 2 ^ 60 }
     ensures few { result ≤ 24 }
-    ensures spelled { SpellsPositions (gap_of form) (take result positions.new) start piece.now }
+    ensures spelled { SpellsPositions (near_gap form) (take result positions.new) start piece.now }
 {
     read_in_form(piece, signs, form, start, positions)
 }
 
-/// Writes to `positions` those that the piece starts with whose arrays have this form and whose numbers have these signs, each
-/// with a comma and another array after it, as far as there is room, and returns how many.
+/// As `read_in_form`, of any such form.
 #[inline(always)]
-pub fn read_positions(
+fn read_near_positions(
     piece: &[u8],
     signs: Signs,
     form: ArrayForm,
@@ -246,7 +236,7 @@ pub fn read_positions(
     requires bracket { get_or piece.now 0 0 ≡ open_bracket }
     requires small { start + length piece.now ≤ 2 ^ 60 }
     ensures few { result ≤ 24 }
-    ensures spelled { SpellsPositions (gap_of form) (take result positions.new) start piece.now }
+    ensures spelled { SpellsPositions (near_gap form) (take result positions.new) start piece.now }
 {
     if form.inside || form.after_comma || form.third {
         return read_other(piece, signs, form, start, positions);
@@ -256,5 +246,26 @@ pub fn read_positions(
         (false, true) => read_signed::<false, true>(piece, start, positions),
         (true, false) => read_signed::<true, false>(piece, start, positions),
         (true, true) => read_signed::<true, true>(piece, start, positions),
+    }
+}
+
+/// Writes to `positions` those that the piece starts with whose arrays have this form and whose numbers have these signs, each
+/// with a comma and another array after it, as far as there is room, and returns how many.
+#[inline(always)]
+pub fn read_positions(
+    piece: &[u8],
+    signs: Signs,
+    form: RunForm,
+    start: u64,
+    positions: &mut [CutPosition; MOST_POSITIONS],
+) -> usize
+    requires bracket { get_or piece.now 0 0 ≡ open_bracket }
+    requires small { start + length piece.now ≤ 2 ^ 60 }
+    ensures few { result ≤ 24 }
+    ensures spelled { SpellsPositions (gap_of form) (take result positions.new) start piece.now }
+{
+    match form {
+        RunForm::Near(form) => read_near_positions(piece, signs, form, start, positions),
+        RunForm::Spread(form) => read_spread_positions(piece, signs, form, start, positions),
     }
 }

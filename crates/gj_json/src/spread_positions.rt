@@ -6,43 +6,13 @@ ghost use Rattle.gj_json.specs.Internal.SpelledPositions.{SpellsPosition, Spells
 
 use crate::cut_position::CutPosition;
 use crate::gaps::has_white;
-use crate::lanes::LANES;
 use crate::positions::MOST_POSITIONS;
+use crate::run_form::SpreadForm;
 use gj_number::{Signs, read_spread_pair};
-
-/// How many bytes of white space are read at a place at the most.
-const MOST_WHITE: usize = 2 * LANES;
 
 /// How long a piece must be at the least for its position to be read: the bracket, what two numbers and the white space before
 /// them are read with, and what stands after them up to the next bracket.
 const ROOM: usize = 179;
-
-/// How the arrays of a run are written that have each number and the closing bracket on a line of its own, each as the others.
-#[derive(Clone, Copy)]
-pub struct SpreadForm {
-    /// How many bytes of white space stand before each number.
-    pub number_gap: usize,
-    /// How many stand before the closing bracket, and how many before the next array.
-    pub bracket_gap: usize,
-    ghost few_before_numbers: { number_gap ≤ 32 },
-    ghost few_before_brackets: { bracket_gap ≤ 32 },
-}
-
-impl SpreadForm {
-    /// The form with so many bytes of white space, unless positions are not read with so many.
-    #[inline(always)]
-    pub fn of(number_gap: usize, bracket_gap: usize) -> Option<SpreadForm>
-        ensures { IfSome result (λ form. form.bracket_gap ≡ bracket_gap) }
-    {
-        if number_gap > MOST_WHITE || bracket_gap > MOST_WHITE {
-            return None;
-        }
-        Some(SpreadForm {
-            number_gap,
-            bracket_gap,
-        })
-    }
-}
 
 /// The position that the piece starts with, where its array has this form, its numbers have these signs, and a comma and
 /// another array follow. The piece begins at the place `start`.

@@ -7,14 +7,20 @@ use Rattle.gj_json.specs.Bytes.{IsWhite, open_bracket, close_bracket, comma, spa
 use Rattle.gj_json.specs.declared.flat.Flat.{Flat}
 use Rattle.gj_json.specs.declared.flat.Numbered.{Numbered}
 use Rattle.gj_json.specs.declared.cut_position.CutPosition.{CutPosition}
-use Rattle.gj_json.specs.declared.positions.ArrayForm.{ArrayForm}
+use Rattle.gj_json.specs.declared.run_form.ArrayForm.{ArrayForm}
+use Rattle.gj_json.specs.declared.run_form.RunForm.{RunForm}
+use Rattle.gj_json.specs.declared.run_form.RunForm.TheVariants.{Near, Spread}
 use Rattle.gj_json.specs.CutPosition.{IsCutPosition}
 use Rattle.gj_json.specs.Internal.FlatParts.{cut, IsMore}
 use Rattle.gj_json.specs.Internal.SpelledNumbers.{IsFlat}
 
 -- how many bytes of white space stand after a comma
-abbrev pub gap_of : ArrayForm → ℕ
-gap_of form = bool_byte form.after_comma
+abbrev pub near_gap : ArrayForm → ℕ
+near_gap form = bool_byte form.after_comma
+
+abbrev pub gap_of : RunForm → ℕ
+gap_of (Near form) = near_gap form
+gap_of (Spread form) = form.bracket_gap
 
 -- the byte after the second number
 abbrev pub second_ends_with : ArrayForm → ℕ

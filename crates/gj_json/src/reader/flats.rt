@@ -13,7 +13,7 @@ use crate::flats::{comma_run, read_flat, read_lone_flat};
 use crate::gaps::Gaps;
 use crate::levels::Level;
 use crate::mode::Mode;
-use crate::positions::ArrayForm;
+use crate::run_form::{ArrayForm, RunForm, SpreadForm};
 use crate::sink::EventSink;
 use gj_number::Signs;
 
@@ -49,12 +49,40 @@ fn signs_of(flat: &Flat) -> Signs {
 
 /// The form of an array that was read, after which a comma stands with a space or none.
 #[inline(always)]
-fn form_of(flat: &Flat, after_comma: bool) -> ArrayForm {
-    ArrayForm {
+fn near_form(flat: &Flat, after_comma: bool) -> RunForm {
+    RunForm::Near(ArrayForm {
         inside: flat.first.place - flat.place != 1,
         after_comma,
         third: flat.third.is_some(),
+    })
+}
+
+/// The form of an array of two numbers that was read, after which so many bytes stand, a comma and white space. More than one
+/// byte of white space may stand at each place.
+#[inline(always)]
+fn spread_form(flat: &Flat, comma: usize) -> Option<SpreadForm>
+    requires { 0 < comma }
+{
+    let first_at = (flat.first.place - flat.place) as usize;
+    if first_at == 0 || flat.third.is_some() {
+        return None;
     }
+    SpreadForm::of(first_at - 1, comma - 1)
+}
+
+/// The form in which positions are read after an array and so many bytes more, a comma and white space.
+#[inline(always)]
+fn form_after(flat: &Flat, comma: usize) -> Option<RunForm>
+    requires { 0 < comma }
+{
+    if comma > 2 {
+        let form = spread_form(flat, comma)?;
+        return Some(RunForm::Spread(form));
+    }
+    if comma == 2 && is_near(flat) {
+        return Some(near_form(flat, true));
+    }
+    None
 }
 
 /// Whether its first number stands right after the bracket or one byte later, as it does in a form that positions are read in.
@@ -134,14 +162,14 @@ impl Reader {
         self.skip(count, Mode::ValueDone)
     }
 
-    /// Takes the positions after an array, where no more arrays are to come before they are looked for: how many bytes. A space
-    /// stands after each comma or none.
+    /// Takes the positions after an array, where no more arrays are to come before they are looked for: how many bytes. They are
+    /// written in this form.
     #[inline(always)]
     fn take_next_positions<S: EventSink>(
         &mut self,
         piece: &[u8],
         flat: &Flat,
-        after_comma: bool,
+        form: RunForm,
         left: &mut u8,
         sink: &mut S,
     ) -> usize
@@ -160,7 +188,7 @@ impl Reader {
             *left -= 1;
             return 0;
         }
-        let many = self.take_positions(piece, signs_of(flat), form_of(flat, after_comma), sink);
+        let many = self.take_positions(piece, signs_of(flat), form, sink);
         *left = arrays_before_next(many);
         many
     }
@@ -190,7 +218,8 @@ impl Reader {
             if begins_next(&rest[count..]) {
                 self.skip(count + 1, Mode::ValueDue);
                 rest = &rest[count + 1..];
-                let many = self.take_next_positions(rest, &flat, false, &mut left, sink);
+                let form = near_form(&flat, false);
+                let many = self.take_next_positions(rest, &flat, form, &mut left, sink);
                 rest = &rest[many..];
             } else {
                 let comma = comma_run(&rest[count..], &mut gaps);
@@ -201,8 +230,8 @@ impl Reader {
                 self.skip(count + comma, Mode::ValueDue);
                 rest = &rest[count + comma..];
                 begins = begins_array(rest);
-                if begins && comma == 2 && is_near(&flat) {
-                    let many = self.take_next_positions(rest, &flat, true, &mut left, sink);
+                if begins && let Some(form) = form_after(&flat, comma) {
+                    let many = self.take_next_positions(rest, &flat, form, &mut left, sink);
                     rest = &rest[many..];
                 }
             }

@@ -7,7 +7,8 @@ ghost use Rattle.gj_json.specs.declared.levels.Level.TheVariants.{Array};
 
 use super::Reader;
 use crate::mode::Mode;
-use crate::positions::{ArrayForm, MOST_POSITIONS, read_positions};
+use crate::positions::{MOST_POSITIONS, read_positions};
+use crate::run_form::RunForm;
 use crate::sink::EventSink;
 use gj_number::Signs;
 
@@ -30,7 +31,7 @@ impl Reader {
         &mut self,
         piece: &[u8],
         signs: Signs,
-        form: ArrayForm,
+        form: RunForm,
         sink: &mut S,
     ) -> usize
         requires next { IsDueAt self.old.mode piece.now }
@@ -53,7 +54,7 @@ impl Reader {
                 return piece.len() - rest.len();
             }
             let last = self.positions[taken - 1];
-            let next = last.place + last.close_at as u64 + 2 + form.after_comma as u64;
+            let next = last.place + last.close_at as u64 + 2 + form.gap() as u64;
             let count = (next - self.offset) as usize;
             self.skip(count, Mode::ValueDue);
             rest = &rest[count..];

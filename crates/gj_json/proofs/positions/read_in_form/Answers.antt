@@ -1,7 +1,7 @@
 -- One position more.
 use Rattle.std.proofs.Common.{arith, rules}
 use Rattle.std.proofs.lemmas.List.{take_more_set}
-use Rattle.gj_json.specs.Internal.SpelledPositions.{gap_of}
+use Rattle.gj_json.specs.Internal.SpelledPositions.{near_gap}
 use Rattle.gj_json.proofs.Pieces.ReadPositions.{none_read, one_read}
 use Rattle.gj_json.proofs.positions.read_in_form.Goals as goal
 
@@ -10,7 +10,7 @@ loop-count-init c = record {
   few = omega arith;
   size = search rules;
   within = omega arith;
-  read = none_read (gap_of c.args.form) c.args.start c.args.piece.now c.requires.bracket;
+  read = none_read (near_gap c.args.form) c.args.start c.args.piece.now c.requires.bracket;
 }
 
 pub loop-count-preserved : goal.loop-count-preserved
@@ -24,6 +24,6 @@ loop-count-preserved c =
       few = omega arith;
       size = search rules;
       within = omega arith;
-      read = one_read (gap_of c.args.form) c.args.start c.args.piece.now _ c.loop-count.rest.now i.within i.read p c.in-Some.ensures _
+      read = one_read (near_gap c.args.form) c.args.start c.args.piece.now _ c.loop-count.rest.now i.within i.read p c.in-Some.ensures _
           (take_more_set all c.loop-count.count p (omega arith));
     }

@@ -1,6 +1,6 @@
 -- What was read so far, and where it ends.
 use Rattle.std.proofs.Common.{◌≡◌, ◌≤◌, length, take}
-use Rattle.gj_json.specs.Internal.SpelledPositions.{gap_of}
+use Rattle.gj_json.specs.Internal.SpelledPositions.{near_gap}
 use Rattle.gj_json.proofs.Pieces.ReadPositions.{ReadTo}
 use Rattle.gj_json.proofs.positions.read_in_form.Given as goal
 
@@ -9,7 +9,7 @@ invariant-loop-count l = record {
   few : l.count ≤ 24;
   size : length l.positions ≡ 24;
   within : length l.rest ≤ length l.piece;
-  read : ReadTo (gap_of l.fn.form) l.fn.start l.piece (take l.count l.positions) l.rest;
+  read : ReadTo (near_gap l.fn.form) l.fn.start l.piece (take l.count l.positions) l.rest;
 }
 
 abbrev pub decreases-loop-count : goal.decreases-loop-count

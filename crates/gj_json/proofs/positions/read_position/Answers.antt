@@ -1,5 +1,5 @@
 -- The array, by what stands between the numbers and the brackets.
-use Rattle.std.proofs.Common.{◌≡◌, ◌∙◌, ◌+◌, ◌-◌, ◌≤◌, List, ℕ, get_or, drop, refl, sym, ap, subst, arith, rules, w64}
+use Rattle.std.proofs.Common.{◌≡◌, ◌∙◌, ◌+◌, List, ℕ, get_or, drop, refl, sym, ap, subst, arith, rules, w64}
 use mir.Val.{SFits, bool_byte}
 use Rattle.std.specs.List.{AllByRecursion}
 use Rattle.std.proofs.lemmas.List.{get_or-drop}

@@ -1,10 +1,9 @@
 -- The array of two numbers, by what stands between them and the brackets.
-use Rattle.std.proofs.Common.{◌≡◌, ◌∙◌, ◌+◌, ◌-◌, List, ℕ, None, get_or, drop, refl, sym, ap, subst, arith, rules, w64}
+use Rattle.std.proofs.Common.{◌≡◌, ◌∙◌, ◌+◌, List, ℕ, None, get_or, drop, refl, sym, subst, arith, rules, w64}
 use mir.Val.{SFits}
-use Rattle.std.specs.List.{AllByRecursion}
 use Rattle.std.proofs.lemmas.List.{get_or-drop}
 use Rattle.gj_number.specs.Cuts.{StartsWithSpreadPair}
-use Rattle.gj_json.specs.Bytes.{IsWhite, comma}
+use Rattle.gj_json.specs.Bytes.{comma}
 use Rattle.gj_json.specs.declared.flat.Flat.{Flat}
 use Rattle.gj_json.specs.declared.flat.Numbered.{Numbered}
 use Rattle.gj_json.specs.Internal.FlatParts.{cut, IsValued}

@@ -137,7 +137,7 @@ loop-taken-smaller g c =
 
 pub loop-taken-preserved : goal.loop-taken-preserved
 loop-taken-preserved g c =
-    let gap = gap_of c.args.form in
+    let gap = c.gap.result in
     let i = c.loop-taken.invariant in
     let old = c.loop-taken.self in
     let piece = c.args.piece.now in
@@ -147,8 +147,9 @@ loop-taken-preserved g c =
     let last = place_after gap (get_or c.read_positions-found.new.positions (k - 1) c.index-self-taken.result) in
     let n = last - old.offset in
     let all = c.read_positions-found.new.positions in
+    let S : ℕ → Type 0 = λ k. SpellsPositions k told old.offset rest in
     let e = ends gap all c.index-self-taken.result c.read_positions-found.result _ old.offset rest c.if-taken-eq0.false
-    c.tell_positions-taken.ensures.few c.read_positions-found.ensures.spelled in
+    c.tell_positions-taken.ensures.few (subst S (sym c.gap.ensures) c.read_positions-found.ensures.spelled) in
     let on = e.on in
     let less = e.within in
     let few : n ≤ length rest = omega arith in

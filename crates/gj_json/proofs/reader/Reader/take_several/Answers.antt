@@ -110,8 +110,8 @@ loop-begins-preserved g c =
       levels = c.skip-else-begins_next.ensures.passed.levels ∙ invariant.levels;
     }
 
-pub loop-begins-preserved-then-is_near : goal.loop-begins-preserved-then-is_near
-loop-begins-preserved-then-is_near g c =
+pub loop-begins-preserved-else-begins_next : goal.loop-begins-preserved-else-begins_next
+loop-begins-preserved-else-begins_next g c =
     let invariant = c.loop-begins.invariant in
     let piece = c.args.piece.now in
     let rest = c.loop-begins.rest.now in
@@ -129,7 +129,7 @@ loop-begins-preserved-then-is_near g c =
     (λ events h. c.tell_flat.ensures events h) comma positive run.ensures.within (run.ensures.comma positive) (run.ensures.white positive)
     skipped.ensures.passed in
     let left = take (length rest - (count + comma)) (drop (count + comma) rest) in
-    let taken = c.take_next_positions-many-then-is_near in
+    let taken = c.take_next_positions-many-else-begins_next in
     let many = taken.ensures in
     let n = taken.result in
     let P : List ℕ → Type 0 = λ xs. IsDueAt taken.new.self.mode xs in
