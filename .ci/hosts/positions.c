@@ -9,7 +9,7 @@
 #include <stdio.h>
 #include <string.h>
 
-enum { POSITIONS = 100, ROOM = 16384 };
+enum { POSITIONS = 100, ROOM = 32768 };
 
 static char text[ROOM];
 static size_t size;
@@ -52,14 +52,31 @@ static void add_number(int negative, uint32_t natural, uint32_t fraction, int is
         add_usual(is_odd ? (int)below(2) : negative, is_odd && below(4) == 0 ? 1 + below(4) : natural, is_odd ? 1 + below(16) : fraction);
 }
 
-/* How the positions of a text are written: with a space inside the brackets, a space after each comma, a third number. */
+/* How the positions of a text are written: with a space inside the brackets, a space after each comma, a third number. Or over
+ * several lines, with so much white space at the beginning of a line with a number, or with a bracket. */
 struct form {
-    int inside, after_comma, third;
+    int inside, after_comma, third, lines;
+    uint32_t number, bracket;
+    char white;
 };
 
-/* What stands after an opening bracket, before a closing one, or after a comma: mostly what the form says. */
-static void add_gap(int spaced, int is_odd) {
+/* The end of a line and the white space of the next: mostly what the form says. */
+static void add_line(const struct form *form, uint32_t white, int is_odd) {
     if (is_odd && below(6) == 0)
+        add_byte(" \r\t\n"[below(4)]);
+    if (!is_odd || below(8) != 0)
+        add_byte('\n');
+    if (is_odd && below(6) == 0)
+        white += white == 0 || below(2) == 0 ? 1 : UINT32_MAX;
+    while (white-- > 0)
+        add_byte(form->white);
+}
+
+/* What stands after an opening bracket, before a closing one, or after a comma: mostly what the form says. */
+static void add_gap(const struct form *form, int spaced, uint32_t white, int is_odd) {
+    if (form->lines)
+        add_line(form, white, is_odd);
+    else if (is_odd && below(6) == 0)
         add(below(2) == 0 ? "  " : "\n");
     else if (spaced != (is_odd && below(6) == 0))
         add_byte(' ');
@@ -83,27 +100,27 @@ static void add_height(int is_odd) {
 static void add_position(const struct form *form, const int *negative, uint32_t fraction, uint32_t rare) {
     int is_odd = below(rare) == 0, has_third = form->third != (is_odd && below(3) == 0);
     add_byte('[');
-    add_gap(form->inside, is_odd);
+    add_gap(form, form->inside, form->number, is_odd);
     add_number(negative[0], 1 + below(3), fraction, is_odd);
     add_byte(',');
-    add_gap(form->after_comma, is_odd);
+    add_gap(form, form->after_comma, form->number, is_odd);
     add_number(negative[1], 1 + below(2), fraction, is_odd);
     if (has_third) {
         add_byte(',');
-        add_gap(form->after_comma, is_odd);
+        add_gap(form, form->after_comma, form->number, is_odd);
         if (is_odd && below(2) == 0)
             add_odd();
         else
             add_height(is_odd);
     }
-    add_gap(form->inside, is_odd);
+    add_gap(form, form->inside, form->bracket, is_odd);
     add_byte(']');
 }
 
 /* A comma between two positions, and what stands after it. */
 static void add_comma(const struct form *form, uint32_t rare) {
     add_byte(',');
-    add_gap(form->after_comma, below(rare) == 0);
+    add_gap(form, form->after_comma, form->bracket, below(rare) == 0);
 }
 
 static void make_text(void) {
@@ -111,9 +128,16 @@ static void make_text(void) {
     static const uint32_t depths[] = {0, 0, 1, 1, 2};
     uint32_t type = below(5), depth = depths[type], fraction = 1 + below(15), rare = below(3) == 0 ? 8 : 300;
     int negative[2] = {(int)below(2), (int)below(2)}, inside = below(4) == 0;
-    struct form form = {inside, inside || below(3) == 0, below(3) == 0};
-    size_t first, length;
+    struct form form = {inside, inside || below(3) == 0, below(3) == 0, below(3) == 0, 1 + below(16), 1 + below(12), ' '};
+    size_t first, length, before_bracket;
     size = 0;
+    if (form.lines) {
+        form.third = below(8) == 0;
+        form.white = below(3) == 0 ? '\t' : ' ';
+        if (below(40) == 0)
+            form.number = 29 + below(6);
+    }
+    before_bracket = form.lines ? 1 + form.bracket : (size_t)form.inside;
     add("{\"type\":\"");
     add(types[type]);
     add("\",\"coordinates\":[");
@@ -129,7 +153,7 @@ static void make_text(void) {
             memcpy(text + size, text + first, length);
             size += length;
             if (below(2) == 0)
-                text[size - 2 - form.inside] = (char)('0' + below(10));
+                text[size - 2 - before_bracket] = (char)('0' + below(10));
         } else {
             add_position(&form, negative, fraction, rare);
         }
