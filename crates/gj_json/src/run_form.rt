@@ -1,6 +1,7 @@
 //! How the arrays of a run are written, each as the others.
 
 ghost use Rattle.std.specs.Prelude.{◌≡◌, ◌≤◌, IfSome};
+ghost use Rattle.std.specs.Option.{IsSome};
 
 use crate::lanes::LANES;
 
@@ -40,7 +41,9 @@ impl SpreadForm {
     /// The form with so much white space, unless positions are not read with so much.
     #[inline(always)]
     pub fn of(number_gap: usize, bracket_gap: usize) -> Option<SpreadForm>
-        ensures { IfSome result (λ form. form.bracket_gap ≡ bracket_gap) }
+        ensures number { IfSome result (λ form. form.number_gap ≡ number_gap) }
+        ensures bracket { IfSome result (λ form. form.bracket_gap ≡ bracket_gap) }
+        ensures few { number_gap ≤ 32 → bracket_gap ≤ 32 → IsSome result }
     {
         if number_gap > MOST_WHITE || bracket_gap > MOST_WHITE {
             return None;
