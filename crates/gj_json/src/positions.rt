@@ -20,8 +20,20 @@ const MOST_BYTES_OF_THIRD: usize = 32;
 const MOST_PLACES_OF_THIRD: u8 = 7;
 
 /// How long a piece must be at the least for its position to be read: the bracket and a space, what two numbers are read with,
-/// a third one, and what stands around them up to the next bracket.
-const ROOM: usize = 104;
+/// and what stands after them up to the next bracket.
+const ROOM: usize = 70;
+
+/// The same with a third number.
+const ROOM_WITH_THIRD: usize = 104;
+
+/// How long a piece must be at the least for its position of this form to be read.
+#[inline(always)]
+fn room_of(form: ArrayForm) -> usize
+    ensures some { 70 ≤ result }
+    ensures third { IsTrue form.third → 104 ≤ result }
+{
+    if form.third { ROOM_WITH_THIRD } else { ROOM }
+}
 
 /// What stands after the second number of an array of this form.
 #[inline(always)]
@@ -78,10 +90,12 @@ fn close_after_third(piece: &[u8], at: usize, form: ArrayForm) -> Option<usize>
 /// The index of the bracket that closes an array of this form, where the second number ends at this index.
 #[inline(always)]
 fn close_after_second(piece: &[u8], at: usize, form: ArrayForm) -> Option<usize>
-    requires room { 104 ≤ length piece.now }
+    requires room { 70 ≤ length piece.now }
+    requires room_of_third { IsTrue form.third → 104 ≤ length piece.now }
     requires near { at ≤ 65 }
     requires ends { get_or piece.now at 0 ≡ second_ends_with form }
     ensures near { IfSome result (λ close. close ≤ 100) }
+    ensures within { IfSome result (λ close. close + 4 ≤ length piece.now) }
     ensures closes { IfSome result (λ close. (start : ℕ) → ClosesAt piece.now start at close) }
 {
     if form.third {
@@ -119,7 +133,7 @@ fn read_position(piece: &[u8], signs: Signs, form: ArrayForm, start: u64) -> Opt
     requires small { start + length piece.now ≤ 2 ^ 60 }
     ensures { IfSome result (λ position. SpellsPosition (near_gap form) position start piece.now) }
 {
-    if piece.len() < ROOM {
+    if piece.len() < room_of(form) {
         return None;
     }
     if !has_space(piece, 1, form.inside) {
