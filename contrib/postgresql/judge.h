@@ -1,4 +1,4 @@
-/* Checks a value of a column. Each backend keeps one linter, so that a small text costs little: a new one writes 198 KB. */
+/* Checks a value of a column. Each backend keeps one linter, so that a small text costs little: a new one writes 199 KB. */
 #ifndef JUDGE_H
 #define JUDGE_H
 

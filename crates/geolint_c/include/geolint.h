@@ -325,10 +325,10 @@ geolint_lines geolint_lines_feed(geolint_lines lines, const void *bytes, size_t 
  * They are those that the functions return, on systems with 64-bit addresses. */
 
 #define GEOLINT_ALIGNMENT 16
-#define GEOLINT_SIZE 198400
-#define GEOLINT_FEATURES_SIZE 245568
-#define GEOLINT_RECORDS_SIZE 198832
-#define GEOLINT_LOCATOR_SIZE 4312
+#define GEOLINT_SIZE 199168
+#define GEOLINT_FEATURES_SIZE 246336
+#define GEOLINT_RECORDS_SIZE 199600
+#define GEOLINT_LOCATOR_SIZE 5080
 
 /* ---- texts */
 

@@ -11,6 +11,7 @@ use Rattle.gj_json.specs.Flat.{flat_events}
 pub record IsCutPosition (position : CutPosition) (flat : Flat) : Type 0 where
   pub place : flat.place ≡ position.place
   pub first_place : flat.first.place ≡ position.place + position.first_at
+  pub after : 0 < position.first_at
   pub second_place : flat.second.place ≡ position.place + position.second_at
   pub close : flat.close ≡ position.place + position.close_at
   pub third : IfSome flat.third (λ number. number.value.places ≤ 7)

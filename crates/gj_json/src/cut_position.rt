@@ -14,7 +14,7 @@ pub struct CutPosition {
     pub second: i64,
     /// The place of `[`, in bytes from the start of the text.
     pub place: u64,
-    /// How many bytes after `[` the first number begins.
+    /// How many bytes after `[` the first number begins, 1 at the least where it is reported.
     pub first_at: u16,
     /// How many bytes after `[` the second number begins.
     pub second_at: u16,
@@ -24,7 +24,6 @@ pub struct CutPosition {
     pub first_precise: bool,
     /// Whether more than seven digits after the point of the second number do.
     pub second_precise: bool,
-    ghost after: { 0 < first_at },
     ghost between: { first_at ≤ second_at },
     ghost before: { second_at ≤ close_at },
     ghost within: { place + close_at < 2 ^ 64 },
@@ -39,9 +38,9 @@ impl CutPosition {
             first: 0,
             second: 0,
             place: 0,
-            first_at: 1,
-            second_at: 1,
-            close_at: 1,
+            first_at: 0,
+            second_at: 0,
+            close_at: 0,
             first_precise: false,
             second_precise: false,
         }

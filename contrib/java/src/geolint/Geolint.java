@@ -21,7 +21,7 @@ import java.util.concurrent.ArrayBlockingQueue;
  */
 public final class Geolint {
     private static final int PIECE = 65536;
-    /** Linters that no call uses: one that is begun again costs little, while a new one writes 198 KB. */
+    /** Linters that no call uses: one that is begun again costs little, while a new one writes 199 KB. */
     private static final ArrayBlockingQueue<Linter> SPARE = new ArrayBlockingQueue<>(Runtime.getRuntime().availableProcessors());
 
     private Geolint() {}

@@ -5,7 +5,7 @@ import java.nio.ByteBuffer;
 import java.util.Objects;
 
 /**
- * Checks a text that comes in pieces of any size. It has some 198 KB of memory outside the heap until it is closed; one that is begun
+ * Checks a text that comes in pieces of any size. It has some 199 KB of memory outside the heap until it is closed; one that is begun
  * again checks the next text in the same memory, which costs less than another linter.
  *
  * <pre>{@code

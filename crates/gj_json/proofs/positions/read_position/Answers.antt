@@ -25,7 +25,7 @@ invariant_of-result c =
     let on = closes.on in
     let before = closes.before in
     let near = c.in-Some-close_after_second.ensures.near in
-    record { after = omega arith; between = omega arith; before = omega arith; within = omega arith }
+    record { between = omega arith; before = omega arith; within = omega arith }
 
 pub returns : goal.returns
 returns c =
@@ -84,6 +84,7 @@ returns c =
       is = record {
         place = refl;
         first_place = refl;
+        after = omega arith;
         second_place = refl;
         close = refl;
         third = closes.few;

@@ -67,6 +67,7 @@ returns c =
       is = record {
         place = refl;
         first_place = refl;
+        after = omega arith;
         second_place = refl;
         close = refl;
         third = tt;
