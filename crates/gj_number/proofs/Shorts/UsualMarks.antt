@@ -14,12 +14,13 @@ use Rattle.gj_number.specs.Bytes.{comma, minus_sign, decimal_point, space, close
 use Rattle.gj_number.specs.Denotation.{SpellsSign}
 use Rattle.gj_number.specs.Short.{StartsUsual}
 use Rattle.gj_number.specs.Cuts.{StartsUsualCuts, byte_after, before_comma, second_after}
-use Rattle.gj_number.specs.Internal.CutLanes.{is_mark, is_mark_by, before_point, after_point, in_lanes, AreMarks, HasMarks, IsMarkedSpan, IsSpan}
+use Rattle.gj_number.specs.Internal.CutLanes.{is_mark, is_mark_by, before_point, after_point, in_lanes, AreMarks, HasMarks, IsMarkedSpan, IsSpan, IsUsualSpan}
 use Rattle.gj_number.specs.Internal.DigitLanes.{lane_of}
 use Rattle.gj_number.specs.Internal.DigitRuns.{IsPointed}
 use Rattle.gj_number.specs.declared.short.cuts.After.{After}
 use Rattle.gj_number.specs.declared.short.cuts.After.TheVariants.{Comma, Bracket, Space}
 use Rattle.gj_number.specs.declared.short.cuts.PairForm.{PairForm}
+use Rattle.gj_number.specs.declared.short.cuts.Span.{Span}
 use Rattle.gj_number.proofs.Grammar.FoundParts.{natural_digits, all_digits}
 use Rattle.gj_number.proofs.Shorts.CutPlaces.{lanes_small}
 use Rattle.gj_number.proofs.Shorts.NumberPrefixes.{sign_length}
@@ -208,53 +209,16 @@ module _ (piece : List ℕ) (at point end n behind : ℕ) (u : StartsUsual (drop
             ∙ ap (λ i. get_or piece i 0) {x = at + (sign + 0)} {y = at + bool_byte (get_or piece at 0 == minus_sign)} (omega arith) ∙ z);
       }
 
-  module _ (fits : (k : ℕ) → Fits w8 (get_or piece k 0)) (minus : Bool) (first natural fraction : ℕ)
-      (s : IsSpan piece at minus first natural fraction end behind)
-      (there : point ≡ first + natural) (room : at ≤ 32) (long : 64 ≤ length piece) (lanes : List ℕ)
-      (placed : 0 < natural → 0 < fraction → lanes ≡ in_lanes (before_point natural (map lane_of (take 16 (take (length piece - first) (drop first piece)))))
-      (after_point natural fraction (map lane_of (take 16 (take (length piece - first) (drop first piece)))))) where
-    sign_same : sign ≡ bool_byte minus
-    sign_same = ap bool_byte s.sign
-
-    natural_is : before (drop at piece) n behind u ≡ natural
-    natural_is = let a = sign_same in let b = s.first_is in omega arith
-
-    fraction_is : after (drop at piece) n behind u ≡ fraction
-    fraction_is = let a = natural_is in let b = s.end_is in omega arith
-
-    pub fraction_few : fraction ≤ 12
-    fraction_few = let a = fraction_is in let b = u.few_after in omega arith
-
-    pub natural_some : 0 < natural
-    natural_some = let a = natural_is in let d = digits (drop at piece) n behind u in let b = d.some in omega arith
-
-    pub fraction_some : 0 < fraction
-    fraction_some = let a = fraction_is in let d = digits (drop at piece) n behind u in let b = d.some_more in omega arith
-
-    pub lanes_are_small : Each1 (λ x. x < 10) lanes
-    lanes_are_small =
-        let d = digits (drop at piece) n behind u in
-        let a = sign_same in
-        let b = s.first_is in
-        let few = sign_length minus in
-        let digit_bytes : List ℕ = drop first piece in
-        let same : drop sign (drop at piece) ≡ digit_bytes = drop-drop sign at piece ∙ ap (λ i. drop i piece) {x = at + sign} {y = first} (omega arith) in
-        let P : List ℕ → Type 0 = λ xs. Each1 (λ x. x < 10) xs in
-        let Q : List ℕ → ℕ → Type 0 = λ ys k. All IsDigit (take k ys) in
-        let R : List ℕ → ℕ → ℕ → Type 0 = λ ys k f. All IsDigit (take f (drop (k + 1) ys)) in
-        let front : Q digit_bytes natural = subst (λ ys. Q ys natural) same (subst (λ k. Q (drop sign (drop at piece)) k) natural_is d.digits.digits) in
-        let back : R digit_bytes natural fraction =
-        subst (λ ys. R ys natural fraction) same
-        (subst (λ f. R (drop sign (drop at piece)) natural f) fraction_is
-        (subst (λ k. R (drop sign (drop at piece)) k (after (drop at piece) n behind u)) natural_is d.more.digits)) in
-        let fits_on : (k : ℕ) → Fits w8 (get_or digit_bytes k 0) = λ k. rw (get_or-drop first piece k 0) (fits (first + k)) in
-        let size : 19 ≤ length digit_bytes = omega (arith, length-drop first piece) in
-        let is : lanes ≡ in_lanes (before_point natural (map lane_of (take 16 digit_bytes)))
-        (after_point natural fraction (map lane_of (take 16 digit_bytes))) =
-        placed natural_some fraction_some
-        ∙ ap (λ ys. in_lanes (before_point natural (map lane_of (take 16 ys))) (after_point natural fraction (map lane_of (take 16 ys))))
-        (take_rest piece first) in
-        subst P (sym is) (lanes_small digit_bytes fits_on natural fraction natural_some s.few s.few_after size front back)
+  pub usual_span : (minus : Bool) (span : Span) → IsSpan piece at minus span end behind → point ≡ span.first + span.natural → IsUsualSpan piece span
+  usual_span minus span s there =
+      let a : sign ≡ bool_byte minus = ap bool_byte s.sign in
+      let b = s.first_is in
+      let e = s.bytes.end_is in
+      let natural_is : before (drop at piece) n behind u ≡ span.natural = omega arith in
+      let fraction_is : after (drop at piece) n behind u ≡ span.fraction = omega arith in
+      let same : drop sign (drop at piece) ≡ drop span.first piece = drop-drop sign at piece ∙ ap (λ i. drop i piece) {x = at + sign} {y = span.first} (omega arith) in
+      let few = u.few_after in
+      record { pointed = rw (← same, ← natural_is, ← fraction_is) (digits (drop at piece) n behind u); few = omega arith }
 
 -- ---- both
 
@@ -393,23 +357,12 @@ module _ (piece : List ℕ) (form : PairForm) (u : StartsUsualCuts piece form) w
         subst (P (second_after form comma_is)) (sym behind_same)
         (subst (λ at. P at behind) second_there (span_at piece second_at other_point end_is u.length_other behind u.other other_from other_end))
 
-    module _ (fits : (k : ℕ) → Fits w8 (get_or piece k 0)) (minus : Bool) (first natural fraction : ℕ) (long : 64 ≤ length piece) (lanes : List ℕ)
-        (placed : 0 < natural → 0 < fraction → lanes ≡ in_lanes (before_point natural (map lane_of (take 16 (take (length piece - first) (drop first piece)))))
-        (after_point natural fraction (map lane_of (take 16 (take (length piece - first) (drop first piece)))))) where
-      pub one_small : IsSpan piece 0 minus first natural fraction comma_is comma → point ≡ first + natural → Each1 (λ x. x < 10) lanes × (fraction ≤ 12)
-      one_small s there = let room : 0 ≤ 32 = omega arith in (
-        lanes_are_small piece 0 point comma_is u.comma_at comma u.one one_point one_end fits minus first natural fraction s there room long lanes placed,
-        fraction_few piece 0 point comma_is u.comma_at comma u.one one_point one_end fits minus first natural fraction s there room long lanes placed,
-      )
+    pub one_usual : (minus : Bool) (span : Span) → IsSpan piece 0 minus span comma_is comma → point ≡ span.first + span.natural → IsUsualSpan piece span
+    one_usual minus span = usual_span piece 0 point comma_is u.comma_at comma u.one one_point one_end minus span
 
-      pub other_small : IsSpan piece (second_after form comma_is) minus first natural fraction end_is behind_is → other_point ≡ first + natural
-          → Each1 (λ x. x < 10) lanes × (fraction ≤ 12)
-      other_small t there =
-          let P : ℕ → ℕ → Type 0 = λ at b. IsSpan piece at minus first natural fraction end_is b in
-          let s : P second_at behind = subst (P second_at) behind_same (subst (λ at. P at behind_is) (sym second_there) t) in
-          let room : second_at ≤ 32 = omega (arith, second_small) in (
-            lanes_are_small piece second_at other_point end_is u.length_other behind u.other other_from other_end fits minus first natural
-                fraction s there room long lanes placed,
-            fraction_few piece second_at other_point end_is u.length_other behind u.other other_from other_end fits minus first natural fraction
-                s there room long lanes placed,
-          )
+    pub other_usual : (minus : Bool) (span : Span) → IsSpan piece (second_after form comma_is) minus span end_is behind_is
+        → other_point ≡ span.first + span.natural → IsUsualSpan piece span
+    other_usual minus span t there =
+        let P : ℕ → ℕ → Type 0 = λ at b. IsSpan piece at minus span end_is b in
+        usual_span piece second_at other_point end_is u.length_other behind u.other other_from other_end minus span
+        (subst (P second_at) behind_same (subst (λ at. P at behind_is) (sym second_there) t)) there

@@ -1,11 +1,17 @@
 -- The digits of a number in lanes from which its cut value is read.
-use Rattle.std.specs.Prelude.{◌≡◌, ℕ, ◌+◌, ◌-◌, ◌*◌, ◌<◌, ◌≤◌, Bool, true, false, ◌==◌, ◌||◌, List, [], ◌∷◌, ◌++◌, take, drop, get_or, replicate}
+use Rattle.std.specs.Prelude.{◌≡◌, ℕ, ◌+◌, ◌-◌, ◌*◌, ◌<◌, ◌≤◌, Bool, true, false, ◌==◌, ◌||◌, List, [], ◌∷◌, ◌++◌, length, take, drop, get_or}
+use Rattle.std.specs.Prelude.{replicate}
 use Rattle.std.specs.List.{fold}
 use Rattle.std.specs.Simd.Lanes.{pick_l}
 use mir.Val.{bool_byte}
 use Rattle.gj_number.specs.Bytes.{comma, minus_sign, decimal_point, zero_digit, IsDigit}
+use Rattle.gj_number.specs.Cuts.{IsCut}
+use Rattle.gj_number.specs.Short.{exact_of, StartsWithNumber}
 use Rattle.gj_number.specs.Internal.DigitLanes.{with_value}
-use Rattle.gj_number.specs.Internal.DigitRuns.{StartsSigned}
+use Rattle.gj_number.specs.Internal.DigitRuns.{IsPointed, StartsSigned}
+use Rattle.gj_number.specs.declared.short.Short.{Short}
+use Rattle.gj_number.specs.declared.short.cuts.Cut.{Cut}
+use Rattle.gj_number.specs.declared.short.cuts.Span.{Span}
 
 -- three digits, the first of them zeros where fewer stand before the point
 abbrev pub before_point : ℕ → List ℕ → List ℕ
@@ -38,17 +44,32 @@ abbrev pub by_sevens : List ℕ → List ℕ
 by_sevens (a ∷ b ∷ numbers) = (a * 10000 + b) ∷ by_sevens numbers
 by_sevens _ = []
 
--- A number stands in a piece from an index on, if it has digits: the index of the first, up to three bytes before its point
--- and up to fifteen after it, and the index of the byte after these.
-pub record IsSpan (piece : List ℕ) (at : ℕ) (negative : Bool) (first natural fraction end behind : ℕ) : Type 0 where
+-- Up to three bytes stand before a point and up to fifteen after it, before an index, and the piece has 32 from the first on.
+pub record IsUnsignedSpan (piece : List ℕ) (span : Span) (end : ℕ) : Type 0 where
+  pub few : span.natural ≤ 3
+  pub few_after : span.fraction ≤ 15
+  pub end_is : end ≡ span.first + span.natural + 1 + span.fraction
+  pub point : get_or piece (span.first + span.natural) 0 ≡ decimal_point
+  pub room : span.first + 32 ≤ length piece
+
+-- A number stands in a piece from an index on, if these bytes are digits, and this byte after it.
+pub record IsSpan (piece : List ℕ) (at : ℕ) (negative : Bool) (span : Span) (end behind : ℕ) : Type 0 where
+  pub bytes : IsUnsignedSpan piece span end
   pub sign : StartsSigned (drop at piece) negative
-  pub first_is : first ≡ at + bool_byte negative
-  pub few : natural ≤ 3
-  pub few_after : fraction ≤ 15
-  pub end_is : end ≡ first + natural + 1 + fraction
-  pub point : get_or piece (first + natural) 0 ≡ decimal_point
+  pub first_is : span.first ≡ at + bool_byte negative
   pub ends : get_or piece end 0 ≡ behind
-  pub one : get_or piece first 0 ≡ zero_digit → natural ≡ 1
+  pub one : get_or piece span.first 0 ≡ zero_digit → span.natural ≡ 1
+
+-- They are digits, and all of them are in lanes.
+pub record IsUsualSpan (piece : List ℕ) (span : Span) : Type 0 where
+  pub pointed : IsPointed (drop span.first piece) span.natural span.fraction
+  pub few : span.fraction ≤ 12
+
+-- An ordinary number stands in a piece from an index to another, and has this cut value.
+pub record HasCut (piece : List ℕ) (at end : ℕ) (cut : Cut) : Type 0 where
+  pub short : Short
+  pub starts : StartsWithNumber (drop at piece) (exact_of short) (end - at)
+  pub is : IsCut short cut
 
 -- Where more than twelve bytes stand after the point, the last three of them are digits, and one of the others is no zero.
 pub record IsWhole (piece : List ℕ) (fraction end : ℕ) (precise : Bool) : Type 0 where

@@ -8,7 +8,9 @@ ghost use Rattle.std.specs.Option.{IsSome};
 ghost use Rattle.gj_number.specs.Bytes.{space, zero_digit};
 ghost use Rattle.gj_number.specs.Cuts.{StartsWithCutPair, StartsUsualCuts, second_after};
 ghost use Rattle.gj_number.specs.Internal.DigitRuns.{StartsSigned};
-ghost use Rattle.gj_number.specs.Internal.CutLanes.{is_mark, AreMarks, HasMarks, IsMarkedSpan, IsSpan, IsWhole};
+ghost use Rattle.gj_number.specs.Internal.CutLanes.{is_mark, AreMarks, HasCut, HasMarks, IsMarkedSpan, IsSpan, IsUnsignedSpan, IsUsualSpan, IsWhole};
+ghost use Rattle.gj_number.specs.Internal.NumberMachine.{class_of};
+ghost use Rattle.gj_number.specs.declared.state.Class.TheVariants.{Other};
 
 use super::cut_lanes::{are_digits, are_last_digits, cuts_of, placed_digits, rests_of};
 use crate::decimal::with_sign;
@@ -87,9 +89,9 @@ pub struct Signs {
 /// The index of a number's first digit, and how many bytes stand before its point and after it.
 #[derive(Clone, Copy)]
 pub(super) struct Span {
-    pub(super) first: usize,
-    pub(super) natural: usize,
-    pub(super) fraction: usize,
+    first: usize,
+    natural: usize,
+    fraction: usize,
 }
 
 /// The indices of the first four marks in a piece, 64 for one that is not there. `next` is that of the comma after the
@@ -164,11 +166,11 @@ pub(super) fn span_between(
     end: usize,
     behind: u8,
 ) -> Option<Span>
-    requires room { 64 ≤ length piece.now }
-    requires at { at ≤ 32 }
-    requires point { point ≤ 64 }
+    requires at { at ≤ 64 }
+    requires room { at + 33 ≤ length piece.now }
+    requires point { point ≤ 128 }
     ensures point { IfSome result (λ span. point ≡ span.first + span.natural) }
-    ensures span { IfSome result (λ span. IsSpan piece.now at negative span.first span.natural span.fraction end behind) }
+    ensures span { IfSome result (λ span. IsSpan piece.now at negative span end behind) }
     ensures taken { IsMarkedSpan piece.now at point end behind → StartsSigned (drop at piece.now) negative → IsSome result }
 {
     if negative && piece[at] != b'-' {
@@ -212,7 +214,7 @@ fn is_judged(fraction: usize, precise: bool) -> bool
 
 /// Whether digits of two numbers are in all their lanes, or those in none are digits and say nothing more.
 #[inline(always)]
-pub(super) fn are_whole(
+fn are_whole(
     piece: &[u8],
     one: Span,
     comma: usize,
@@ -235,6 +237,46 @@ pub(super) fn are_whole(
     is_judged(one.fraction, precise)
         && is_judged(other.fraction, other_precise)
         && are_last_digits(piece, comma, end)
+}
+
+/// The cut values of two numbers that stand in a piece before these indices. `None` says that not all of their bytes are digits,
+/// or that some of those in no lane may say more.
+#[inline(always)]
+pub(super) fn cuts_before(
+    piece: &[u8],
+    signs: Signs,
+    one: Span,
+    comma: usize,
+    other: Span,
+    end: usize,
+) -> Option<(Cut, Cut)>
+    requires one { IsUnsignedSpan piece.now one comma }
+    requires other { IsUnsignedSpan piece.now other end }
+    ensures first { IfSome result (λ cuts. (at behind : ℕ) → IsSpan piece.now at signs.first one comma behind → class_of behind ≡ Other
+        → HasCut piece.now at comma cuts.0) }
+    ensures second { IfSome result (λ cuts. (at behind : ℕ) → IsSpan piece.now at signs.second other end behind → class_of behind ≡ Other
+        → HasCut piece.now at end cuts.1) }
+    ensures taken { IsUsualSpan piece.now one → IsUsualSpan piece.now other → IsSome result }
+{
+    let first = placed_digits(&piece[one.first..], one.natural, one.fraction);
+    let second = placed_digits(&piece[other.first..], other.natural, other.fraction);
+    if !are_digits(first, second) {
+        return None;
+    }
+    let (value, other_value) = cuts_of(first, second);
+    let (precise, other_precise) = rests_of(first, second);
+    if !are_whole(piece, one, comma, precise, other, end, other_precise) {
+        return None;
+    }
+    let first = Cut {
+        value: with_sign(signs.first, value),
+        precise,
+    };
+    let second = Cut {
+        value: with_sign(signs.second, other_value),
+        precise: other_precise,
+    };
+    Some((first, second))
 }
 
 /// Reads two numbers of this form from the start of a piece as their cut values, where one to three digits stand before the
@@ -261,25 +303,12 @@ pub fn read_cut_pair(piece: &[u8], signs: Signs, form: PairForm) -> Option<CutPa
     let Some(other) = span_between(piece, at, signs.second, marks.other_point, end, behind) else {
         return None;
     };
-    let first = placed_digits(&piece[one.first..], one.natural, one.fraction);
-    let second = placed_digits(&piece[other.first..], other.natural, other.fraction);
-    if !are_digits(first, second) {
+    let Some(cuts) = cuts_before(piece, signs, one, marks.comma, other, end) else {
         return None;
-    }
-    let (value, other_value) = cuts_of(first, second);
-    let (precise, other_precise) = rests_of(first, second);
-    if !are_whole(piece, one, marks.comma, precise, other, end, other_precise) {
-        return None;
-    }
+    };
     Some(CutPair {
-        first: Cut {
-            value: with_sign(signs.first, value),
-            precise,
-        },
-        second: Cut {
-            value: with_sign(signs.second, other_value),
-            precise: other_precise,
-        },
+        first: cuts.0,
+        second: cuts.1,
         comma: marks.comma,
         end,
     })
