@@ -13,7 +13,6 @@ pub mod LongNumbers
 pub mod NumberPairs
 pub mod CutLanes
 pub mod FirstMarks
-pub mod SpreadMarks
 pub mod CutPlaces
 pub mod CutPairs
 pub mod UsualMarks

@@ -1,6 +1,6 @@
 -- The first marks of a piece, by the bits of its bytes.
 use Rattle.std.proofs.Common.{zero, suc, ◌≡◌, ℕ, ◌+◌, ◌-◌, ◌*◌, ◌%◌, ◌^◌, ◌<◌, ◌≤◌, ◌++◌, Bool, true, false, List, [], ◌∷◌, length, map, take, drop}
-use Rattle.std.proofs.Common.{replicate, cond, refl, ◌&&◌, eqb, Fits, inl, inr, sym, ◌∙◌, ap, subst, arith, length-drop, w8, w64}
+use Rattle.std.proofs.Common.{replicate, cond, refl, ◌&&◌, ◌||◌, eqb, Fits, inl, inr, sym, ◌∙◌, ap, subst, arith, length-drop, w8, w64}
 use lib.Bits.{bit_and, bit_or}
 use lib.Lanes.{Each1, mask_l, top, zip2}
 use Rattle.std.specs.Bool.{beq}
@@ -14,7 +14,7 @@ use Rattle.std.proofs.Math.Nat.{pow-suc, mul_assoc}
 use Rattle.std.proofs.lemmas.Bool.{cases_lt}
 use Rattle.std.proofs.lemmas.Nat.{or_comm, or_shifted, and_block, and_le_l, and_le_r, pow-add, pow_pos}
 use Rattle.std.proofs.lemmas.Nat.Bits.{bit_at_and, bit_at_lowest, bit_at-zero, bit_at_cat_low, bit_at_cat_high, bit_at-trailing_zeros, same_from_bits}
-use Rattle.gj_number.specs.Internal.CutLanes.{is_mark, AreMarks, HasMarks}
+use Rattle.gj_number.specs.Internal.CutLanes.{is_mark, is_mark_by, AreMarks, AreTwoMarks, HasMarks}
 
 -- ---- the lowest bit of a number
 
@@ -96,6 +96,15 @@ module _ (marks second third fourth : ℕ) (small : marks < 2 ^ 64) (small_secon
         next_is = lowest_at fourth (a + 1 + b + 1 + c + 1 + d) (mask_l m.0) small_fourth four;
       }
 
+pub two_found : (marks second : ℕ) → marks < 2 ^ 64 → second < 2 ^ 64 → ((k r : ℕ) → marks ≡ (1 + 2 * r) * 2 ^ k → second ≡ r * 2 ^ (k + 1))
+    → (ms : List Bool) → marks ≡ mask_l ms → (a b : ℕ) → AreTwoMarks ms a b
+    → (count_trailing_zeros 64 marks ≡ a) × (count_trailing_zeros 64 second ≡ a + 1 + b)
+two_found marks second small small_second off ms is a b m =
+    let twos : List Bool = replicate b false ++ true ∷ m.0 in
+    let one : marks ≡ (1 + 2 * mask_l twos) * 2 ^ a = is ∙ ap mask_l m.1 ∙ one_mark a twos in
+    let two : second ≡ (1 + 2 * mask_l m.0) * 2 ^ (a + 1 + b) = off a (mask_l twos) one ∙ next_mark (a + 1) b m.0 in
+    (lowest_at marks a (mask_l twos) small one, lowest_at second (a + 1 + b) (mask_l m.0) small_second two)
+
 -- ---- sixteen bytes after sixteen
 
 pub mask_joined : (ms ns : List Bool) → mask_l (ms ++ ns) ≡ mask_l ms + 2 ^ length ms * mask_l ns
@@ -106,50 +115,22 @@ mask_joined (m ∷ ms) ns =
     ap (λ n. n * mask_l ns) (ap (λ n. 2 ^ n) {x = length (m ∷ ms)} {y = suc (length ms)} (omega arith) ∙ pow-suc 2 (length ms)) ∙ omega arith in
     omega arith
 
-parts_joined : (x y z : ℕ) → x < 65536 → y < 65536 → z < 65536
-    → bit_or (bit_or x (y * 65536 % 18446744073709551616)) (z * 4294967296 % 18446744073709551616) ≡ x + 65536 * (y + 65536 * z)
-parts_joined x y z X Y Z =
-    let a : y * 65536 % 18446744073709551616 ≡ y * 2 ^ 16 = omega arith in
-    let b : z * 4294967296 % 18446744073709551616 ≡ z * 2 ^ 32 = omega arith in
-    let low : bit_or x (y * 65536 % 18446744073709551616) ≡ y * 2 ^ 16 + x = ap (bit_or x) a ∙ or_comm x (y * 2 ^ 16) ∙ or_shifted y 16 x X in
-    (λ i. bit_or (low i) (b i)) ∙ or_comm (y * 2 ^ 16 + x) (z * 2 ^ 32) ∙ or_shifted z 32 (y * 2 ^ 16 + x) (omega arith) ∙ omega arith
+pub marks_small : (p : ℕ → Bool) (k : ℕ) (xs : List ℕ) → k ≤ length xs → mask_l (map p (take k xs)) < 2 ^ k
+marks_small p k xs long =
+    let P : ℕ → Type 0 = λ n. mask_l (map p (take k xs)) < 2 ^ n in
+    subst P (length-map (take k xs) p ∙ length-take-le k xs long) (mask_l-lt (map p (take k xs)))
 
-pub sixteen_long : (p : ℕ → Bool) (xs : List ℕ) → 16 ≤ length xs → length (map p (take 16 xs)) ≡ 16
-sixteen_long p xs long = length-map (take 16 xs) p ∙ length-take-le 16 xs long
-
-pub sixteen_small : (p : ℕ → Bool) (xs : List ℕ) → 16 ≤ length xs → mask_l (map p (take 16 xs)) < 65536
-sixteen_small p xs long =
-    let P : ℕ → Type 0 = λ n. mask_l (map p (take 16 xs)) < 2 ^ n in
-    subst P (sixteen_long p xs long) (mask_l-lt (map p (take 16 xs)))
-
-pub parts_are : (piece : List ℕ) (x y z : ℕ) → 48 ≤ length piece → x ≡ mask_l (map is_mark (take 16 piece))
-    → y ≡ mask_l (map is_mark (take 16 (drop 16 piece))) → z ≡ mask_l (map is_mark (take 16 (drop 32 piece)))
-    → bit_or (bit_or x (y * 65536 % 18446744073709551616)) (z * 4294967296 % 18446744073709551616) ≡ mask_l (map is_mark (take 48 piece))
-parts_are piece x y z long xe ye ze =
-    let first = take 16 piece in
-    let second = take 16 (drop 16 piece) in
-    let third = take 16 (drop 32 piece) in
-    let a = sixteen_small is_mark piece (omega arith) in
-    let b = sixteen_small is_mark (drop 16 piece) (omega (arith, length-drop 16 piece)) in
-    let c = sixteen_small is_mark (drop 32 piece) (omega (arith, length-drop 32 piece)) in
-    let rest : take 32 (drop 16 piece) ≡ second ++ third = take-add 16 16 (drop 16 piece) ∙ ap (λ xs. second ++ take 16 xs) (drop-drop 16 16 piece) in
-    let whole : take 48 piece ≡ first ++ (second ++ third) = take-add 16 32 piece ∙ ap (λ xs. first ++ xs) rest in
-    let bits : map is_mark (take 48 piece) ≡ map is_mark first ++ (map is_mark second ++ map is_mark third) =
-    ap (map is_mark) whole ∙ map-append is_mark first (second ++ third) ∙ ap (λ xs. map is_mark first ++ xs) (map-append is_mark second third) in
-    let k = sixteen_long is_mark piece (omega arith) in
-    let l = sixteen_long is_mark (drop 16 piece) (omega (arith, length-drop 16 piece)) in
-    let upper : mask_l (map is_mark second ++ map is_mark third) ≡ mask_l (map is_mark second) + 65536 * mask_l (map is_mark third) =
-    mask_joined (map is_mark second) (map is_mark third) ∙ ap (λ n. mask_l (map is_mark second) + 2 ^ n * mask_l (map is_mark third)) l in
-    parts_joined x y z (omega arith) (omega arith) (omega arith)
-    ∙ sym (ap mask_l bits ∙ mask_joined (map is_mark first) (map is_mark second ++ map is_mark third)
-    ∙ ap (λ n. mask_l (map is_mark first) + 2 ^ n * mask_l (map is_mark second ++ map is_mark third)) k ∙ omega arith)
-
-pub parts_fit : (piece : List ℕ) (n : ℕ) → 48 ≤ length piece → n ≡ mask_l (map is_mark (take 48 piece)) → n < 2 ^ 64
-parts_fit piece n long e =
-    let P : ℕ → Type 0 = λ k. mask_l (map is_mark (take 48 piece)) < 2 ^ k in
-    let size : length (map is_mark (take 48 piece)) ≡ 48 = length-map (take 48 piece) is_mark ∙ length-take-le 48 piece long in
-    let l = subst P size (mask_l-lt (map is_mark (take 48 piece))) in
-    omega arith
+pub more_marks : (p : ℕ → Bool) (k : ℕ) → ((y : ℕ) → y < 2 ^ 16 → y * 2 ^ k % 2 ^ 64 ≡ y * 2 ^ k) → (piece : List ℕ) (x y : ℕ) → k + 16 ≤ length piece
+    → x ≡ mask_l (map p (take k piece)) → y ≡ mask_l (map p (take 16 (drop k piece))) → bit_or x (y * 2 ^ k % 2 ^ 64) ≡ mask_l (map p (take (k + 16) piece))
+more_marks p k within piece x y long xe ye =
+    let first : List Bool = map p (take k piece) in
+    let second : List Bool = map p (take 16 (drop k piece)) in
+    let a = marks_small p k piece (omega arith) in
+    let b = marks_small p 16 (drop k piece) (omega (arith, length-drop k piece)) in
+    let size : length first ≡ k = length-map (take k piece) p ∙ length-take-le k piece (omega arith) in
+    let bits : map p (take (k + 16) piece) ≡ first ++ second = ap (map p) (take-add k 16 piece) ∙ map-append p (take k piece) (take 16 (drop k piece)) in
+    ap (bit_or x) (within y (omega arith)) ∙ or_comm x (y * 2 ^ k) ∙ or_shifted y k x (omega arith) ∙ (λ i. ye i * 2 ^ k + xe i)
+    ∙ sym (ap mask_l bits ∙ mask_joined first second ∙ ap (λ n. mask_l first + 2 ^ n * mask_l second) size ∙ omega arith)
 
 -- ---- the bit of a byte
 
@@ -177,3 +158,16 @@ pub marks_are : (xs : List ℕ) (n : ℕ) → length xs ≡ n → Each1 (Fits w8
 marks_are [] n len fits = refl
 marks_are (x ∷ xs) (suc n) len fits = (λ i. marked_is x fits.0.fits i ∷ marks_are xs n (omega arith) fits.1 i)
 marks_are (x ∷ xs) zero len fits = absurd (omega arith)
+
+one_of_two : (p q : Bool) → top 7 (bit_or (cond p 255 0) (cond q 255 0)) ≡ (p || q)
+one_of_two true true = refl
+one_of_two true false = refl
+one_of_two false true = refl
+one_of_two false false = refl
+
+pub two_tests : (behind : ℕ) (xs : List ℕ) (n : ℕ) → length xs ≡ n
+    → map (top 7) (zip2 (λ a b. bit_or a b) (zip2 (λ a b. cond (eqb a b) 255 0) xs (replicate n behind))
+    (zip2 (λ a b. cond (eqb a b) 255 0) xs (replicate n 46))) ≡ map (is_mark_by behind) xs
+two_tests behind [] n len = refl
+two_tests behind (x ∷ xs) (suc n) len = (λ i. one_of_two (eqb x behind) (eqb x 46) i ∷ two_tests behind xs n (omega arith) i)
+two_tests behind (x ∷ xs) zero len = absurd (omega arith)

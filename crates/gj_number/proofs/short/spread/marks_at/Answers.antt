@@ -3,7 +3,7 @@ use lib.Lanes.{mask_l}
 use Rattle.std.proofs.lemmas.List.{length-map, length-take-le}
 use Rattle.std.proofs.lemmas.Simd.{mask_l-mod}
 use Rattle.gj_number.specs.Internal.CutLanes.{is_mark_by}
-use Rattle.gj_number.proofs.Shorts.SpreadMarks.{two_tests}
+use Rattle.gj_number.proofs.Shorts.FirstMarks.{two_tests}
 use Rattle.gj_number.proofs.short.spread.marks_at.Goals as goal
 
 pub returns : goal.returns
