@@ -134,31 +134,6 @@ more_marks p k within piece x y long xe ye =
 
 -- ---- the bit of a byte
 
-abbrev marked : ℕ → Bool
-marked x = top 7 (cond (eqb (bit_and x 253) 44) 255 0)
-
--- a test of each number below n
-abbrev holds_below : (ℕ → Bool) → ℕ → Bool
-holds_below p zero = true
-holds_below p (suc n) = p n && holds_below p n
-
-holds_at : (p : ℕ → Bool) (n k : ℕ) → holds_below p n ≡ true → k < n → p k ≡ true
-holds_at p zero k h l = absurd (omega arith)
-holds_at p (suc n) k h l = go (holds_at p n k) (p n) refl h
-  where
-    go : (holds_below p n ≡ true → k < n → p k ≡ true) → (b : Bool) → p n ≡ b → (b && holds_below p n) ≡ true → p k ≡ true
-    go rest true e t = elim (cases_lt k n) [ inl m ↦ rest t m | inr m ↦ (let s : k ≡ n = omega arith in ap p s ∙ e) ]
-    go rest false e t = cc
-
-marked_is : (x : ℕ) → x < 256 → marked x ≡ is_mark x
-marked_is x h = (beq_decides (marked x) (is_mark x)).0 (holds_at (λ b. beq (marked b) (is_mark b)) 256 x refl h)
-
-pub marks_are : (xs : List ℕ) (n : ℕ) → length xs ≡ n → Each1 (Fits w8) xs
-    → map (top 7) (zip2 (λ a b. cond (eqb a b) 255 0) (zip2 (λ a b. bit_and a b) xs (replicate n 253)) (replicate n 44)) ≡ map is_mark xs
-marks_are [] n len fits = refl
-marks_are (x ∷ xs) (suc n) len fits = (λ i. marked_is x fits.0.fits i ∷ marks_are xs n (omega arith) fits.1 i)
-marks_are (x ∷ xs) zero len fits = absurd (omega arith)
-
 one_of_two : (p q : Bool) → top 7 (bit_or (cond p 255 0) (cond q 255 0)) ≡ (p || q)
 one_of_two true true = refl
 one_of_two true false = refl

@@ -8,7 +8,7 @@ ghost use Rattle.std.specs.Option.{IsSome};
 ghost use Rattle.gj_number.specs.Bytes.{space, zero_digit};
 ghost use Rattle.gj_number.specs.Cuts.{StartsWithCutPair, StartsUsualCuts, second_after};
 ghost use Rattle.gj_number.specs.Internal.DigitRuns.{StartsSigned};
-ghost use Rattle.gj_number.specs.Internal.CutLanes.{is_mark, AreMarks, HasCut, HasMarks, IsMarkedSpan, IsSpan, IsUnsignedSpan, IsUsualSpan, IsWhole};
+ghost use Rattle.gj_number.specs.Internal.CutLanes.{is_mark, is_mark_by, AreMarks, HasCut, HasMarks, IsMarkedSpan, IsSpan, IsUnsignedSpan, IsUsualSpan, IsWhole};
 ghost use Rattle.gj_number.specs.Internal.NumberMachine.{class_of};
 ghost use Rattle.gj_number.specs.declared.state.Class.TheVariants.{Other};
 
@@ -104,16 +104,14 @@ struct Marks {
     next: usize,
 }
 
-/// A bit for each of sixteen bytes that is a comma or a point.
+/// A bit for each of sixteen bytes that is a point or the byte after a number.
 #[inline(always)]
-fn marks_at(piece: &[u8], at: usize) -> u64
+pub(super) fn marks_at(piece: &[u8], at: usize, behind: u8) -> u64
     requires { at + 16 ≤ length piece.now }
-    ensures { result ≡ mask_l (map is_mark (take 16 (drop at piece.now))) }
+    ensures { result ≡ mask_l (map (is_mark_by behind) (take 16 (drop at piece.now))) }
 {
     let bytes = u8x16::from_slice(&piece[at..]);
-    (bytes & u8x16::splat(0xfd))
-        .simd_eq(u8x16::splat(b','))
-        .to_bitmask()
+    (bytes.simd_eq(u8x16::splat(behind)) | bytes.simd_eq(u8x16::splat(b'.'))).to_bitmask()
 }
 
 /// A number without its lowest bit.
@@ -135,7 +133,9 @@ fn first_marks(piece: &[u8]) -> Marks
     ensures first { (a b c d : ℕ) → AreMarks (map is_mark (take 48 piece.now)) a b c d
         → HasMarks result.point result.comma result.other_point result.next a b c d }
 {
-    let marks = marks_at(piece, 0) | (marks_at(piece, 16) << 16) | (marks_at(piece, 32) << 32);
+    let marks = marks_at(piece, 0, b',')
+        | (marks_at(piece, 16, b',') << 16)
+        | (marks_at(piece, 32, b',') << 32);
     let from_comma = without_lowest(marks);
     let from_point = without_lowest(from_comma);
     Marks {

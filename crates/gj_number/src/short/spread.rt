@@ -1,29 +1,17 @@
 //! Two numbers on a line each, read as their cut values.
 ghost use Rattle.std.specs.Prelude.{◌≡◌, ℕ, ◌+◌, ◌≤◌, ◌<◌, get_or, length, map, take, drop, IfSome};
-ghost use Rattle.std.specs.Simd.Lanes.{mask_l};
 ghost use Rattle.std.specs.Option.{IsSome};
 ghost use Rattle.gj_number.specs.Cuts.{StartsWithSpreadPair, StartsUsualSpread};
 ghost use Rattle.gj_number.specs.Internal.DigitRuns.{StartsSigned};
 ghost use Rattle.gj_number.specs.Internal.CutLanes.{is_mark_by, AreTwoMarks};
 
-use super::cuts::{CutPair, Signs, cuts_before, span_between, without_lowest};
-use std::simd::prelude::*;
+use super::cuts::{CutPair, Signs, cuts_before, marks_at, span_between, without_lowest};
 
 /// The indices of the point of a number and of the byte after the number, 64 bytes on for one that is not there.
 #[derive(Clone, Copy)]
 struct Ends {
     point: usize,
     end: usize,
-}
-
-/// A bit for each of sixteen bytes that is a point or the byte after a number.
-#[inline(always)]
-fn marks_at(piece: &[u8], at: usize, behind: u8) -> u64
-    requires { at + 16 ≤ length piece.now }
-    ensures { result ≡ mask_l (map (is_mark_by behind) (take 16 (drop at piece.now))) }
-{
-    let bytes = u8x16::from_slice(&piece[at..]);
-    (bytes.simd_eq(u8x16::splat(behind)) | bytes.simd_eq(u8x16::splat(b'.'))).to_bitmask()
 }
 
 /// The first two of 32 bytes that are a point or the byte after a number.
