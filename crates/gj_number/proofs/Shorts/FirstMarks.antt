@@ -1,20 +1,18 @@
 -- The first marks of a piece, by the bits of its bytes.
 use Rattle.std.proofs.Common.{zero, suc, ◌≡◌, ℕ, ◌+◌, ◌-◌, ◌*◌, ◌%◌, ◌^◌, ◌<◌, ◌≤◌, ◌++◌, Bool, true, false, List, [], ◌∷◌, length, map, take, drop}
-use Rattle.std.proofs.Common.{replicate, cond, refl, ◌&&◌, ◌||◌, eqb, Fits, inl, inr, sym, ◌∙◌, ap, subst, arith, length-drop, w8, w64}
+use Rattle.std.proofs.Common.{replicate, cond, refl, ◌||◌, eqb, inl, inr, sym, ◌∙◌, ap, subst, arith, length-drop, w64}
 use lib.Bits.{bit_and, bit_or}
-use lib.Lanes.{Each1, mask_l, top, zip2}
-use Rattle.std.specs.Bool.{beq}
+use lib.Lanes.{mask_l, top, zip2}
 use Rattle.std.proofs.Math.Seq.{take-add}
-use Rattle.std.proofs.lemmas.List.{drop-drop, length-map, length-take-le, map-append}
+use Rattle.std.proofs.lemmas.List.{length-map, length-take-le, map-append}
 use Rattle.std.proofs.lemmas.Simd.{mask_l-lt}
-use Rattle.gj_number.proofs.Value.SameDecimals.{beq_decides}
 use Rattle.std.specs.Int.{bit_at}
 use lib.Count.{count_trailing_zeros}
 use Rattle.std.proofs.Math.Nat.{pow-suc, mul_assoc}
 use Rattle.std.proofs.lemmas.Bool.{cases_lt}
 use Rattle.std.proofs.lemmas.Nat.{or_comm, or_shifted, and_block, and_le_l, and_le_r, pow-add, pow_pos}
 use Rattle.std.proofs.lemmas.Nat.Bits.{bit_at_and, bit_at_lowest, bit_at-zero, bit_at_cat_low, bit_at_cat_high, bit_at-trailing_zeros, same_from_bits}
-use Rattle.gj_number.specs.Internal.CutLanes.{is_mark, is_mark_by, AreMarks, AreTwoMarks, HasMarks}
+use Rattle.gj_number.specs.Internal.CutLanes.{is_mark_by, AreMarks, AreTwoMarks, HasMarks}
 
 -- ---- the lowest bit of a number
 

@@ -1,28 +1,25 @@
 -- Where two usual numbers have their marks, and that they are found.
 use Rattle.std.proofs.Common.{zero, suc, ◌≡◌, ℕ, ◌+◌, ◌-◌, ◌%◌, ◌<◌, ◌≤◌, ◌==◌, ◌++◌, Bool, true, false, IsTrue, List, [], ◌∷◌}
-use Rattle.std.proofs.Common.{length, map, take, drop, get_or, All, Fits}
-use Rattle.std.proofs.Common.{replicate, refl, inl, inr, sym, ◌∙◌, ap, subst, arith, append_assoc, length-drop, length-append, w8}
+use Rattle.std.proofs.Common.{length, map, take, drop, get_or}
+use Rattle.std.proofs.Common.{replicate, refl, inl, inr, sym, ◌∙◌, ap, subst, arith, append_assoc, length-drop, length-append}
 use mir.Val.{bool_byte}
-use lib.Lanes.{Each1}
 use Rattle.std.specs.List.{AllByRecursion}
 use Rattle.std.proofs.Math.Seq.{drop-cons}
 use Rattle.std.proofs.lemmas.Bool.Decides.{nat_tests}
 use Rattle.std.proofs.lemmas.List.Elements.{All-get_or}
 use Rattle.std.proofs.lemmas.List.{drop-drop, get_or-drop, get_or-take, length-take-le}
-use Rattle.std.proofs.lemmas.List.{map-append, replicate-append-replicate, take-append-drop, take-map, take_rest}
+use Rattle.std.proofs.lemmas.List.{map-append, replicate-append-replicate, take-append-drop, take-map}
 use Rattle.gj_number.specs.Bytes.{comma, minus_sign, decimal_point, space, close_bracket, IsDigit}
 use Rattle.gj_number.specs.Denotation.{SpellsSign}
 use Rattle.gj_number.specs.Short.{StartsUsual}
 use Rattle.gj_number.specs.Cuts.{StartsUsualCuts, byte_after, before_comma, second_after}
-use Rattle.gj_number.specs.Internal.CutLanes.{is_mark, is_mark_by, before_point, after_point, in_lanes, AreMarks, HasMarks, IsMarkedSpan, IsSpan, IsUsualSpan}
-use Rattle.gj_number.specs.Internal.DigitLanes.{lane_of}
+use Rattle.gj_number.specs.Internal.CutLanes.{is_mark, is_mark_by, AreMarks, HasMarks, IsMarkedSpan, IsSpan, IsUsualSpan}
 use Rattle.gj_number.specs.Internal.DigitRuns.{IsPointed}
 use Rattle.gj_number.specs.declared.short.cuts.After.{After}
 use Rattle.gj_number.specs.declared.short.cuts.After.TheVariants.{Comma, Bracket, Space}
 use Rattle.gj_number.specs.declared.short.cuts.PairForm.{PairForm}
 use Rattle.gj_number.specs.declared.short.cuts.Span.{Span}
 use Rattle.gj_number.proofs.Grammar.FoundParts.{natural_digits, all_digits}
-use Rattle.gj_number.proofs.Shorts.CutPlaces.{lanes_small}
 use Rattle.gj_number.proofs.Shorts.NumberPrefixes.{sign_length}
 use Rattle.gj_number.proofs.Shorts.OrdinaryNumbers.{first_digit, laid, laid_length, pointed, sign_size}
 

@@ -60,7 +60,7 @@ pub record IsSpan (piece : List ℕ) (at : ℕ) (negative : Bool) (span : Span) 
   pub ends : get_or piece end 0 ≡ behind
   pub one : get_or piece span.first 0 ≡ zero_digit → span.natural ≡ 1
 
--- They are digits, and all of them are in lanes.
+-- These bytes are digits, and each of them is in a lane.
 pub record IsUsualSpan (piece : List ℕ) (span : Span) : Type 0 where
   pub pointed : IsPointed (drop span.first piece) span.natural span.fraction
   pub few : span.fraction ≤ 12

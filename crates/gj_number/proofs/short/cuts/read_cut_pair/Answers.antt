@@ -1,4 +1,4 @@
-use Rattle.std.proofs.Common.{◌≡◌, ◌+◌, ◌-◌, ◌%◌, ◌∙◌, ◌≤◌, ℕ, drop, refl, ap, subst, arith}
+use Rattle.std.proofs.Common.{◌+◌, ◌-◌, ◌%◌, ◌∙◌, ℕ, drop, refl, ap, subst, arith}
 use Rattle.gj_number.specs.Cuts.{second_after}
 use Rattle.gj_number.specs.Short.{exact_of, StartsWithNumber}
 use Rattle.gj_number.specs.Internal.NumberMachine.{class_of}

@@ -1,4 +1,4 @@
-use Rattle.std.proofs.Common.{◌+◌, ◌≤◌, ◌∙◌, length, map, take, drop, sym, ap, arith, length-drop}
+use Rattle.std.proofs.Common.{◌≤◌, ◌∙◌, length, map, take, drop, sym, ap, arith, length-drop}
 use lib.Lanes.{mask_l}
 use Rattle.std.proofs.lemmas.List.{drop-drop}
 use Rattle.gj_number.specs.Internal.CutLanes.{is_mark_by}

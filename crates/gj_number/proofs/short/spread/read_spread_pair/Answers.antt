@@ -1,8 +1,7 @@
-use Rattle.std.proofs.Common.{◌≡◌, ◌+◌, ◌-◌, ◌∙◌, ◌≤◌, ℕ, drop, subst, arith}
+use Rattle.std.proofs.Common.{◌+◌, ℕ, subst, arith}
 use Rattle.gj_number.specs.Short.{exact_of, StartsWithNumber}
 use Rattle.gj_number.proofs.Shorts.CutPairs.{line_feed_other}
 use Rattle.gj_number.proofs.Shorts.NumberPairs.{comma_other}
-use Rattle.gj_number.proofs.Shorts.NumberPrefixes.{sign_length}
 use Rattle.gj_number.proofs.Shorts.UsualSpreads.{two_marks, marked_span, is_usual, other_usual, other_signed}
 use Rattle.gj_number.proofs.short.spread.read_spread_pair.Goals as goal
 
