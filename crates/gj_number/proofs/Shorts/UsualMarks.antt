@@ -213,7 +213,8 @@ module _ (piece : List ℕ) (at point end n behind : ℕ) (u : StartsUsual (drop
       let e = s.bytes.end_is in
       let natural_is : before (drop at piece) n behind u ≡ span.natural = omega arith in
       let fraction_is : after (drop at piece) n behind u ≡ span.fraction = omega arith in
-      let same : drop sign (drop at piece) ≡ drop span.first piece = drop-drop sign at piece ∙ ap (λ i. drop i piece) {x = at + sign} {y = span.first} (omega arith) in
+      let same : drop sign (drop at piece) ≡ drop span.first piece =
+      drop-drop sign at piece ∙ ap (λ i. drop i piece) {x = at + sign} {y = span.first} (omega arith) in
       let few = u.few_after in
       record { pointed = rw (← same, ← natural_is, ← fraction_is) (digits (drop at piece) n behind u); few = omega arith }
 
