@@ -38,7 +38,7 @@ pub fn space_end(piece: &[u8], at: usize) -> usize
     white_end(piece, at)
 }
 
-/// A comma that the piece starts with, and the white space after it: how many bytes.
+/// A comma that the piece starts with, and the white space after it: how many bytes. Mostly an array follows at once.
 #[inline(always)]
 pub fn comma_run(piece: &[u8], gaps: &mut Gaps) -> usize
     ensures within { result ≤ length piece.now }
@@ -48,8 +48,13 @@ pub fn comma_run(piece: &[u8], gaps: &mut Gaps) -> usize
     if piece.is_empty() || piece[0] != b',' {
         return 0;
     }
-    if piece.len() > 2 && piece[1] == b' ' && piece[2] > b' ' {
-        return 2;
+    if piece.len() > 2 {
+        if piece[1] == b'[' {
+            return 1;
+        }
+        if piece[1] == b' ' && piece[2] > b' ' {
+            return 2;
+        }
     }
     gaps.bracket.end(piece, 1)
 }

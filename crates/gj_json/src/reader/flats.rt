@@ -1,7 +1,7 @@
 //! Arrays of numbers, taken at once.
 
 ghost use Rattle.std.specs.Prelude.{◌≡◌, ◌+◌, ◌^◌, ◌≤◌, ◌<◌, true, length, take, drop, get_or, None, Some, IsTrue};
-ghost use Rattle.gj_json.specs.Bytes.{open_bracket, comma};
+ghost use Rattle.gj_json.specs.Bytes.{open_bracket};
 ghost use Rattle.gj_json.specs.Internal.FlatParts.{awaits, IsDueAt};
 ghost use Rattle.gj_json.specs.Internal.OpenLevels.{levels_in, inner_of};
 ghost use Rattle.gj_json.specs.declared.levels.Level.TheVariants.{Array};
@@ -26,16 +26,6 @@ pub(super) fn is_due(mode: Mode) -> bool
         Mode::ValueDue | Mode::ArrayOpened => true,
         _ => false,
     }
-}
-
-/// Whether a comma and an opening bracket follow, as mostly after a position.
-#[inline(always)]
-fn begins_next(piece: &[u8]) -> bool
-    ensures within { IsTrue result → 2 ≤ length piece.now }
-    ensures comma { IsTrue result → get_or piece.now 0 0 ≡ comma }
-    ensures bracket { IsTrue result → get_or piece.now 1 0 ≡ open_bracket }
-{
-    piece.len() > 1 && piece[0] == b',' && piece[1] == b'['
 }
 
 /// The signs of its first two numbers.
@@ -79,8 +69,8 @@ fn form_after(flat: &Flat, comma: usize) -> Option<RunForm>
         let form = spread_form(flat, comma)?;
         return Some(RunForm::Spread(form));
     }
-    if comma == 2 && is_near(flat) {
-        return Some(near_form(flat, true));
+    if is_near(flat) {
+        return Some(near_form(flat, comma == 2));
     }
     None
 }
@@ -162,17 +152,18 @@ impl Reader {
         self.skip(count, Mode::ValueDone)
     }
 
-    /// Takes the positions after an array, where no more arrays are to come before they are looked for: how many bytes. They are
-    /// written in this form.
+    /// Takes the positions after an array and so many bytes more, a comma and white space, where no more arrays are to come before
+    /// they are looked for: how many bytes.
     #[inline(always)]
     fn take_next_positions<S: EventSink>(
         &mut self,
         piece: &[u8],
         flat: &Flat,
-        form: RunForm,
+        comma: usize,
         left: &mut u8,
         sink: &mut S,
     ) -> usize
+        requires some { 0 < comma }
         requires next { IsDueAt self.old.mode piece.now }
         requires live { self.old.fault ≡ None }
         requires deep { length (levels_in self.old.levels) < self.old.limits.depth }
@@ -188,6 +179,9 @@ impl Reader {
             *left -= 1;
             return 0;
         }
+        let Some(form) = form_after(flat, comma) else {
+            return 0;
+        };
         let many = self.take_positions(piece, signs_of(flat), form, sink);
         *left = arrays_before_next(many);
         many
@@ -215,25 +209,17 @@ impl Reader {
                 return piece.len() - rest.len();
             };
             sink.tell_flat(&flat);
-            if begins_next(&rest[count..]) {
-                self.skip(count + 1, Mode::ValueDue);
-                rest = &rest[count + 1..];
-                let form = near_form(&flat, false);
-                let many = self.take_next_positions(rest, &flat, form, &mut left, sink);
+            let comma = comma_run(&rest[count..], &mut gaps);
+            if comma == 0 {
+                self.skip(count, Mode::ValueDone);
+                return piece.len() - rest.len() + count;
+            }
+            self.skip(count + comma, Mode::ValueDue);
+            rest = &rest[count + comma..];
+            begins = begins_array(rest);
+            if begins {
+                let many = self.take_next_positions(rest, &flat, comma, &mut left, sink);
                 rest = &rest[many..];
-            } else {
-                let comma = comma_run(&rest[count..], &mut gaps);
-                if comma == 0 {
-                    self.skip(count, Mode::ValueDone);
-                    return piece.len() - rest.len() + count;
-                }
-                self.skip(count + comma, Mode::ValueDue);
-                rest = &rest[count + comma..];
-                begins = begins_array(rest);
-                if begins && let Some(form) = form_after(&flat, comma) {
-                    let many = self.take_next_positions(rest, &flat, form, &mut left, sink);
-                    rest = &rest[many..];
-                }
             }
         }
         piece.len() - rest.len()
