@@ -70,14 +70,32 @@ fn parts_differ(number: &Decimal, other: Short) -> bool
     }
 }
 
-/// Whether it is this number.
+/// Whether a few comparisons show that a decimal is this number, written with as many places. `false` promises nothing.
+#[inline(always)]
+fn parts_agree(number: &Decimal, other: Short) -> bool
+    ensures { result ≡ true → same_parts number.now (exact_of other) ≡ true }
+{
+    let (negative, digits, power) = number.parts();
+    power == -(other.places as i16)
+        && (digits == other.digits as u128 && negative == other.negative)
+}
+
+/// Whether it is this number. Mostly it is, written as it is here.
+#[inline(always)]
 fn is_same(number: &Option<Decimal>, other: Short) -> bool
     ensures { result ≡ option_eq same_parts number.now (Some (exact_of other)) }
 {
     match number {
-        Some(number) => *number == other.decimal(),
+        Some(number) => parts_agree(number, other) || is_same_decimal(number, other),
         None => false,
     }
+}
+
+#[inline(never)]
+fn is_same_decimal(number: &Decimal, other: Short) -> bool
+    ensures { result ≡ same_parts number.now (exact_of other) }
+{
+    *number == other.decimal()
 }
 
 /// Whether the third numbers are the same, or neither is there.

@@ -1,13 +1,14 @@
--- When a decimal is not the one that a number's digits and places write.
+-- When a decimal is the one that a number's digits and places write, and when it is not.
 use Rattle.std.specs.Bool.{beq}
 use Rattle.std.specs.Ordering.{int_eq}
-use Rattle.std.proofs.Common.{◌≡◌, ◌≢◌, ℕ, suc, ◌%◌, ◌/◌, ◌==◌, Bool, true, false, if◌then◌else◌, IsTrue, ℤ, pos, ◌-ℤ◌, ◌≤◌, FitsSigned, to_z, of_z, w16, refl}
-use Rattle.std.proofs.Common.{ap, arith}
+use Rattle.std.proofs.Common.{◌≡◌, ◌≢◌, ℕ, zero, suc, ◌&&◌, ◌<◌, ◌%◌, ◌/◌, ◌==◌, Bool, true, false, if◌then◌else◌, IsTrue, ℤ, pos, ◌-ℤ◌, ◌≤◌, FitsSigned, to_z, of_z, w16, refl}
+use Rattle.std.proofs.Common.{Decides, ap, subst, arith}
 use Rattle.std.proofs.Math.Bool.{and-false}
 use Rattle.std.proofs.lemmas.Int.{ints}
-use Rattle.std.proofs.lemmas.Bool.Decides.{nat_tests, Decides-int_eq}
+use Rattle.std.proofs.lemmas.Bool.Decides.{nat_tests, Decides-and, Decides-eqb, Decides-int_eq}
+use Rattle.std.specs.Cmp.{booleans_Decides}
 use Rattle.std.proofs.lemmas.Bool.{false_from_ne_true}
-use Rattle.gj_number.specs.Exact.{Exact, same_parts, zero_exact}
+use Rattle.gj_number.specs.Exact.{Exact, IsWithinLimits, same_parts, zero_exact}
 use Rattle.gj_number.specs.Short.{short_value}
 use Rattle.gj_number.specs.Value.{stripped, tens_in}
 
@@ -46,6 +47,36 @@ other_places a negative digits places power last =
     let ten : (digits % 10 == 0) ≡ false = grind (arith, nat_tests) in
     let some : (digits == 0) ≡ false = grind (arith, nat_tests) in
     rw some (rw ten (by_power a (record { negative = negative; digits = digits; power = pos 0 -ℤ pos places }) power))
+
+-- ---- they have the same sign, as many places as are written, and the same digits
+
+-- the test on the parts decides each of them
+pub parts_decide : (a b : Exact) → Decides (same_parts a b) ((a.negative ≡ b.negative) × ((a.digits ≡ b.digits) × (a.power ≡ b.power)))
+parts_decide a b =
+    let d = Decides-and (beq a.negative b.negative) (a.digits == b.digits && int_eq a.power b.power) (booleans_Decides a.negative b.negative)
+    (Decides-and (a.digits == b.digits) (int_eq a.power b.power) (Decides-eqb a.digits b.digits) (Decides-int_eq a.power b.power)) in
+    (λ t. d.0 t, λ p. d.1 p)
+
+some_written : (a : Exact) (negative : Bool) (digits places : ℕ) → digits % 10 ≢ 0 → a.negative ≡ negative → a.digits ≡ digits
+    → a.power ≡ pos 0 -ℤ pos places → same_parts a (short_value negative digits places) ≡ true
+unfolding short_value
+some_written a negative digits places last sign same power =
+    let ten : (digits % 10 == 0) ≡ false = grind (arith, nat_tests) in
+    let some : (digits == 0) ≡ false = grind (arith, nat_tests) in
+    rw some (rw ten ((parts_decide a (record { negative = negative; digits = digits; power = pos 0 -ℤ pos places })).1 (sign, (same, power))))
+
+none_written : (a : Exact) (negative : Bool) (places : ℕ) → a ≡ zero_exact → same_parts a (short_value negative 0 places) ≡ true
+unfolding short_value
+none_written a negative places none =
+    (parts_decide a zero_exact).1 (ap (λ e. e.negative) none, (ap (λ e. e.digits) none, ap (λ e. e.power) none))
+
+pub same_written : (a : Exact) (negative : Bool) (digits places : ℕ) → IsWithinLimits a → a.negative ≡ negative → a.digits ≡ digits
+    → a.power ≡ pos 0 -ℤ pos places → same_parts a (short_value negative digits places) ≡ true
+same_written a negative zero places held sign same power = none_written a negative places (held.zero_is same)
+same_written a negative (suc d) places held sign same power =
+    let some : 0 < a.digits = omega (arith, same) in
+    let last : suc d % 10 ≢ 0 = subst (λ n. n % 10 ≢ 0) same (held.stripped some) in
+    some_written a negative (suc d) places last sign same power
 
 -- ---- the power as the code compares it
 
