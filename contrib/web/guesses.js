@@ -3,7 +3,7 @@
 import { cluesAt, symptomOf } from "./hints.js";
 
 /** The names of hints that say what the file is, and not what is wrong at a place. */
-const KINDS = ["gzip", "zip", "shapefile", "sqlite", "flatgeobuf", "parquet", "pdf", "kml", "gml", "html", "xml", "utf16", "sequence"];
+const OTHER_KINDS = ["gzip", "zip", "shapefile", "sqlite", "flatgeobuf", "parquet", "pdf", "kml", "gml", "html", "xml", "utf16", "sequence"];
 /** How a file of a further kind begins. */
 const BEGINNINGS = [
   ["gpx", /^(?:\xef\xbb\xbf)?\s*(?:<\?xml[^>]*>\s*)?(?:<!-[-].*?-->\s*)?<gpx/is],
@@ -33,7 +33,7 @@ export async function guessFor(verdict, read) {
   const { rule, offset } = symptom;
   const kind = rule === "J1" && offset <= clues.head.length && (!hint || ["xml", "latin1"].includes(hint.name)) ? BEGINNINGS.find(([, form]) => form.test(clues.head)) : null;
   if (kind) return { name: kind[0], offset, isOtherKind: true };
-  if (hint) return { name: hint.name, offset, isOtherKind: KINDS.includes(hint.name) };
+  if (hint) return { name: hint.name, offset, isOtherKind: OTHER_KINDS.includes(hint.name) };
   if (rule === "J2") return clues.head === "" ? { name: "empty", offset, isOtherKind: false } : null;
   if (rule !== "J1") return null;
   const place = PLACES.find(([, ending, beginning]) => ending.test(clues.before) && beginning.test(clues.after));

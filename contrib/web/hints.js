@@ -43,7 +43,7 @@ export const latin = (bytes) => Array.from(bytes, (byte) => String.fromCharCode(
 /** Markup, after a byte order mark and white space. */
 const markup = (holds) => new RegExp(`^(?=(?:\\xef\\xbb\\xbf)?[ \\t\\n\\f\\r]*<)${holds}`, "s");
 /** How a file of another kind begins. */
-const KINDS = [
+const FORMATS = [
   ["gzip", /^\x1f\x8b/],
   ["zip", /^PK\x03\x04/],
   ["pdf", /^%PDF/],
@@ -71,7 +71,7 @@ const SPELLINGS = [
 ];
 
 function refused({ head, before, after }) {
-  const kind = KINDS.find(([, form]) => form.test(head)) ?? (before === "" && after.startsWith("\x1e") && ["sequence"]);
+  const kind = FORMATS.find(([, form]) => form.test(head)) ?? (before === "" && after.startsWith("\x1e") && ["sequence"]);
   return kind || SPELLINGS.find(([, ending, beginning]) => ending.test(before) && beginning.test(after));
 }
 

@@ -1,12 +1,12 @@
 // Lines, columns and the text around a place. A line ends with LF alone, and a column counts characters from 1. The library counts
 // both in the one reading, with a mark every megabyte or two, so that a place is found from the last mark before it.
 
-const LF = 10;
+export const LF = 10;
 const CR = 13;
 /** How many bytes of an input are read at once, and how many lie between two marks, at least. */
 export const STRIDE = 1 << 20;
 /** How many bytes of a line are looked at on each side of a place, and how many characters are shown. */
-const AROUND = 256;
+const TEXT_AROUND = 256;
 const SHOWN = 50;
 /** How many bytes on each side are looked at for whole lines, how many of these are shown, and how much of each. */
 const NEAR = 2048;
@@ -77,8 +77,8 @@ export async function excerptAt(place, read) {
   const after = await read(place, place + NEAR);
   if (!before || !after) return null;
   const lines = { before: splitLines(before), after: splitLines(after) };
-  const left = charactersOf(lines.before.pop().subarray(-AROUND));
-  const right = charactersOf(withoutReturn(lines.after.shift().subarray(0, AROUND)));
+  const left = charactersOf(lines.before.pop().subarray(-TEXT_AROUND));
+  const right = charactersOf(withoutReturn(lines.after.shift().subarray(0, TEXT_AROUND)));
   // The first line that was read may have begun before it, and the last may go on; after a last LF there is none.
   if (place > NEAR) lines.before.shift();
   if (after.length === NEAR || lines.after.at(-1)?.length === 0) lines.after.pop();

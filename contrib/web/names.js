@@ -8,11 +8,11 @@ const ID_LONGEST = 40;
 /** The most bytes that as many characters take. */
 export const ID_REACH = 4 * ID_LONGEST;
 
-const isTold = (it) => (typeof it === "string" && it.trim() !== "") || Number.isFinite(it);
+const isName = (it) => (typeof it === "string" && it.trim() !== "") || Number.isFinite(it);
 
 /** A name or the id of a feature's value; null where it has neither. */
 export function calledOf(value) {
-  const named = NAMES.map((it) => value?.properties?.[it]).find(isTold) ?? [value?.id].find(isTold);
+  const named = NAMES.map((it) => value?.properties?.[it]).find(isName) ?? [value?.id].find(isName);
   return named === undefined ? null : String(named).slice(0, LONGEST);
 }
 

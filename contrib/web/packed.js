@@ -1,13 +1,13 @@
 // What is found in features or texts as numbers: so it goes from the worker to the page, and so it is kept there, 120 bytes for a feature
 // with one warning. As objects, 65,536 of them took some 20 MB in each of the two.
 
-const VERDICTS = ["valid", "broken", "not JSON"];
+const KEPT_VERDICTS = ["valid", "broken", "not JSON"];
 const LETTERS = { broken: "G", "not JSON": "J" };
 /** How many numbers are kept of a finding, and how many more of each of its warnings. A place that is not there is -1. */
-const HEAD = 10;
-const WARNED = 5;
+const OF_FINDING = 10;
+const OF_WARNING = 5;
 /** A part has no more numbers than this. */
-const ROOM = 1 << 14;
+const PART_SIZE = 1 << 14;
 
 const numberOf = (rule) => (rule === null ? 0 : Number(rule.slice(1)));
 const placed = (it) => it ?? -1;
@@ -15,11 +15,11 @@ const unplaced = (it) => (it < 0 ? null : it);
 
 /** Makes parts of findings that are reported in brief. */
 export class Packer {
-  #room = new Float64Array(ROOM);
+  #room = new Float64Array(PART_SIZE);
   #used = 0;
 
   add({ index, number, idAt, place, end, verdict, rule, offset, line, column, warnings }) {
-    this.#put(index ?? number, placed(idAt), place, placed(end), VERDICTS.indexOf(verdict), numberOf(rule), placed(offset), placed(line), placed(column), warnings.length);
+    this.#put(index ?? number, placed(idAt), place, placed(end), KEPT_VERDICTS.indexOf(verdict), numberOf(rule), placed(offset), placed(line), placed(column), warnings.length);
     for (const it of warnings) this.#put(numberOf(it.rule), it.count, it.offset, placed(it.line), placed(it.column));
   }
 
@@ -30,7 +30,7 @@ export class Packer {
 
   /** Whether there may be no room for another one. */
   get isFull() {
-    return this.#used + HEAD + 9 * WARNED > ROOM;
+    return this.#used + OF_FINDING + 9 * OF_WARNING > PART_SIZE;
   }
 
   /** What was added since the last part. */
@@ -57,7 +57,7 @@ export class Packed {
   }
 
   add(part) {
-    for (let at = 0; at < part.length; at += HEAD + WARNED * part[at + HEAD - 1]) this.#starts.push(this.#parts.length * ROOM + at);
+    for (let at = 0; at < part.length; at += OF_FINDING + OF_WARNING * part[at + OF_FINDING - 1]) this.#starts.push(this.#parts.length * PART_SIZE + at);
     this.#parts.push(part);
   }
 
@@ -68,9 +68,9 @@ export class Packed {
   /** The rule that a finding breaks, or the kinds of its warnings. */
   rulesOf(index) {
     const { part, at } = this.#find(index);
-    const verdict = VERDICTS[part[at + 4]];
+    const verdict = KEPT_VERDICTS[part[at + 4]];
     if (verdict !== "valid") return [`${LETTERS[verdict]}${part[at + 5]}`];
-    return Array.from({ length: part[at + HEAD - 1] }, (_, i) => `W${part[at + HEAD + i * WARNED]}`);
+    return Array.from({ length: part[at + OF_FINDING - 1] }, (_, i) => `W${part[at + OF_FINDING + i * OF_WARNING]}`);
   }
 
   /** Whether one of them is a fault at this place. */
@@ -96,17 +96,17 @@ export class Packed {
 
   #find(index) {
     const start = this.#starts[index];
-    return { part: this.#parts[Math.floor(start / ROOM)], at: start % ROOM };
+    return { part: this.#parts[Math.floor(start / PART_SIZE)], at: start % PART_SIZE };
   }
 
   #make(index) {
     const { part, at } = this.#find(index);
-    const [number, idAt, place, end, kind, , offset, line, column, count] = part.subarray(at, at + HEAD);
-    const verdict = VERDICTS[kind];
+    const [number, idAt, place, end, kind, , offset, line, column, count] = part.subarray(at, at + OF_FINDING);
+    const verdict = KEPT_VERDICTS[kind];
     const rules = this.rulesOf(index);
     const toldOf = (rule) => ({ rule, text: this.#texts.get(rule) });
     const warnings = Array.from({ length: count }, (_, i) => {
-      const [, count, offset, line, column] = part.subarray(at + HEAD + i * WARNED, at + HEAD + (i + 1) * WARNED);
+      const [, count, offset, line, column] = part.subarray(at + OF_FINDING + i * OF_WARNING, at + OF_FINDING + (i + 1) * OF_WARNING);
       return { ...toldOf(rules[i]), count, offset, line: unplaced(line), column: unplaced(column) };
     });
     return {

@@ -144,7 +144,7 @@ function saveValid(entry, button) {
 function saveReport(button, save) {
   return atWork(button, async (step) => {
     const entries = entriesDone();
-    const parts = entries.flatMap((entry) => partsOf(entry.items ?? new Packed()).map((items) => ({ entry, items })));
+    const parts = entries.flatMap((entry) => batchesOf(entry.items ?? new Packed()).map((items) => ({ entry, items })));
     for (const [i, { entry, items }] of parts.entries()) {
       step(i / parts.length);
       await complete(entry, items);
@@ -154,7 +154,7 @@ function saveReport(button, save) {
 }
 
 /** Items in the parts that are asked for at once. */
-const partsOf = (items) => Array.from({ length: Math.ceil(items.length / BATCH) }, (_, i) => items.slice(i * BATCH, (i + 1) * BATCH));
+const batchesOf = (items) => Array.from({ length: Math.ceil(items.length / BATCH) }, (_, i) => items.slice(i * BATCH, (i + 1) * BATCH));
 
 /** The port to the worker that reads, for the first large file. */
 function portFor(file) {

@@ -1,6 +1,8 @@
 // The valid features of a file, or its valid texts, as a text sequence (RFC 8142): each by its own bytes between RS and LF.
 
-const [RS, LF] = [0x1e, 0x0a];
+import { LF } from "./lines.js";
+
+const RS = 0x1e;
 const isWhite = (byte) => byte === LF || byte === 0x0d || byte === 0x20 || byte === 0x09;
 /** Features that are shorter are copied, and stand in Blobs of this size. Of others the file's slices are taken. */
 const SHORT = 4096;

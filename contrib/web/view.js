@@ -72,7 +72,7 @@ function tableOf(entry) {
   const draw = () => {
     const from = body.querySelectorAll(".finding").length;
     // Where one thing alone is reported, its details are open.
-    for (const it of findings.slice(from, from + STEP)) body.append(...rowsOf(entry, it, findings.length === 1));
+    for (const it of findings.slice(from, from + STEP)) body.append(...tableRowsOf(entry, it, findings.length === 1));
     const left = findings.length - from - STEP;
     more.hidden = left <= 0;
     more.textContent = say("more", { count: Math.min(left, STEP) });
@@ -85,7 +85,7 @@ function tableOf(entry) {
 }
 
 /** The row of a finding, and that of its details, which the button in the first opens. */
-function rowsOf(entry, finding, isOpen) {
+function tableRowsOf(entry, finding, isOpen) {
   const toggle = make("button", "toggle", finding.rule);
   toggle.type = "button";
   toggle.setAttribute("aria-label", `${finding.rule}: ${say("details")}`);
