@@ -1,7 +1,8 @@
 -- When a decimal is the one that a number's digits and places write, and when it is not.
 use Rattle.std.specs.Bool.{beq}
 use Rattle.std.specs.Ordering.{int_eq}
-use Rattle.std.proofs.Common.{◌≡◌, ◌≢◌, ℕ, zero, suc, ◌&&◌, ◌<◌, ◌%◌, ◌/◌, ◌==◌, Bool, true, false, if◌then◌else◌, IsTrue, ℤ, pos, ◌-ℤ◌, ◌≤◌, FitsSigned, to_z, of_z, w16, refl}
+use Rattle.std.proofs.Common.{◌≡◌, ◌≢◌, ℕ, zero, suc, ◌&&◌, ◌<◌, ◌%◌, ◌/◌, ◌==◌, Bool, true}
+use Rattle.std.proofs.Common.{false, if◌then◌else◌, IsTrue, ℤ, pos, ◌-ℤ◌, ◌≤◌, FitsSigned, to_z, of_z, w16, refl}
 use Rattle.std.proofs.Common.{Decides, ap, subst, arith}
 use Rattle.std.proofs.Math.Bool.{and-false}
 use Rattle.std.proofs.lemmas.Int.{ints}

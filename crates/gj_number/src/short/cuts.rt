@@ -8,7 +8,8 @@ ghost use Rattle.std.specs.Option.{IsSome};
 ghost use Rattle.gj_number.specs.Bytes.{space, zero_digit};
 ghost use Rattle.gj_number.specs.Cuts.{StartsWithCutPair, StartsUsualCuts, second_after};
 ghost use Rattle.gj_number.specs.Internal.DigitRuns.{StartsSigned};
-ghost use Rattle.gj_number.specs.Internal.CutLanes.{is_mark, is_mark_by, AreMarks, HasCut, HasMarks, IsMarkedSpan, IsSpan, IsUnsignedSpan, IsUsualSpan, IsWhole};
+ghost use Rattle.gj_number.specs.Internal.CutLanes.{is_mark, is_mark_by, AreMarks, HasCut, HasMarks};
+ghost use Rattle.gj_number.specs.Internal.CutLanes.{IsMarkedSpan, IsSpan, IsUnsignedSpan, IsUsualSpan, IsWhole};
 ghost use Rattle.gj_number.specs.Internal.NumberMachine.{class_of};
 ghost use Rattle.gj_number.specs.declared.state.Class.TheVariants.{Other};
 
