@@ -68,17 +68,18 @@ placed_is xs len (suc (suc zero)) f some few more within = placed_two xs len f m
 placed_is xs len (suc (suc (suc zero))) f some few more within = placed_three xs len f more (omega arith)
 placed_is xs len (suc (suc (suc (suc n)))) f some few more within = absurd (omega arith)
 
+-- a row of one to three digits without a point
+pub integer_is : (xs : List ℕ) → length xs ≡ 16 → (f : ℕ) → 0 < f → f ≤ 3 → placed xs 0 f ≡ in_lanes (before_point f xs) (after_point f 0 xs)
+integer_is (a ∷ b ∷ c ∷ d ∷ e ∷ f ∷ g ∷ h ∷ p ∷ q ∷ r ∷ s ∷ t ∷ u ∷ v ∷ w ∷ []) len f' some few =
+    let xs : List ℕ = a ∷ b ∷ c ∷ d ∷ e ∷ f ∷ g ∷ h ∷ p ∷ q ∷ r ∷ s ∷ t ∷ u ∷ v ∷ w ∷ [] in
+    let IsIn : ℕ → Type 0 = λ k. placed xs 0 k ≡ in_lanes (before_point k xs) (after_point k 0 xs) in
+    let all : Below (λ k. 0 < k → IsIn k) 4 = ((((tt, λ z. absurd (omega arith)), λ _. refl), λ _. refl), λ _. refl) in
+    below_at (λ k. 0 < k → IsIn k) 4 f' all (omega arith) some
+integer_is _ len f' some few = absurd (omega arith)
+
 -- the row of no digits has the point
 abbrev HasPoint : List ℕ → ℕ → ℕ → Type 0
 HasPoint xs n f = get_or (placed xs n f) 4 0 ≡ get_or xs n 0
-
-no_digit_before : (xs : List ℕ) → length xs ≡ 16 → (f : ℕ) → f < 16 → HasPoint xs 0 f
-no_digit_before (a ∷ b ∷ c ∷ d ∷ e ∷ f ∷ g ∷ h ∷ p ∷ q ∷ r ∷ s ∷ t ∷ u ∷ v ∷ w ∷ []) len f' few =
-    let xs : List ℕ = a ∷ b ∷ c ∷ d ∷ e ∷ f ∷ g ∷ h ∷ p ∷ q ∷ r ∷ s ∷ t ∷ u ∷ v ∷ w ∷ [] in
-    let all : Below (HasPoint xs 0) 16 =
-    ((((((((((((((((tt, refl), refl), refl), refl), refl), refl), refl), refl), refl), refl), refl), refl), refl), refl), refl), refl) in
-    below_at (HasPoint xs 0) 16 f' all few
-no_digit_before _ len f' few = absurd (omega arith)
 
 no_digit_after : (xs : List ℕ) → length xs ≡ 16 → (n : ℕ) → n < 4 → HasPoint xs n 0
 no_digit_after (a ∷ b ∷ c ∷ d ∷ e ∷ f ∷ g ∷ h ∷ p ∷ q ∷ r ∷ s ∷ t ∷ u ∷ v ∷ w ∷ []) len n few =
@@ -96,16 +97,12 @@ fifth_small (_ ∷ _ ∷ _ ∷ _ ∷ []) h = omega arith
 fifth_small (_ ∷ _ ∷ _ ∷ _ ∷ x ∷ xs) h = h.1.1.1.1.0
 
 -- where the byte at the point is no digit, there are digits before it and after it
-pub digits_there : (xs : List ℕ) → length xs ≡ 16 → (n f : ℕ) → n ≤ 3 → f ≤ 15 → 10 ≤ get_or xs n 0 → Each1 (λ x. x < 10) (placed xs n f) → (0 < n) × (0 < f)
-digits_there xs len zero f few within point h =
-    let e = no_digit_before xs len f (omega arith) in
-    let l = fifth_small (placed xs 0 f) h in
+pub digits_there : (xs : List ℕ) → length xs ≡ 16 → (n f : ℕ) → 0 < n → n ≤ 3 → 10 ≤ get_or xs n 0 → Each1 (λ x. x < 10) (placed xs n f) → 0 < f
+digits_there xs len n zero some few point h =
+    let e = no_digit_after xs len n (omega arith) in
+    let l = fifth_small (placed xs n 0) h in
     absurd (omega arith)
-digits_there xs len (suc n) zero few within point h =
-    let e = no_digit_after xs len (suc n) (omega arith) in
-    let l = fifth_small (placed xs (suc n) 0) h in
-    absurd (omega arith)
-digits_there xs len (suc n) (suc f) few within point h = (omega arith, omega arith)
+digits_there xs len n (suc f) some few point h = omega arith
 
 -- ---- their numbers by three and three
 

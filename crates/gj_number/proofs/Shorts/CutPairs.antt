@@ -1,18 +1,18 @@
 -- A number as its cut value, from where it stands and its lanes.
-use Rattle.std.proofs.Common.{◌≡◌, ℕ, ◌+◌, ◌-◌, ◌^◌, ◌<◌, ◌≤◌, Bool, true, false, List, length, map, take, drop, get_or, Fits}
-use Rattle.std.proofs.Common.{Some, refl, sym, ◌∙◌, ap, subst, arith, length-drop, ℤ, w8}
+use Rattle.std.proofs.Common.{◌≡◌, ℕ, ◌+◌, ◌-◌, ◌^◌, ◌<◌, ◌≤◌, Bool, true, false, List, [], ◌++◌, length, map, take, drop, get_or, Fits}
+use Rattle.std.proofs.Common.{Some, inl, inr, All, append-nil, refl, sym, ◌∙◌, ap, subst, arith, length-drop, ℤ, w8}
 use mir.Val.{bool_byte}
 use lib.Lanes.{Each1}
 use Rattle.std.proofs.lemmas.List.{drop-drop, get_or-drop, take_rest}
 use Rattle.std.proofs.lemmas.List.Sums.{fold-append}
-use Rattle.gj_number.specs.Bytes.{line_feed, decimal_point, IsDigit}
+use Rattle.gj_number.specs.Bytes.{line_feed, decimal_point, zero_digit, IsDigit}
 use Rattle.gj_number.specs.Cuts.{byte_after}
 use Rattle.gj_number.specs.Exact.{signed, cut_magnitude}
 use Rattle.gj_number.specs.Short.{short_value, StartsWithNumber}
 use Rattle.gj_number.specs.Value.{with_digit, number_of}
 use Rattle.gj_number.specs.Internal.CutLanes.{before_point, after_point, in_lanes, cut_in, rests_in, HasCut, IsSpan, IsUnsignedSpan, IsUsualSpan, IsWhole}
 use Rattle.gj_number.specs.Internal.DigitLanes.{lane_of}
-use Rattle.gj_number.specs.Internal.DigitRuns.{SpellsOn}
+use Rattle.gj_number.specs.Internal.DigitRuns.{SpellsOn, StartsSigned}
 use Rattle.gj_number.specs.Internal.KeptParts.{limited_cut}
 use Rattle.gj_number.specs.Internal.MovedPoint.{SpellsPlain}
 use Rattle.gj_number.specs.Internal.NumberMachine.{class_of}
@@ -22,7 +22,7 @@ use Rattle.gj_number.specs.declared.short.cuts.After.TheVariants.{Comma, Bracket
 use Rattle.gj_number.specs.declared.state.Class.TheVariants.{Other}
 use Rattle.gj_number.proofs.Shorts.NumberPairs.{comma_other, bracket_other, space_other}
 use Rattle.gj_number.proofs.Shorts.CutPlaces.{natural_digits, fraction_digits, lanes_small, whole, whole_small, cut_is, precise_found}
-use Rattle.gj_number.proofs.Shorts.NumberPrefixes.{sign_length, sign_at, one_of, point_plain}
+use Rattle.gj_number.proofs.Shorts.NumberPrefixes.{sign_length, sign_at, one_of, point_plain, whole_plain}
 use Rattle.gj_number.proofs.Shorts.ShortDecimals.{cut_some}
 use Rattle.gj_number.proofs.Shorts.WrittenExponents.{plain_front}
 
@@ -37,69 +37,45 @@ after_other Space = space_other
 
 -- ---- from the first digit of a number on
 
-module _ (piece : List ℕ) (fits : (k : ℕ) → Fits w8 (get_or piece k 0)) (span : Span) (end : ℕ) (b : IsUnsignedSpan piece span end) (lanes : List ℕ)
-    (placed : 0 < span.natural → 0 < span.fraction
-    → lanes ≡ in_lanes (before_point span.natural (map lane_of (take 16 (take (length piece - span.first) (drop span.first piece)))))
-    (after_point span.natural span.fraction (map lane_of (take 16 (take (length piece - span.first) (drop span.first piece)))))) where
-  abbrev first : ℕ
-  first = span.first
-
-  abbrev n : ℕ
-  n = span.natural
-
-  abbrev f : ℕ
-  f = span.fraction
-
+module _ (piece : List ℕ) (fits : (k : ℕ) → Fits w8 (get_or piece k 0)) (first n f : ℕ) (some : 0 < n) (few : n ≤ 3) (few_after : f ≤ 15)
+    (room : first + 32 ≤ length piece) (lanes : List ℕ)
+    (placed : lanes ≡ in_lanes (before_point n (map lane_of (take 16 (take (length piece - first) (drop first piece)))))
+    (after_point n f (map lane_of (take 16 (take (length piece - first) (drop first piece)))))) where
   abbrev digits : List ℕ
   digits = drop first piece
 
-  digits_fit : (k : ℕ) → Fits w8 (get_or digits k 0)
+  pub digits_fit : (k : ℕ) → Fits w8 (get_or digits k 0)
   digits_fit k = rw (get_or-drop first piece k 0) (fits (first + k))
 
-  digits_long : 19 ≤ length digits
-  digits_long = let r = b.room in omega (arith, length-drop first piece)
+  pub digits_long : 19 ≤ length digits
+  digits_long = omega (arith, length-drop first piece)
 
-  there : 0 < n → 0 < f → lanes ≡ in_lanes (before_point n (map lane_of (take 16 digits))) (after_point n f (map lane_of (take 16 digits)))
-  there some some_after =
-      placed some some_after
-      ∙ ap (λ xs. in_lanes (before_point n (map lane_of (take 16 xs))) (after_point n f (map lane_of (take 16 xs)))) (take_rest piece first)
+  there : lanes ≡ in_lanes (before_point n (map lane_of (take 16 digits))) (after_point n f (map lane_of (take 16 digits)))
+  there = placed ∙ ap (λ xs. in_lanes (before_point n (map lane_of (take 16 xs))) (after_point n f (map lane_of (take 16 xs)))) (take_rest piece first)
 
-  pub usual_small : IsUsualSpan piece span → Each1 (λ x. x < 10) lanes
-  usual_small u =
-      let p = u.pointed in
+  pub digits_small : All IsDigit (take n digits) → All IsDigit (take f (drop (n + 1) digits)) → Each1 (λ x. x < 10) lanes
+  digits_small natural fraction =
       let P : List ℕ → Type 0 = λ xs. Each1 (λ x. x < 10) xs in
-      subst P (sym (there p.some p.some_more))
-      (lanes_small digits digits_fit n f p.some b.few b.few_after digits_long p.digits.digits p.more.digits)
+      subst P (sym there) (lanes_small digits digits_fit n f some few few_after digits_long natural fraction)
 
-  module _ (has_digits : get_or (take (length piece - first) digits) n 0 ≡ decimal_point → Each1 (λ x. x < 10) lanes → (0 < n) × (0 < f))
-      (small : Each1 (λ x. x < 10) lanes) where
-    both : (0 < n) × (0 < f)
-    both = has_digits (ap (λ xs. get_or xs n 0) (take_rest piece first) ∙ get_or-drop first piece n 0 ∙ b.point) small
+  module _ (small : Each1 (λ x. x < 10) lanes) (end : ℕ) (precise : Bool) (w : IsWhole piece f end precise) (after : 12 < f → end ≡ first + n + 1 + f) where
+    pub lanes_are_small : Each1 (λ x. x < 10) (in_lanes (before_point n (map lane_of (take 16 digits))) (after_point n f (map lane_of (take 16 digits))))
+    lanes_are_small = let P : List ℕ → Type 0 = λ xs. Each1 (λ x. x < 10) xs in subst P there small
 
-    pub three_before : 3 ≤ end
-    three_before = let c = both.0 in let d = both.1 in let e = b.end_is in omega arith
+    pub last : 12 < f → (i : ℕ) → 12 ≤ i → i < f → IsDigit (get_or digits (n + 1 + i) 0)
+    last many i from to =
+        let e = after many in
+        let P : ℕ → Type 0 = λ x. IsDigit x in
+        subst P (sym (get_or-drop first piece (n + 1 + i) 0)) (w.last many (first + (n + 1 + i)) (omega arith) (omega arith))
 
-    some : 0 < n
-    some = both.0
+    abbrev all : ℕ
+    all = whole digits digits_fit n f some few few_after digits_long lanes_are_small last
 
-    lanes_are_small : Each1 (λ x. x < 10) (in_lanes (before_point n (map lane_of (take 16 digits))) (after_point n f (map lane_of (take 16 digits))))
-    lanes_are_small = let P : List ℕ → Type 0 = λ xs. Each1 (λ x. x < 10) xs in subst P (there some both.1) small
+    all_small : all < 10 ^ 18
+    all_small = whole_small digits digits_fit n f some few few_after digits_long lanes_are_small last
 
-    module _ (at : ℕ) (negative : Bool) (behind : ℕ) (s : IsSpan piece at negative span end behind) (other : class_of behind ≡ Other)
-        (precise : Bool) (w : IsWhole piece f end precise) where
-      last : 12 < f → (i : ℕ) → 12 ≤ i → i < f → IsDigit (get_or digits (n + 1 + i) 0)
-      last many i from to =
-          let e = b.end_is in
-          let few = b.few_after in
-          let P : ℕ → Type 0 = λ x. IsDigit x in
-          subst P (sym (get_or-drop first piece (n + 1 + i) 0)) (w.last many (first + (n + 1 + i)) (omega arith) (omega arith))
-
-      abbrev all : ℕ
-      all = whole digits digits_fit n f some b.few b.few_after digits_long lanes_are_small last
-
-      all_small : all < 10 ^ 18
-      all_small = whole_small digits digits_fit n f some b.few b.few_after digits_long lanes_are_small last
-
+    module _ (at : ℕ) (negative : Bool) (signed_so : StartsSigned (drop at piece) negative) (first_is : first ≡ at + bool_byte negative)
+        (one : get_or piece first 0 ≡ zero_digit → n ≡ 1) where
       -- from the sign on
       abbrev number : List ℕ
       number = drop at piece
@@ -108,68 +84,143 @@ module _ (piece : List ℕ) (fits : (k : ℕ) → Fits w8 (get_or piece k 0)) (s
       sign = bool_byte negative
 
       after_sign : drop sign number ≡ digits
-      after_sign = drop-drop sign at piece ∙ ap (λ k. drop k piece) (sym s.first_is)
+      after_sign = drop-drop sign at piece ∙ ap (λ k. drop k piece) (sym first_is)
 
       number_long : 31 ≤ length number
-      number_long = let r = b.room in let e = s.first_is in omega (arith, length-drop at piece)
+      number_long = omega (arith, length-drop at piece)
 
-      plain : SpellsPlain number negative all f (sign + n + 1 + f)
-      plain =
+      one_there : get_or number sign 0 ≡ zero_digit → n ≡ 1
+      one_there z = one (ap (λ k. get_or piece k 0) first_is ∙ sym (get_or-drop at piece sign 0) ∙ z)
+
+      front : SpellsOn (drop sign number) 0 n (number_of (take n digits))
+      front =
+          let m = digits_long in
+          let P : List ℕ → Type 0 = λ xs. SpellsOn xs 0 n (number_of (take n digits)) in
+          subst P (sym after_sign) (record {
+            within = omega arith;
+            digits = natural_digits digits digits_fit n f some few few_after digits_long lanes_are_small last;
+            value_is = refl;
+          })
+
+      pub pointed_plain : get_or piece (first + n) 0 ≡ decimal_point → 0 < f → SpellsPlain number negative all f (sign + n + 1 + f)
+      pointed_plain point some_after =
           let l = number_long in
-          let few = b.few in
-          let few_after = b.few_after in
           let m = digits_long in
           let sign_few = sign_length negative in
-          let P : List ℕ → Type 0 = λ xs. SpellsOn xs 0 n (number_of (take n digits)) in
           let Q : List ℕ → Type 0 = λ xs. SpellsOn xs (number_of (take n digits)) f all in
-          let front : SpellsOn digits 0 n (number_of (take n digits)) =
-          record {
-            within = omega arith;
-            digits = natural_digits digits digits_fit n f some b.few b.few_after digits_long lanes_are_small last;
-            value_is = refl;
-          } in
           let back : SpellsOn (drop (n + 1) digits) (number_of (take n digits)) f all =
           record {
             within = omega (arith, length-drop (n + 1) digits);
-            digits = fraction_digits digits digits_fit n f some b.few b.few_after digits_long lanes_are_small last;
+            digits = fraction_digits digits digits_fit n f some few few_after digits_long lanes_are_small last;
             value_is = fold-append with_digit 0 (take n digits) (take f (drop (n + 1) digits));
           } in
           let rest : drop (n + 1) digits ≡ drop (sign + n + 1) number =
           ap (drop (n + 1)) (sym after_sign) ∙ drop-drop (n + 1) sign number ∙ ap (λ k. drop k number) {x = sign + (n + 1)} {y = sign + n + 1} (omega arith) in
-          let point : get_or number (sign + n) 0 ≡ decimal_point =
-          get_or-drop at piece (sign + n) 0 ∙ ap (λ k. get_or piece k 0) {x = at + (sign + n)} {y = first + n} (let e = s.first_is in omega arith) ∙ b.point in
-          let one : get_or number sign 0 ≡ 48 → n ≡ 1 =
-          λ z. s.one (ap (λ k. get_or piece k 0) s.first_is ∙ sym (get_or-drop at piece sign 0) ∙ z) in
-          point_plain number negative sign n (number_of (take n digits)) (sign_at number negative s.sign (omega arith))
-          (subst P (sym after_sign) front) some (one_of number sign n one) f all point (subst Q rest back) both.1 (omega arith)
+          let there : get_or number (sign + n) 0 ≡ decimal_point =
+          get_or-drop at piece (sign + n) 0 ∙ ap (λ k. get_or piece k 0) {x = at + (sign + n)} {y = first + n} (omega arith) ∙ point in
+          point_plain number negative sign n (number_of (take n digits)) (sign_at number negative signed_so (omega arith)) front some
+          (one_of number sign n one_there) f all there (subst Q rest back) some_after (omega arith)
 
-      pub number_is : (precise ≡ true → Each1 (λ x. x ≡ 0) (rests_in lanes) → ⊥) → (precise ≡ false → Each1 (λ x. x ≡ 0) (rests_in lanes))
-          → (value : ℤ) → signed negative (cut_in lanes) ≡ value → HasCut piece at end (record { value = value; precise = precise })
-      number_is found none value value_is =
-          let few = b.few in
-          let few_after = b.few_after in
+      -- without a point
+      pub integer_plain : f ≡ 0 → SpellsPlain number negative all 0 (sign + n)
+      integer_plain none =
           let l = number_long in
-          let sign_few = sign_length negative in
-          let e = s.first_is in
-          let k = b.end_is in
-          let lanes_there = there some both.1 in
-          let size : sign + n + 1 + f ≡ end - at = omega arith in
-          let ends : get_or number (sign + n + 1 + f) 0 ≡ behind =
-          get_or-drop at piece (sign + n + 1 + f) 0 ∙ ap (λ i. get_or piece i 0) {x = at + (sign + n + 1 + f)} {y = end} (omega arith) ∙ s.ends in
+          let P : ℕ → Type 0 = λ d. SpellsPlain number negative d 0 (sign + n) in
+          let none_after : take f (drop (n + 1) digits) ≡ [] = ap (λ k. take k (drop (n + 1) digits)) none in
+          let same : number_of (take n digits) ≡ all = ap number_of (sym (ap (λ xs. take n digits ++ xs) none_after ∙ append-nil (take n digits))) in
+          subst P same (whole_plain number negative sign n (number_of (take n digits)) (sign_at number negative signed_so (omega arith)) front some
+          (one_of number sign n one_there))
+
+      pub number_is : (size : ℕ) → SpellsPlain number negative all f size → at + size ≡ end → size < 31 → class_of (get_or piece end 0) ≡ Other
+          → (precise ≡ true → Each1 (λ x. x ≡ 0) (rests_in lanes) → ⊥) → (precise ≡ false → Each1 (λ x. x ≡ 0) (rests_in lanes)) → (value : ℤ)
+          → signed negative (cut_in lanes) ≡ value → HasCut piece at end (record { value = value; precise = precise })
+      number_is size plain ends short other found none value value_is =
+          let l = number_long in
+          let bytes : size ≡ end - at = omega arith in
+          let ended : class_of (get_or number size 0) ≡ Other = ap class_of (get_or-drop at piece size 0 ∙ ap (λ i. get_or piece i 0) ends) ∙ other in
           let P : ℕ → Type 0 = λ i. StartsWithNumber number (short_value negative all f) i in
           let Q : List ℕ → Type 0 = λ xs. Each1 (λ x. x ≡ 0) (rests_in xs) in
           let R : List ℕ → Type 0 = λ xs. limited_cut (cut_magnitude (short_value negative all f)) ≡ Some (cut_in xs) in
           let few_places : f ≤ 18 = omega arith in
-          let cut = subst R (sym lanes_there) (cut_is digits digits_fit n f some b.few b.few_after digits_long lanes_are_small last negative) in
+          let cut = subst R (sym there) (cut_is digits digits_fit n f some few few_after digits_long lanes_are_small last negative) in
           record {
             short = record { digits = all; places = f; negative = negative; small = all_small; few = few_places };
-            starts =
-                subst P size
-                (plain_front number negative all f (sign + n + 1 + f) plain all_small (omega arith) (omega arith) (ap class_of ends ∙ other));
+            starts = subst P bytes (plain_front number negative all f size plain all_small (omega arith) (omega arith) ended);
             is = record {
               value = sym (cut_some negative all f (cut_in lanes) all_small cut) ∙ ap Some value_is;
               precise =
-                  precise_found digits digits_fit n f some b.few b.few_after digits_long lanes_are_small last negative precise
-                  (λ t z. found t (subst Q (sym lanes_there) z)) (λ t. subst Q lanes_there (none t)) w.other;
+                  precise_found digits digits_fit n f some few few_after digits_long lanes_are_small last negative precise
+                  (λ t z. found t (subst Q (sym there) z)) (λ t. subst Q there (none t)) w.other;
             };
           }
+
+-- ---- a number in its span
+
+module _ (piece : List ℕ) (fits : (k : ℕ) → Fits w8 (get_or piece k 0)) (span : Span) (end : ℕ) (b : IsUnsignedSpan piece span end) (lanes : List ℕ) where
+  abbrev rest : List ℕ
+  rest = take (length piece - span.first) (drop span.first piece)
+
+  abbrev ArePlaced : ℕ → ℕ → Type 0
+  ArePlaced n f = lanes ≡ in_lanes (before_point n (map lane_of (take 16 rest))) (after_point n f (map lane_of (take 16 rest)))
+
+  module _ (placed : 0 < span.natural → 0 < span.fraction → ArePlaced span.natural span.fraction) where
+    pub usual_small : IsUsualSpan piece span → Each1 (λ x. x < 10) lanes
+    usual_small u =
+        let p = u.pointed in
+        let few = u.few in
+        digits_small piece fits span.first span.natural span.fraction p.some p.few (omega arith) b.room lanes (placed p.some p.some_more) p.digits.digits
+        p.more.digits
+
+    module _ (integer : span.natural ≡ 0 → 0 < span.fraction → span.fraction ≤ 3 → ArePlaced span.fraction 0)
+        (has_digits : 0 < span.natural → get_or rest span.natural 0 ≡ decimal_point → Each1 (λ x. x < 10) lanes → 0 < span.fraction)
+        (small : Each1 (λ x. x < 10) lanes) (at : ℕ) (negative : Bool) (behind : ℕ) (s : IsSpan piece at negative span end behind)
+        (other : class_of behind ≡ Other) (precise : Bool) (w : IsWhole piece span.fraction end precise)
+        (found : precise ≡ true → Each1 (λ x. x ≡ 0) (rests_in lanes) → ⊥) (none : precise ≡ false → Each1 (λ x. x ≡ 0) (rests_in lanes))
+        (value : ℤ) (value_is : signed negative (cut_in lanes) ≡ value) where
+      ended : class_of (get_or piece end 0) ≡ Other
+      ended = ap class_of s.ends ∙ other
+
+      pub cut_there : HasCut piece at end (record { value = value; precise = precise })
+      cut_there = elim b.parts [
+        | inl p ↦
+            let first = span.first in
+            let n = span.natural in
+            let f = span.fraction in
+            let few = p.few in
+            let few_after = p.few_after in
+            let e = p.end_is in
+            let k = s.first_is in
+            let sign_few = sign_length negative in
+            let some_after : 0 < f =
+            has_digits p.some (ap (λ xs. get_or xs n 0) (take_rest piece first) ∙ get_or-drop first piece n 0 ∙ p.point) small in
+            let after : 12 < f → end ≡ first + n + 1 + f = λ _. e in
+            let plain =
+            pointed_plain piece fits first n f p.some few few_after b.room lanes (placed p.some some_after) small end precise w after at negative s.sign
+            s.first_is p.one p.point some_after in
+            number_is piece fits first n f p.some few few_after b.room lanes (placed p.some some_after) small end precise w after at negative s.sign
+            s.first_is p.one (bool_byte negative + n + 1 + f) plain (omega arith) (omega arith) ended found none value value_is
+        | inr p ↦
+            let first = span.first in
+            let n = span.fraction in
+            let few = p.few in
+            let e = p.end_is in
+            let k = s.first_is in
+            let sign_few = sign_length negative in
+            let few_after : 0 ≤ 15 = omega arith in
+            let is = integer p.none p.some few in
+            let after : 12 < 0 → end ≡ first + n + 1 + 0 = λ z. absurd (omega arith) in
+            let judged : IsWhole piece 0 end precise = record { other = λ z. absurd (omega arith); last = λ z. absurd (omega arith) } in
+            let plain =
+            integer_plain piece fits first n 0 p.some few few_after b.room lanes is small end precise judged after at negative s.sign s.first_is p.one refl in
+            number_is piece fits first n 0 p.some few few_after b.room lanes is small end precise judged after at negative s.sign s.first_is p.one
+            (bool_byte negative + n) plain (omega arith) (omega arith) ended found none value value_is
+      ]
+
+-- ---- in a piece
+
+-- it ends after the place where it begins
+pub span_on : (piece : List ℕ) (at : ℕ) (negative : Bool) (span : Span) (end behind : ℕ) → IsSpan piece at negative span end behind → at < end
+span_on piece at negative span end behind s = elim s.bytes.parts [
+  | inl p ↦ (let e = p.end_is in let k = s.first_is in omega arith)
+  | inr p ↦ (let e = p.end_is in let some = p.some in let k = s.first_is in omega arith)
+]

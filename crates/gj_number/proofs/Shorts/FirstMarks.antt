@@ -72,21 +72,20 @@ next_mark k j ms =
     ∙ ap (λ n. (1 + 2 * mask_l ms) * n) (sym (pow-add 2 j k) ∙ ap (λ n. 2 ^ n) {x = j + k} {y = k + j} (omega arith))
 
 module _ (marks second third fourth : ℕ) (small : marks < 2 ^ 64) (small_second : second < 2 ^ 64) (small_third : third < 2 ^ 64)
-    (small_fourth : fourth < 2 ^ 64)
-    (off : (k r : ℕ) → marks ≡ (1 + 2 * r) * 2 ^ k → second ≡ r * 2 ^ (k + 1))
+    (small_fourth : fourth < 2 ^ 64) (ms : List Bool) (is : marks ≡ mask_l ms) (a b c d : ℕ) (m : AreMarks ms a b c d)
+    (off : (r : ℕ) → marks ≡ (1 + 2 * r) * 2 ^ a → second ≡ r * 2 ^ (a + 1))
     (off_second : (k r : ℕ) → second ≡ (1 + 2 * r) * 2 ^ k → third ≡ r * 2 ^ (k + 1))
-    (off_third : (k r : ℕ) → third ≡ (1 + 2 * r) * 2 ^ k → fourth ≡ r * 2 ^ (k + 1)) where
-  pub marks_found : (ms : List Bool) → marks ≡ mask_l ms → (a b c d : ℕ) → AreMarks ms a b c d
-      → HasMarks (count_trailing_zeros 64 marks) (count_trailing_zeros 64 second) (count_trailing_zeros 64 third) (count_trailing_zeros 64 fourth) a b c d
-  marks_found ms is a b c d m =
+    (off_third : (r : ℕ) → third ≡ (1 + 2 * r) * 2 ^ (a + 1 + b + 1 + c) → fourth ≡ r * 2 ^ (a + 1 + b + 1 + c + 1)) where
+  pub marks_found : HasMarks (count_trailing_zeros 64 marks) (count_trailing_zeros 64 second) (count_trailing_zeros 64 third)
+      (count_trailing_zeros 64 fourth) a b c d
+  marks_found =
       let fours : List Bool = replicate d false ++ true ∷ m.0 in
       let threes : List Bool = replicate c false ++ true ∷ fours in
       let twos : List Bool = replicate b false ++ true ∷ threes in
       let one : marks ≡ (1 + 2 * mask_l twos) * 2 ^ a = is ∙ ap mask_l m.1 ∙ one_mark a twos in
-      let two : second ≡ (1 + 2 * mask_l threes) * 2 ^ (a + 1 + b) = off a (mask_l twos) one ∙ next_mark (a + 1) b threes in
+      let two : second ≡ (1 + 2 * mask_l threes) * 2 ^ (a + 1 + b) = off (mask_l twos) one ∙ next_mark (a + 1) b threes in
       let three : third ≡ (1 + 2 * mask_l fours) * 2 ^ (a + 1 + b + 1 + c) = off_second (a + 1 + b) (mask_l threes) two ∙ next_mark (a + 1 + b + 1) c fours in
-      let four : fourth ≡ (1 + 2 * mask_l m.0) * 2 ^ (a + 1 + b + 1 + c + 1 + d) =
-      off_third (a + 1 + b + 1 + c) (mask_l fours) three ∙ next_mark (a + 1 + b + 1 + c + 1) d m.0 in
+      let four : fourth ≡ (1 + 2 * mask_l m.0) * 2 ^ (a + 1 + b + 1 + c + 1 + d) = off_third (mask_l fours) three ∙ next_mark (a + 1 + b + 1 + c + 1) d m.0 in
       record {
         point_is = lowest_at marks a (mask_l twos) small one;
         comma_is = lowest_at second (a + 1 + b) (mask_l threes) small_second two;

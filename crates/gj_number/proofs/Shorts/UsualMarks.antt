@@ -210,13 +210,15 @@ module _ (piece : List ℕ) (at point end n behind : ℕ) (u : StartsUsual (drop
   usual_span minus span s there =
       let a : sign ≡ bool_byte minus = ap bool_byte s.sign in
       let b = s.first_is in
-      let e = s.bytes.end_is in
+      let d = digits (drop at piece) n behind u in
+      let some = d.some in
       let natural_is : before (drop at piece) n behind u ≡ span.natural = omega arith in
-      let fraction_is : after (drop at piece) n behind u ≡ span.fraction = omega arith in
+      let fraction_is : after (drop at piece) n behind u ≡ span.fraction =
+      elim s.bytes.parts [ inl p ↦ (let e = p.end_is in omega arith) | inr p ↦ (let none = p.none in absurd (omega arith)) ] in
       let same : drop sign (drop at piece) ≡ drop span.first piece =
       drop-drop sign at piece ∙ ap (λ i. drop i piece) {x = at + sign} {y = span.first} (omega arith) in
       let few = u.few_after in
-      record { pointed = rw (← same, ← natural_is, ← fraction_is) (digits (drop at piece) n behind u); few = omega arith }
+      record { pointed = rw (← same, ← natural_is, ← fraction_is) d; few = omega arith }
 
 -- ---- both
 
@@ -321,6 +323,21 @@ module _ (piece : List ℕ) (form : PairForm) (u : StartsUsualCuts piece form) w
             ∙ ap (λ ms. replicate (spaces + other_point_at) false ++ true ∷ ms) (take_past m (other_places + ends) end (omega arith)))),
       )
 
+  -- the third mark counts from the start
+  pub first_point : get_or piece point_at 0 ≡ decimal_point
+  first_point =
+      let d = digits piece u.comma_at comma u.one in
+      sym (get_or-drop (bool_byte (negative piece u.comma_at comma u.one)) piece (before piece u.comma_at comma u.one) 0) ∙ d.point
+
+  pub second_point : get_or piece (point_at + 1 + places + 1 + (spaces + other_point_at)) 0 ≡ decimal_point
+  second_point =
+      let d = digits second u.length_other behind u.other in
+      let l = length_is piece u.comma_at comma u.one in
+      let s : ℕ = bool_byte (negative second u.length_other behind u.other) in
+      let there : second_at + (s + before second u.length_other behind u.other) ≡ point_at + 1 + places + 1 + (spaces + other_point_at) = omega arith in
+      ap (λ k. get_or piece k 0) (sym there) ∙ sym (get_or-drop second_at piece (s + before second u.length_other behind u.other) 0)
+      ∙ sym (get_or-drop s second (before second u.length_other behind u.other) 0) ∙ d.point
+
   module _ (point comma_is other_point next end_is behind_is : ℕ)
       (h : HasMarks point comma_is other_point next point_at places (spaces + other_point_at) (other_places + ends))
       (before_next : end_is ≡ (next + (18446744073709551616 - ends)) % 18446744073709551616) (few_next : next ≤ 64)
@@ -345,6 +362,10 @@ module _ (piece : List ℕ) (form : PairForm) (u : StartsUsualCuts piece form) w
 
     other_end : end_is ≡ other_point + 1 + other_places
     other_end = let a = h.other_point_is in let b = h.next_is in let few = few_ends form.after in omega arith
+
+    -- a point is before the mark of the byte after the number
+    pub before_mark : (point ≡ comma_is → ⊥) × (other_point ≡ next → ⊥)
+    before_mark = let a = h.point_is in let b = h.comma_is in let d = h.other_point_is in let e = h.next_is in (λ z. omega arith, λ z. omega arith)
 
     pub one_span : IsMarkedSpan piece 0 point comma_is comma
     one_span = span_at piece 0 point comma_is u.comma_at comma u.one one_point one_end

@@ -1,5 +1,5 @@
 -- The digits of a number in lanes from which its cut value is read.
-use Rattle.std.specs.Prelude.{◌≡◌, ℕ, ◌+◌, ◌-◌, ◌*◌, ◌<◌, ◌≤◌, Bool, true, false, ◌==◌, ◌||◌, List, [], ◌∷◌, ◌++◌, length, take, drop, get_or}
+use Rattle.std.specs.Prelude.{◌≡◌, ℕ, ◌+◌, ◌-◌, ◌*◌, ◌<◌, ◌≤◌, ◌⊎◌, Bool, true, false, ◌==◌, ◌||◌, List, [], ◌∷◌, ◌++◌, length, take, drop, get_or}
 use Rattle.std.specs.Prelude.{replicate}
 use Rattle.std.specs.List.{fold}
 use Rattle.std.specs.Simd.Lanes.{pick_l}
@@ -44,12 +44,26 @@ abbrev pub by_sevens : List ℕ → List ℕ
 by_sevens (a ∷ b ∷ numbers) = (a * 10000 + b) ∷ by_sevens numbers
 by_sevens _ = []
 
--- Up to three bytes stand before a point and up to fifteen after it, before an index, and the piece has 32 from the first on.
-pub record IsUnsignedSpan (piece : List ℕ) (span : Span) (end : ℕ) : Type 0 where
+-- Up to three bytes stand before a point and up to fifteen after it, before an index. A zero is alone before a point.
+pub record IsPointedSpan (piece : List ℕ) (span : Span) (end : ℕ) : Type 0 where
+  pub some : 0 < span.natural
   pub few : span.natural ≤ 3
   pub few_after : span.fraction ≤ 15
   pub end_is : end ≡ span.first + span.natural + 1 + span.fraction
   pub point : get_or piece (span.first + span.natural) 0 ≡ decimal_point
+  pub one : get_or piece span.first 0 ≡ zero_digit → span.natural ≡ 1
+
+-- One to three bytes stand before an index, and no point: they are counted as if they stood after one. A zero is alone.
+pub record IsIntegerSpan (piece : List ℕ) (span : Span) (end : ℕ) : Type 0 where
+  pub none : span.natural ≡ 0
+  pub some : 0 < span.fraction
+  pub few : span.fraction ≤ 3
+  pub end_is : end ≡ span.first + span.fraction
+  pub one : get_or piece span.first 0 ≡ zero_digit → span.fraction ≡ 1
+
+-- One of both, and the piece has 32 bytes from the first on.
+pub record IsUnsignedSpan (piece : List ℕ) (span : Span) (end : ℕ) : Type 0 where
+  pub parts : IsPointedSpan piece span end ⊎ IsIntegerSpan piece span end
   pub room : span.first + 32 ≤ length piece
 
 -- A number stands in a piece from an index on, if these bytes are digits, and this byte after it.
@@ -58,7 +72,6 @@ pub record IsSpan (piece : List ℕ) (at : ℕ) (negative : Bool) (span : Span) 
   pub sign : StartsSigned (drop at piece) negative
   pub first_is : span.first ≡ at + bool_byte negative
   pub ends : get_or piece end 0 ≡ behind
-  pub one : get_or piece span.first 0 ≡ zero_digit → span.natural ≡ 1
 
 -- These bytes are digits, and each of them is in a lane.
 pub record IsUsualSpan (piece : List ℕ) (span : Span) : Type 0 where

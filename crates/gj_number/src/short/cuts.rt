@@ -2,10 +2,10 @@
 //!
 //! A bit for each byte that is a comma or a point says where the parts of two numbers end, if two numbers stand there.
 //! What does stand there is checked after that.
-ghost use Rattle.std.specs.Prelude.{◌≡◌, ◌==◌, ℕ, ◌+◌, ◌*◌, ◌^◌, ◌<◌, ◌≤◌, ◌↔◌, ◌⊎◌, true, get_or, length, map, take, drop, IsTrue, IfSome};
+ghost use Rattle.std.specs.Prelude.{◌≡◌, ◌==◌, ℕ, ◌+◌, ◌*◌, ◌^◌, ◌<◌, ◌≤◌, ◌↔◌, ◌⊎◌, true, false, get_or, length, map, take, drop, IsTrue, IfSome};
 ghost use Rattle.std.specs.Simd.Lanes.{mask_l};
 ghost use Rattle.std.specs.Option.{IsSome};
-ghost use Rattle.gj_number.specs.Bytes.{space, zero_digit};
+ghost use Rattle.gj_number.specs.Bytes.{space, zero_digit, decimal_point};
 ghost use Rattle.gj_number.specs.Cuts.{StartsWithCutPair, StartsUsualCuts, second_after};
 ghost use Rattle.gj_number.specs.Internal.DigitRuns.{StartsSigned};
 ghost use Rattle.gj_number.specs.Internal.CutLanes.{is_mark, is_mark_by, AreMarks, HasCut, HasMarks};
@@ -77,6 +77,8 @@ impl After {
 pub struct PairForm {
     /// Whether one space stands after the comma.
     pub spaced: bool,
+    /// Whether each number may be an integer, which has no point. Else each has a point.
+    pub integers: bool,
     pub after: After,
 }
 
@@ -87,7 +89,8 @@ pub struct Signs {
     pub second: bool,
 }
 
-/// The index of a number's first digit, and how many bytes stand before its point and after it.
+/// The index of a number's first digit, and how many bytes stand before its point and after it. Those of an integer are
+/// counted as if they stood after it.
 #[derive(Clone, Copy)]
 pub(super) struct Span {
     first: usize,
@@ -96,7 +99,7 @@ pub(super) struct Span {
 }
 
 /// The indices of the first four marks in a piece, 64 for one that is not there. `next` is that of the comma after the
-/// second number, or after its array.
+/// second number, or after its array. An integer has no point: `point` is `comma` then, or `other_point` is `next`.
 #[derive(Clone, Copy)]
 struct Marks {
     point: usize,
@@ -123,27 +126,41 @@ pub(super) fn without_lowest(bits: u64) -> u64
     bits & bits.wrapping_sub(1)
 }
 
+/// The marks after that of a point: these without the lowest, unless integers may stand here and the lowest is a comma.
+#[inline(always)]
+fn after_point(piece: &[u8], marks: u64, integers: bool) -> u64
+    requires { 48 ≤ length piece.now }
+    ensures { (k rest : ℕ) → marks ≡ (1 + 2 * rest) * 2 ^ k → get_or piece.now k 0 ≡ decimal_point → result ≡ rest * 2 ^ (k + 1) }
+{
+    let lowest = marks.trailing_zeros() as usize;
+    if integers && lowest < 48 && piece[lowest] == b',' {
+        marks
+    } else {
+        without_lowest(marks)
+    }
+}
+
 /// The first four marks of a piece.
 #[inline(always)]
-fn first_marks(piece: &[u8]) -> Marks
+fn first_marks(piece: &[u8], integers: bool) -> Marks
     requires { 48 ≤ length piece.now }
     ensures point { result.point ≤ 64 }
     ensures comma { result.comma ≤ 64 }
     ensures other_point { result.other_point ≤ 64 }
     ensures next { result.next ≤ 64 }
-    ensures first { (a b c d : ℕ) → AreMarks (map is_mark (take 48 piece.now)) a b c d
-        → HasMarks result.point result.comma result.other_point result.next a b c d }
+    ensures first { (a b c d : ℕ) → AreMarks (map is_mark (take 48 piece.now)) a b c d → get_or piece.now a 0 ≡ decimal_point
+        → get_or piece.now (a + 1 + b + 1 + c) 0 ≡ decimal_point → HasMarks result.point result.comma result.other_point result.next a b c d }
 {
     let marks = marks_at(piece, 0, b',')
         | (marks_at(piece, 16, b',') << 16)
         | (marks_at(piece, 32, b',') << 32);
-    let from_comma = without_lowest(marks);
+    let from_comma = after_point(piece, marks, integers);
     let from_point = without_lowest(from_comma);
     Marks {
         point: marks.trailing_zeros() as usize,
         comma: from_comma.trailing_zeros() as usize,
         other_point: from_point.trailing_zeros() as usize,
-        next: without_lowest(from_point).trailing_zeros() as usize,
+        next: after_point(piece, from_point, integers).trailing_zeros() as usize,
     }
 }
 
@@ -196,6 +213,65 @@ pub(super) fn span_between(
     })
 }
 
+/// The integer that begins at an index, with a minus sign if it is to be negative and else without, and ends before another,
+/// where this byte stands. Its bytes may be others than digits.
+#[inline(always)]
+fn integer_before(piece: &[u8], at: usize, negative: bool, end: usize, behind: u8) -> Option<Span>
+    requires at { at ≤ 64 }
+    requires room { at + 33 ≤ length piece.now }
+    ensures { IfSome result (λ span. IsSpan piece.now at negative span end behind) }
+{
+    if negative && piece[at] != b'-' {
+        return None;
+    }
+    let first = at + negative as usize;
+    let length = end.wrapping_sub(first);
+    if length == 0 || length > 3 {
+        return None;
+    }
+    if piece[end] != behind || !may_lead(piece[first], length) {
+        return None;
+    }
+    Some(Span {
+        first,
+        natural: 0,
+        fraction: length,
+    })
+}
+
+/// Whether the mark of a number's point is the one after the number, so that the number is an integer, if there may be one.
+#[inline(always)]
+fn shares_mark(integers: bool, point: usize, next: usize) -> bool
+    ensures { (point ≡ next → ⊥) → result ≡ false }
+{
+    integers && point == next
+}
+
+/// The number that begins at an index and ends before another, by [`integer_before`] or by [`span_between`].
+#[inline(always)]
+fn span_before(
+    piece: &[u8],
+    at: usize,
+    negative: bool,
+    integer: bool,
+    point: usize,
+    end: usize,
+    behind: u8,
+) -> Option<Span>
+    requires at { at ≤ 64 }
+    requires room { at + 33 ≤ length piece.now }
+    requires point { point ≤ 128 }
+    ensures point { IfSome result (λ span. integer ≡ false → point ≡ span.first + span.natural) }
+    ensures span { IfSome result (λ span. IsSpan piece.now at negative span end behind) }
+    ensures taken { integer ≡ false → IsMarkedSpan piece.now at point end behind → StartsSigned (drop at piece.now) negative → IsSome result }
+{
+    if integer {
+        integer_before(piece, at, negative, end, behind)
+    } else {
+        span_between(piece, at, negative, point, end, behind)
+    }
+}
+
 /// Whether a space stands at an index, if one is to stand there.
 #[inline(always)]
 fn is_spaced(piece: &[u8], at: usize, spaced: bool) -> bool
@@ -224,10 +300,8 @@ fn are_whole(
     end: usize,
     other_precise: bool,
 ) -> bool
-    requires comma { 3 ≤ comma }
-    requires comma_room { comma + 13 ≤ length piece.now }
-    requires end { 3 ≤ end }
-    requires end_room { end + 13 ≤ length piece.now }
+    requires order { comma ≤ end }
+    requires room { end + 13 ≤ length piece.now }
     ensures first { IsTrue result → IsWhole piece.now one.fraction comma precise }
     ensures second { IsTrue result → IsWhole piece.now other.fraction end other_precise }
     ensures taken { one.fraction ≤ 12 → other.fraction ≤ 12 → IsTrue result }
@@ -237,6 +311,7 @@ fn are_whole(
     }
     is_judged(one.fraction, precise)
         && is_judged(other.fraction, other_precise)
+        && comma >= 3
         && are_last_digits(piece, comma, end)
 }
 
@@ -253,6 +328,7 @@ pub(super) fn cuts_before(
 ) -> Option<(Cut, Cut)>
     requires one { IsUnsignedSpan piece.now one comma }
     requires other { IsUnsignedSpan piece.now other end }
+    requires order { comma ≤ end }
     ensures first { IfSome result (λ cuts. (at behind : ℕ) → IsSpan piece.now at signs.first one comma behind → class_of behind ≡ Other
         → HasCut piece.now at comma cuts.0) }
     ensures second { IfSome result (λ cuts. (at behind : ℕ) → IsSpan piece.now at signs.second other end behind → class_of behind ≡ Other
@@ -282,7 +358,8 @@ pub(super) fn cuts_before(
 
 /// Reads two numbers of this form from the start of a piece as their cut values, where one to three digits stand before the
 /// point of each and fifteen at most after it. Each has a minus sign where `signs` says so, and else none. They are always
-/// found where eleven digits at most stand after the point. Of others, `None` says that another reader is to read them.
+/// found where eleven digits at most stand after the point. Where the form has integers, those of up to three digits are read
+/// too. Of others, `None` says that another reader is to read them.
 #[inline(always)]
 pub fn read_cut_pair(piece: &[u8], signs: Signs, form: PairForm) -> Option<CutPair>
     requires { 64 ≤ length piece.now }
@@ -291,8 +368,17 @@ pub fn read_cut_pair(piece: &[u8], signs: Signs, form: PairForm) -> Option<CutPa
     ensures taken { (usual : StartsUsualCuts piece.now form) → StartsSigned piece.now signs.first
         → StartsSigned (drop (second_after form usual.comma_at) piece.now) signs.second → IsSome result }
 {
-    let marks = first_marks(piece);
-    let Some(one) = span_between(piece, 0, signs.first, marks.point, marks.comma, b',') else {
+    let marks = first_marks(piece, form.integers);
+    let integer = shares_mark(form.integers, marks.point, marks.comma);
+    let Some(one) = span_before(
+        piece,
+        0,
+        signs.first,
+        integer,
+        marks.point,
+        marks.comma,
+        b',',
+    ) else {
         return None;
     };
     if !is_spaced(piece, marks.comma + 1, form.spaced) {
@@ -301,7 +387,16 @@ pub fn read_cut_pair(piece: &[u8], signs: Signs, form: PairForm) -> Option<CutPa
     let at = marks.comma + 1 + form.spaced as usize;
     let end = marks.next.wrapping_sub(form.after.before_comma());
     let behind = form.after.byte();
-    let Some(other) = span_between(piece, at, signs.second, marks.other_point, end, behind) else {
+    let other_integer = shares_mark(form.integers, marks.other_point, marks.next);
+    let Some(other) = span_before(
+        piece,
+        at,
+        signs.second,
+        other_integer,
+        marks.other_point,
+        end,
+        behind,
+    ) else {
         return None;
     };
     let Some(cuts) = cuts_before(piece, signs, one, marks.comma, other, end) else {

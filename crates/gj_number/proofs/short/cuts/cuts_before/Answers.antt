@@ -2,34 +2,26 @@ use Rattle.std.proofs.Common.{◌∙◌, sym, ap, rules, w64}
 use mir.Val.{SFits}
 use Rattle.std.proofs.lemmas.Int.{to_z-of_z}
 use Rattle.gj_number.specs.Exact.{signed}
-use Rattle.gj_number.proofs.Shorts.CutPairs.{number_is, three_before, usual_small}
+use Rattle.gj_number.proofs.Shorts.CutPairs.{cut_there, usual_small}
 use Rattle.gj_number.proofs.short.cuts.cuts_before.Goals as goal
-
-pub are_whole-requires-clause-comma : goal.are_whole-requires-clause-comma
-are_whole-requires-clause-comma c =
-    three_before c.args.piece.now c.type_inv.piece c.args.one c.args.comma c.requires.one _ c.placed_digits-first.ensures.digits
-    c.placed_digits-first.ensures.some (c.are_digits.ensures.first c.if-not-are_digits.false)
-
-pub are_whole-requires-clause-end : goal.are_whole-requires-clause-end
-are_whole-requires-clause-end c =
-    three_before c.args.piece.now c.type_inv.piece c.args.other c.args.end c.requires.other _ c.placed_digits-second.ensures.digits
-    c.placed_digits-second.ensures.some (c.are_digits.ensures.second c.if-not-are_digits.false)
 
 pub returns-clause-first : goal.returns-clause-first
 returns-clause-first c at behind s other =
     let told = c.rests_of-precise.ensures in
+    let placed = c.placed_digits-first.ensures in
     let fits : SFits w64 c.with_sign.result = search rules in
-    number_is c.args.piece.now c.type_inv.piece c.args.one c.args.comma c.requires.one _ c.placed_digits-first.ensures.digits
-    c.placed_digits-first.ensures.some (c.are_digits.ensures.first c.if-not-are_digits.false) at c.args.signs.first behind s other
+    cut_there c.args.piece.now c.type_inv.piece c.args.one c.args.comma c.requires.one _ placed.digits placed.integer placed.some
+    (c.are_digits.ensures.first c.if-not-are_digits.false) at c.args.signs.first behind s other
     c.rests_of-precise.result.0 (c.are_whole.ensures.first c.if-not-are_whole.false) told.first_some told.first_none _
     (ap (signed c.args.signs.first) (sym c.cuts_of-value.ensures.first) ∙ sym c.with_sign.ensures ∙ sym (to_z-of_z w64 c.with_sign.result fits))
 
 pub returns-clause-second : goal.returns-clause-second
 returns-clause-second c at behind s other =
     let told = c.rests_of-precise.ensures in
+    let placed = c.placed_digits-second.ensures in
     let fits : SFits w64 c.with_sign-2.result = search rules in
-    number_is c.args.piece.now c.type_inv.piece c.args.other c.args.end c.requires.other _ c.placed_digits-second.ensures.digits
-    c.placed_digits-second.ensures.some (c.are_digits.ensures.second c.if-not-are_digits.false) at c.args.signs.second behind s other
+    cut_there c.args.piece.now c.type_inv.piece c.args.other c.args.end c.requires.other _ placed.digits placed.integer placed.some
+    (c.are_digits.ensures.second c.if-not-are_digits.false) at c.args.signs.second behind s other
     c.rests_of-precise.result.1 (c.are_whole.ensures.second c.if-not-are_whole.false) told.second_some told.second_none _
     (ap (signed c.args.signs.second) (sym c.cuts_of-value.ensures.second) ∙ sym c.with_sign-2.ensures ∙ sym (to_z-of_z w64 c.with_sign-2.result fits))
 

@@ -3,9 +3,9 @@ use Rattle.gj_number.specs.Cuts.{second_after}
 use Rattle.gj_number.specs.Short.{exact_of, StartsWithNumber}
 use Rattle.gj_number.specs.Internal.NumberMachine.{class_of}
 use Rattle.gj_number.specs.Internal.DigitRuns.{StartsSigned}
-use Rattle.gj_number.proofs.Shorts.CutPairs.{after_other}
+use Rattle.gj_number.proofs.Shorts.CutPairs.{after_other, span_on}
 use Rattle.gj_number.proofs.Shorts.NumberPairs.{comma_other}
-use Rattle.gj_number.proofs.Shorts.UsualMarks.{pair_marks, one_span, other_span, one_usual, other_usual, second_there, space_there}
+use Rattle.gj_number.proofs.Shorts.UsualMarks.{pair_marks, first_point, second_point, before_mark, one_span, other_span, one_usual, other_usual, second_there, space_there}
 use Rattle.gj_number.proofs.short.cuts.read_cut_pair.Goals as goal
 
 abbrev end_before : ℕ → ℕ → ℕ
@@ -15,10 +15,10 @@ pub returns-clause-numbers : goal.returns-clause-numbers
 returns-clause-numbers c =
     let at = second_after c.args.form c.first_marks-marks.result.comma in
     let s = c.in-Some.ensures.span in
-    let t = c.in-Some-span_between.ensures.span in
+    let t = c.in-Some-span_before.ensures.span in
     let one = c.in-Some-cuts_before.ensures.first 0 44 s comma_other in
     let other = c.in-Some-cuts_before.ensures.second at c.byte-behind.result t (ap class_of c.byte-behind.ensures ∙ after_other c.args.form.after) in
-    let a = t.bytes.end_is in
+    let on = span_on _ _ _ _ _ _ t in
     let b = t.first_is in
     let P : ℕ → Type 0 = λ k. StartsWithNumber c.args.piece.now (exact_of one.short) k in
     record {
@@ -39,30 +39,32 @@ returns-in_default-clause-taken c = λ u sign other_sign.
     let piece = c.args.piece.now in
     let form = c.args.form in
     let marks = c.first_marks-marks.result in
-    let h = c.first_marks-marks.ensures.first _ _ _ _ (pair_marks piece form u (omega (arith, c.requires))) in
+    let h = c.first_marks-marks.ensures.first _ _ _ _ (pair_marks piece form u (omega (arith, c.requires))) (first_point piece form u) (second_point piece form u) in
     let few = c.first_marks-marks.ensures.next in
-    c.in_default.ensures.taken (one_span piece form u _ _ _ _ _ _ h refl few refl) sign
+    let is = c.shares_mark-integer.ensures (before_mark piece form u _ _ _ _ _ _ h refl few refl).0 in
+    c.in_default.ensures.taken is (one_span piece form u _ _ _ _ _ _ h refl few refl) sign
 
 pub returns-then-not-is_spaced-clause-taken : goal.returns-then-not-is_spaced-clause-taken
 returns-then-not-is_spaced-clause-taken c = λ u sign other_sign.
     let piece = c.args.piece.now in
     let form = c.args.form in
     let marks = c.first_marks-marks.result in
-    let h = c.first_marks-marks.ensures.first _ _ _ _ (pair_marks piece form u (omega (arith, c.requires))) in
+    let h = c.first_marks-marks.ensures.first _ _ _ _ (pair_marks piece form u (omega (arith, c.requires))) (first_point piece form u) (second_point piece form u) in
     let few = c.first_marks-marks.ensures.next in
     let yes = c.is_spaced.ensures.1 (space_there piece form u _ _ _ _ _ _ h refl few refl) in
     let no = c.if-not-is_spaced.true in
     cc
 
-pub returns-in_default-span_between-clause-taken : goal.returns-in_default-span_between-clause-taken
-returns-in_default-span_between-clause-taken c = λ u sign other_sign.
+pub returns-in_default-span_before-clause-taken : goal.returns-in_default-span_before-clause-taken
+returns-in_default-span_before-clause-taken c = λ u sign other_sign.
     let piece = c.args.piece.now in
     let form = c.args.form in
     let marks = c.first_marks-marks.result in
-    let h = c.first_marks-marks.ensures.first _ _ _ _ (pair_marks piece form u (omega (arith, c.requires))) in
+    let h = c.first_marks-marks.ensures.first _ _ _ _ (pair_marks piece form u (omega (arith, c.requires))) (first_point piece form u) (second_point piece form u) in
     let few = c.first_marks-marks.ensures.next in
     let end = ap (end_before marks.next) c.before_comma.ensures in
-    c.in_default-span_between.ensures.taken (other_span piece form u _ _ _ _ _ _ h end few c.byte-behind.ensures)
+    let is = c.shares_mark-other_integer.ensures (before_mark piece form u _ _ _ _ _ _ h end few c.byte-behind.ensures).1 in
+    c.in_default-span_before.ensures.taken is (other_span piece form u _ _ _ _ _ _ h end few c.byte-behind.ensures)
     (let P : ℕ → Type 0 = λ k. StartsSigned (drop k piece) c.args.signs.second in
     subst P (second_there piece form u _ _ _ _ _ _ h end few c.byte-behind.ensures) other_sign)
 
@@ -71,9 +73,12 @@ returns-in_default-cuts_before-clause-taken c = λ u sign other_sign.
     let piece = c.args.piece.now in
     let form = c.args.form in
     let marks = c.first_marks-marks.result in
-    let h = c.first_marks-marks.ensures.first _ _ _ _ (pair_marks piece form u (omega (arith, c.requires))) in
+    let h = c.first_marks-marks.ensures.first _ _ _ _ (pair_marks piece form u (omega (arith, c.requires))) (first_point piece form u) (second_point piece form u) in
     let few = c.first_marks-marks.ensures.next in
     let end = ap (end_before marks.next) c.before_comma.ensures in
+    let before = before_mark piece form u _ _ _ _ _ _ h end few c.byte-behind.ensures in
     c.in_default-cuts_before.ensures.taken
-    (one_usual piece form u _ _ _ _ _ _ h end few c.byte-behind.ensures _ _ c.in-Some.ensures.span c.in-Some.ensures.point)
-    (other_usual piece form u _ _ _ _ _ _ h end few c.byte-behind.ensures _ _ c.in-Some-span_between.ensures.span c.in-Some-span_between.ensures.point)
+    (one_usual piece form u _ _ _ _ _ _ h end few c.byte-behind.ensures _ _ c.in-Some.ensures.span
+    (c.in-Some.ensures.point (c.shares_mark-integer.ensures before.0)))
+    (other_usual piece form u _ _ _ _ _ _ h end few c.byte-behind.ensures _ _ c.in-Some-span_before.ensures.span
+    (c.in-Some-span_before.ensures.point (c.shares_mark-other_integer.ensures before.1)))

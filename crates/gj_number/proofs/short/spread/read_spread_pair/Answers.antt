@@ -1,6 +1,6 @@
 use Rattle.std.proofs.Common.{◌+◌, ℕ, subst, arith}
 use Rattle.gj_number.specs.Short.{exact_of, StartsWithNumber}
-use Rattle.gj_number.proofs.Shorts.CutPairs.{line_feed_other}
+use Rattle.gj_number.proofs.Shorts.CutPairs.{line_feed_other, span_on}
 use Rattle.gj_number.proofs.Shorts.NumberPairs.{comma_other}
 use Rattle.gj_number.proofs.Shorts.UsualSpreads.{two_marks, marked_span, is_usual, other_usual, other_signed}
 use Rattle.gj_number.proofs.short.spread.read_spread_pair.Goals as goal
@@ -13,7 +13,7 @@ returns-clause-numbers c =
     let t = c.in-Some-span_between.ensures.span in
     let one = c.in-Some-cuts_before.ensures.first 0 44 s comma_other in
     let other = c.in-Some-cuts_before.ensures.second (comma + 1 + c.args.gap) 10 t line_feed_other in
-    let a = t.bytes.end_is in
+    let on = span_on _ _ _ _ _ _ t in
     let b = t.first_is in
     let P : ℕ → Type 0 = λ k. StartsWithNumber piece (exact_of one.short) k in
     record {
