@@ -126,9 +126,15 @@ fn begins_next(piece: &[u8], at: usize, spaced: bool) -> bool
 }
 
 /// The position that the piece starts with, where its array has this form, its numbers have these signs, and a comma and
-/// another array follow. The piece begins at the place `start`.
+/// another array follow. Its first two numbers may be integers if `integers` says so. The piece begins at the place `start`.
 #[inline(always)]
-fn read_position(piece: &[u8], signs: Signs, form: ArrayForm, start: u64) -> Option<CutPosition>
+fn read_position(
+    piece: &[u8],
+    signs: Signs,
+    form: ArrayForm,
+    integers: bool,
+    start: u64,
+) -> Option<CutPosition>
     requires bracket { get_or piece.now 0 0 ≡ open_bracket }
     requires small { start + length piece.now ≤ 2 ^ 60 }
     ensures { IfSome result (λ position. SpellsPosition (near_gap form) position start piece.now) }
@@ -142,6 +148,7 @@ fn read_position(piece: &[u8], signs: Signs, form: ArrayForm, start: u64) -> Opt
     let first = 1 + form.inside as usize;
     let pair_form = PairForm {
         spaced: form.after_comma,
+        integers,
         after: after_second(form),
     };
     let Some(pair) = read_cut_pair(&piece[first..], signs, pair_form) else {
@@ -172,6 +179,7 @@ fn read_in_form(
     piece: &[u8],
     signs: Signs,
     form: ArrayForm,
+    integers: bool,
     start: u64,
     positions: &mut [CutPosition; MOST_POSITIONS],
 ) -> usize
@@ -185,7 +193,7 @@ fn read_in_form(
     let mut rest = piece;
     while count < MOST_POSITIONS {
         let place = end - rest.len() as u64;
-        let Some(position) = read_position(rest, signs, form, place) else {
+        let Some(position) = read_position(rest, signs, form, integers, place) else {
             return count;
         };
         rest = &rest[position.close_at as usize + 2 + form.after_comma as usize..];
@@ -217,13 +225,14 @@ fn read_signed<const NEGATIVE: bool, const OTHER_NEGATIVE: bool>(
         inside: false,
         after_comma: false,
         third: false,
+        integers: false,
     };
-    read_in_form(piece, signs, form, start, positions)
+    read_in_form(piece, signs, form, false, start, positions)
 }
 
-/// As `read_in_form`, of arrays with spaces or with a third number. One loop is for all of these.
+/// As `read_in_form`, of arrays with spaces, with a third number or with integers.
 #[inline(never)]
-fn read_other(
+fn read_other<const INTEGERS: bool>(
     piece: &[u8],
     signs: Signs,
     form: ArrayForm,
@@ -235,10 +244,36 @@ fn read_other(
     ensures few { result ≤ 24 }
     ensures spelled { SpellsPositions (near_gap form) (take result positions.new) start piece.now }
 {
-    read_in_form(piece, signs, form, start, positions)
+    read_in_form(piece, signs, form, INTEGERS, start, positions)
 }
 
-/// As `read_in_form`, of any such form.
+/// As `read_in_form`, of any such form and without integers.
+#[inline(always)]
+fn read_pointed(
+    piece: &[u8],
+    signs: Signs,
+    form: ArrayForm,
+    start: u64,
+    positions: &mut [CutPosition; MOST_POSITIONS],
+) -> usize
+    requires bracket { get_or piece.now 0 0 ≡ open_bracket }
+    requires small { start + length piece.now ≤ 2 ^ 60 }
+    ensures few { result ≤ 24 }
+    ensures spelled { SpellsPositions (near_gap form) (take result positions.new) start piece.now }
+{
+    if form.inside || form.after_comma || form.third {
+        return read_other::<false>(piece, signs, form, start, positions);
+    }
+    match (signs.first, signs.second) {
+        (false, false) => read_signed::<false, false>(piece, start, positions),
+        (false, true) => read_signed::<false, true>(piece, start, positions),
+        (true, false) => read_signed::<true, false>(piece, start, positions),
+        (true, true) => read_signed::<true, true>(piece, start, positions),
+    }
+}
+
+/// As `read_in_form`, of any such form. Integers are looked for only where nothing else is found, since a single one stands
+/// among other numbers more often than many do.
 #[inline(always)]
 fn read_near_positions(
     piece: &[u8],
@@ -252,15 +287,11 @@ fn read_near_positions(
     ensures few { result ≤ 24 }
     ensures spelled { SpellsPositions (near_gap form) (take result positions.new) start piece.now }
 {
-    if form.inside || form.after_comma || form.third {
-        return read_other(piece, signs, form, start, positions);
+    let count = read_pointed(piece, signs, form, start, positions);
+    if count > 0 || !form.integers {
+        return count;
     }
-    match (signs.first, signs.second) {
-        (false, false) => read_signed::<false, false>(piece, start, positions),
-        (false, true) => read_signed::<false, true>(piece, start, positions),
-        (true, false) => read_signed::<true, false>(piece, start, positions),
-        (true, true) => read_signed::<true, true>(piece, start, positions),
-    }
+    read_other::<true>(piece, signs, form, start, positions)
 }
 
 /// Writes to `positions` those that the piece starts with whose arrays have this form and whose numbers have these signs, each

@@ -14,6 +14,8 @@ pub struct ArrayForm {
     pub after_comma: bool,
     /// Whether a third number follows the two.
     pub third: bool,
+    /// Whether one of the two was an integer, which has no point, so that integers are looked for too.
+    pub integers: bool,
 }
 
 /// How many bytes of white space positions are read with at a place at the most.
@@ -26,6 +28,8 @@ pub struct SpreadForm {
     pub number_gap: usize,
     /// How many bytes of white space stand before the closing bracket, and how many before the next array.
     pub bracket_gap: usize,
+    /// Whether one of the two was an integer, as in [`ArrayForm`].
+    pub integers: bool,
     ghost few_before_numbers: { number_gap ≤ 32 },
     ghost few_before_brackets: { bracket_gap ≤ 32 },
 }
@@ -40,7 +44,7 @@ pub enum RunForm {
 impl SpreadForm {
     /// The form with so much white space, unless positions are not read with so much.
     #[inline(always)]
-    pub fn of(number_gap: usize, bracket_gap: usize) -> Option<SpreadForm>
+    pub fn of(number_gap: usize, bracket_gap: usize, integers: bool) -> Option<SpreadForm>
         ensures number { IfSome result (λ form. form.number_gap ≡ number_gap) }
         ensures bracket { IfSome result (λ form. form.bracket_gap ≡ bracket_gap) }
         ensures few { number_gap ≤ 32 → bracket_gap ≤ 32 → IsSome result }
@@ -51,6 +55,7 @@ impl SpreadForm {
         Some(SpreadForm {
             number_gap,
             bracket_gap,
+            integers,
         })
     }
 }

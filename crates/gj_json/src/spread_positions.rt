@@ -15,7 +15,7 @@ use gj_number::{Signs, read_spread_pair};
 const ROOM: usize = 179;
 
 /// The position that the piece starts with, where its array has this form, its numbers have these signs, and a comma and
-/// another array follow. The piece begins at the place `start`.
+/// another array follow. Its numbers may be integers if the form says so. The piece begins at the place `start`.
 #[inline(always)]
 fn read_spread_position(
     piece: &[u8],
@@ -31,7 +31,7 @@ fn read_spread_position(
         return None;
     }
     let first = 1 + form.number_gap;
-    let Some(pair) = read_spread_pair(&piece[first..], signs, form.number_gap) else {
+    let Some(pair) = read_spread_pair(&piece[first..], signs, form.number_gap, form.integers) else {
         return None;
     };
     let comma = first + pair.comma;

@@ -37,6 +37,12 @@ fn signs_of(flat: &Flat) -> Signs {
     }
 }
 
+/// Whether one of its first two numbers is an integer, as it is written. One with an exponent may be taken for one.
+#[inline(always)]
+fn has_integer(flat: &Flat) -> bool {
+    flat.first.value.places == 0 || flat.second.value.places == 0
+}
+
 /// The form of an array that was read, after which a comma stands with a space or none.
 #[inline(always)]
 fn near_form(flat: &Flat, after_comma: bool) -> RunForm {
@@ -44,6 +50,7 @@ fn near_form(flat: &Flat, after_comma: bool) -> RunForm {
         inside: flat.first.place - flat.place != 1,
         after_comma,
         third: flat.third.is_some(),
+        integers: has_integer(flat),
     })
 }
 
@@ -57,7 +64,7 @@ fn spread_form(flat: &Flat, comma: usize) -> Option<SpreadForm>
     if first_at == 0 || flat.third.is_some() {
         return None;
     }
-    SpreadForm::of(first_at - 1, comma - 1)
+    SpreadForm::of(first_at - 1, comma - 1, has_integer(flat))
 }
 
 /// The form in which positions are read after an array and so many bytes more, a comma and white space.

@@ -93,13 +93,13 @@ module _ (marks second third fourth : ℕ) (small : marks < 2 ^ 64) (small_secon
         next_is = lowest_at fourth (a + 1 + b + 1 + c + 1 + d) (mask_l m.0) small_fourth four;
       }
 
-pub two_found : (marks second : ℕ) → marks < 2 ^ 64 → second < 2 ^ 64 → ((k r : ℕ) → marks ≡ (1 + 2 * r) * 2 ^ k → second ≡ r * 2 ^ (k + 1))
-    → (ms : List Bool) → marks ≡ mask_l ms → (a b : ℕ) → AreTwoMarks ms a b
+pub two_found : (marks second : ℕ) → marks < 2 ^ 64 → second < 2 ^ 64 → (ms : List Bool) → marks ≡ mask_l ms → (a b : ℕ) → AreTwoMarks ms a b
+    → ((r : ℕ) → marks ≡ (1 + 2 * r) * 2 ^ a → second ≡ r * 2 ^ (a + 1))
     → (count_trailing_zeros 64 marks ≡ a) × (count_trailing_zeros 64 second ≡ a + 1 + b)
-two_found marks second small small_second off ms is a b m =
+two_found marks second small small_second ms is a b m off =
     let twos : List Bool = replicate b false ++ true ∷ m.0 in
     let one : marks ≡ (1 + 2 * mask_l twos) * 2 ^ a = is ∙ ap mask_l m.1 ∙ one_mark a twos in
-    let two : second ≡ (1 + 2 * mask_l m.0) * 2 ^ (a + 1 + b) = off a (mask_l twos) one ∙ next_mark (a + 1) b m.0 in
+    let two : second ≡ (1 + 2 * mask_l m.0) * 2 ^ (a + 1 + b) = off (mask_l twos) one ∙ next_mark (a + 1) b m.0 in
     (lowest_at marks a (mask_l twos) small one, lowest_at second (a + 1 + b) (mask_l m.0) small_second two)
 
 -- ---- sixteen bytes after sixteen

@@ -1,17 +1,17 @@
 -- Where a usual number has its marks, if only its own are looked for, and that it is found.
 use Rattle.std.proofs.Common.{suc, ◌≡◌, ℕ, ◌+◌, ◌-◌, ◌<◌, ◌≤◌, ◌++◌, Bool, true, false, List, ◌∷◌, map, take, drop, replicate}
-use Rattle.std.proofs.Common.{sym, ◌∙◌, ap, subst, arith}
+use Rattle.std.proofs.Common.{get_or, sym, ◌∙◌, ap, subst, arith}
 use mir.Val.{bool_byte}
 use Rattle.std.proofs.lemmas.Bool.Decides.{nat_tests}
-use Rattle.std.proofs.lemmas.List.{take-map}
-use Rattle.gj_number.specs.Bytes.{comma, line_feed, minus_sign}
+use Rattle.std.proofs.lemmas.List.{get_or-drop, take-map}
+use Rattle.gj_number.specs.Bytes.{comma, decimal_point, line_feed, minus_sign}
 use Rattle.gj_number.specs.Cuts.{StartsUsualSpread}
 use Rattle.gj_number.specs.Short.{StartsUsual}
 use Rattle.gj_number.specs.Internal.CutLanes.{is_mark_by, AreTwoMarks, IsMarkedSpan, IsSpan, IsUsualSpan}
 use Rattle.gj_number.specs.Internal.DigitRuns.{StartsSigned}
 use Rattle.gj_number.specs.declared.short.cuts.Span.{Span}
 use Rattle.gj_number.proofs.Shorts.NumberPrefixes.{sign_length}
-use Rattle.gj_number.proofs.Shorts.UsualMarks.{negative, before, after, length_is, marks_are, take_past, span_at, usual_span}
+use Rattle.gj_number.proofs.Shorts.UsualMarks.{negative, before, after, length_is, digits, marks_are, take_past, span_at, usual_span}
 
 module _ (piece : List ℕ) (at n behind : ℕ) (u : StartsUsual (drop at piece) n behind) where
   abbrev bytes : List ℕ
@@ -44,7 +44,16 @@ module _ (piece : List ℕ) (at n behind : ℕ) (u : StartsUsual (drop at piece)
             ∙ ap (λ ms. replicate point_at false ++ true ∷ ms) (take_past left places more (omega arith)),
       )
 
+  pub point_there : get_or piece (at + point_at) 0 ≡ decimal_point
+  point_there =
+      let s : ℕ = bool_byte (negative bytes n behind u) in
+      sym (get_or-drop at piece point_at 0) ∙ sym (get_or-drop s bytes (before bytes n behind u) 0) ∙ (digits bytes n behind u).point
+
   module _ (point end : ℕ) (found : (point ≡ at + point_at) × (end ≡ at + point_at + 1 + places)) where
+    -- the point is before the mark of the byte after the number
+    pub before_end : point ≡ end → ⊥
+    before_end z = let a = found.0 in let b = found.1 in omega arith
+
     pub end_there : at + n ≡ end
     end_there = let a = found.1 in let l = length_is bytes n behind u in omega arith
 

@@ -2,6 +2,7 @@
 //!
 //! A bit for each byte that is a comma or a point says where the parts of two numbers end, if two numbers stand there.
 //! What does stand there is checked after that.
+ghost use mir.Val.{bool_byte};
 ghost use Rattle.std.specs.Prelude.{◌≡◌, ◌==◌, ℕ, ◌+◌, ◌*◌, ◌^◌, ◌<◌, ◌≤◌, ◌↔◌, ◌⊎◌, true, false, get_or, length, map, take, drop, IsTrue, IfSome};
 ghost use Rattle.std.specs.Simd.Lanes.{mask_l};
 ghost use Rattle.std.specs.Option.{IsSome};
@@ -126,14 +127,15 @@ pub(super) fn without_lowest(bits: u64) -> u64
     bits & bits.wrapping_sub(1)
 }
 
-/// The marks after that of a point: these without the lowest, unless integers may stand here and the lowest is a comma.
+/// The marks after that of a point: these without the lowest. Where integers may stand here, and the lowest is that of the byte
+/// after a number, these.
 #[inline(always)]
-fn after_point(piece: &[u8], marks: u64, integers: bool) -> u64
-    requires { 48 ≤ length piece.now }
+pub(super) fn after_point(piece: &[u8], marks: u64, behind: u8, integers: bool) -> u64
+    requires { behind < decimal_point }
     ensures { (k rest : ℕ) → marks ≡ (1 + 2 * rest) * 2 ^ k → get_or piece.now k 0 ≡ decimal_point → result ≡ rest * 2 ^ (k + 1) }
 {
     let lowest = marks.trailing_zeros() as usize;
-    if integers && lowest < 48 && piece[lowest] == b',' {
+    if integers && lowest < piece.len() && piece[lowest] == behind {
         marks
     } else {
         without_lowest(marks)
@@ -154,13 +156,14 @@ fn first_marks(piece: &[u8], integers: bool) -> Marks
     let marks = marks_at(piece, 0, b',')
         | (marks_at(piece, 16, b',') << 16)
         | (marks_at(piece, 32, b',') << 32);
-    let from_comma = after_point(piece, marks, integers);
+    let from_comma = after_point(piece, marks, b',', integers);
     let from_point = without_lowest(from_comma);
+    let from_next = after_point(piece, from_point, b',', integers);
     Marks {
         point: marks.trailing_zeros() as usize,
         comma: from_comma.trailing_zeros() as usize,
         other_point: from_point.trailing_zeros() as usize,
-        next: after_point(piece, from_point, integers).trailing_zeros() as usize,
+        next: from_next.trailing_zeros() as usize,
     }
 }
 
@@ -173,10 +176,25 @@ fn may_lead(byte: u8, natural: usize) -> bool
     byte > b'0' || (byte == b'0' && natural == 1)
 }
 
+/// The index of the first digit of a number that begins at an index, with a minus sign if it is to be negative and else without.
+#[inline(always)]
+fn after_sign(piece: &[u8], at: usize, negative: bool) -> Option<usize>
+    requires at { at ≤ 64 }
+    requires room { at + 33 ≤ length piece.now }
+    ensures first { IfSome result (λ first. first ≡ at + bool_byte negative) }
+    ensures sign { IfSome result (λ first. IsTrue negative → StartsSigned (drop at piece.now) negative) }
+    ensures taken { StartsSigned (drop at piece.now) negative → IsSome result }
+{
+    if negative && piece[at] != b'-' {
+        return None;
+    }
+    Some(at + negative as usize)
+}
+
 /// The number that begins at an index, with a minus sign if it is to be negative and else without, has its point at another
 /// index and ends before a third, where this byte stands. There may be no digit before the point, or none after it.
 #[inline(always)]
-pub(super) fn span_between(
+fn span_between(
     piece: &[u8],
     at: usize,
     negative: bool,
@@ -191,10 +209,9 @@ pub(super) fn span_between(
     ensures span { IfSome result (λ span. IsSpan piece.now at negative span end behind) }
     ensures taken { IsMarkedSpan piece.now at point end behind → StartsSigned (drop at piece.now) negative → IsSome result }
 {
-    if negative && piece[at] != b'-' {
+    let Some(first) = after_sign(piece, at, negative) else {
         return None;
-    }
-    let first = at + negative as usize;
+    };
     let natural = point.wrapping_sub(first);
     let fraction = end.wrapping_sub(point + 1);
     if natural > 3 || fraction > 15 {
@@ -221,10 +238,9 @@ fn integer_before(piece: &[u8], at: usize, negative: bool, end: usize, behind: u
     requires room { at + 33 ≤ length piece.now }
     ensures { IfSome result (λ span. IsSpan piece.now at negative span end behind) }
 {
-    if negative && piece[at] != b'-' {
+    let Some(first) = after_sign(piece, at, negative) else {
         return None;
-    }
-    let first = at + negative as usize;
+    };
     let length = end.wrapping_sub(first);
     if length == 0 || length > 3 {
         return None;
@@ -241,7 +257,7 @@ fn integer_before(piece: &[u8], at: usize, negative: bool, end: usize, behind: u
 
 /// Whether the mark of a number's point is the one after the number, so that the number is an integer, if there may be one.
 #[inline(always)]
-fn shares_mark(integers: bool, point: usize, next: usize) -> bool
+pub(super) fn shares_mark(integers: bool, point: usize, next: usize) -> bool
     ensures { (point ≡ next → ⊥) → result ≡ false }
 {
     integers && point == next
@@ -249,7 +265,7 @@ fn shares_mark(integers: bool, point: usize, next: usize) -> bool
 
 /// The number that begins at an index and ends before another, by [`integer_before`] or by [`span_between`].
 #[inline(always)]
-fn span_before(
+pub(super) fn span_before(
     piece: &[u8],
     at: usize,
     negative: bool,
