@@ -247,33 +247,7 @@ fn read_other<const INTEGERS: bool>(
     read_in_form(piece, signs, form, INTEGERS, start, positions)
 }
 
-/// As `read_in_form`, of any such form and without integers.
-#[inline(always)]
-fn read_pointed(
-    piece: &[u8],
-    signs: Signs,
-    form: ArrayForm,
-    start: u64,
-    positions: &mut [CutPosition; MOST_POSITIONS],
-) -> usize
-    requires bracket { get_or piece.now 0 0 ≡ open_bracket }
-    requires small { start + length piece.now ≤ 2 ^ 60 }
-    ensures few { result ≤ 24 }
-    ensures spelled { SpellsPositions (near_gap form) (take result positions.new) start piece.now }
-{
-    if form.inside || form.after_comma || form.third {
-        return read_other::<false>(piece, signs, form, start, positions);
-    }
-    match (signs.first, signs.second) {
-        (false, false) => read_signed::<false, false>(piece, start, positions),
-        (false, true) => read_signed::<false, true>(piece, start, positions),
-        (true, false) => read_signed::<true, false>(piece, start, positions),
-        (true, true) => read_signed::<true, true>(piece, start, positions),
-    }
-}
-
-/// As `read_in_form`, of any such form. Integers are looked for only where nothing else is found, since a single one stands
-/// among other numbers more often than many do.
+/// As `read_in_form`, of any such form.
 #[inline(always)]
 fn read_near_positions(
     piece: &[u8],
@@ -287,11 +261,18 @@ fn read_near_positions(
     ensures few { result ≤ 24 }
     ensures spelled { SpellsPositions (near_gap form) (take result positions.new) start piece.now }
 {
-    let count = read_pointed(piece, signs, form, start, positions);
-    if count > 0 || !form.integers {
-        return count;
+    if form.integers {
+        return read_other::<true>(piece, signs, form, start, positions);
     }
-    read_other::<true>(piece, signs, form, start, positions)
+    if form.inside || form.after_comma || form.third {
+        return read_other::<false>(piece, signs, form, start, positions);
+    }
+    match (signs.first, signs.second) {
+        (false, false) => read_signed::<false, false>(piece, start, positions),
+        (false, true) => read_signed::<false, true>(piece, start, positions),
+        (true, false) => read_signed::<true, false>(piece, start, positions),
+        (true, true) => read_signed::<true, true>(piece, start, positions),
+    }
 }
 
 /// Writes to `positions` those that the piece starts with whose arrays have this form and whose numbers have these signs, each

@@ -14,7 +14,7 @@ pub struct ArrayForm {
     pub after_comma: bool,
     /// Whether a third number follows the two.
     pub third: bool,
-    /// Whether one of the two was an integer, which has no point, so that integers are looked for too.
+    /// Whether the two may be integers, which have no point. Else each has a point.
     pub integers: bool,
 }
 
@@ -28,7 +28,7 @@ pub struct SpreadForm {
     pub number_gap: usize,
     /// How many bytes of white space stand before the closing bracket, and how many before the next array.
     pub bracket_gap: usize,
-    /// Whether one of the two was an integer, as in [`ArrayForm`].
+    /// Whether the two may be integers, as in [`ArrayForm`].
     pub integers: bool,
     ghost few_before_numbers: { number_gap ≤ 32 },
     ghost few_before_brackets: { bracket_gap ≤ 32 },
@@ -44,7 +44,7 @@ pub enum RunForm {
 impl SpreadForm {
     /// The form with so much white space, unless positions are not read with so much.
     #[inline(always)]
-    pub fn of(number_gap: usize, bracket_gap: usize, integers: bool) -> Option<SpreadForm>
+    pub fn of(number_gap: usize, bracket_gap: usize) -> Option<SpreadForm>
         ensures number { IfSome result (λ form. form.number_gap ≡ number_gap) }
         ensures bracket { IfSome result (λ form. form.bracket_gap ≡ bracket_gap) }
         ensures few { number_gap ≤ 32 → bracket_gap ≤ 32 → IsSome result }
@@ -55,13 +55,33 @@ impl SpreadForm {
         Some(SpreadForm {
             number_gap,
             bracket_gap,
-            integers,
+            integers: false,
         })
     }
 }
 
 impl RunForm {
     ghost use Rattle.gj_json.specs.Internal.SpelledPositions.{gap_of};
+
+    /// The same form, in which the first two numbers of an array may be integers.
+    #[inline(never)]
+    pub fn with_integers(self) -> RunForm
+        ensures { gap_of result ≡ gap_of self }
+    {
+        match self {
+            RunForm::Near(form) => RunForm::Near(ArrayForm {
+                inside: form.inside,
+                after_comma: form.after_comma,
+                third: form.third,
+                integers: true,
+            }),
+            RunForm::Spread(form) => RunForm::Spread(SpreadForm {
+                number_gap: form.number_gap,
+                bracket_gap: form.bracket_gap,
+                integers: true,
+            }),
+        }
+    }
 
     /// How many bytes of white space stand after a comma and before the next array.
     #[inline(always)]

@@ -15,12 +15,13 @@ use gj_number::{Signs, read_spread_pair};
 const ROOM: usize = 179;
 
 /// The position that the piece starts with, where its array has this form, its numbers have these signs, and a comma and
-/// another array follow. Its numbers may be integers if the form says so. The piece begins at the place `start`.
+/// another array follow. Its numbers may be integers if `integers` says so. The piece begins at the place `start`.
 #[inline(always)]
 fn read_spread_position(
     piece: &[u8],
     signs: Signs,
     form: SpreadForm,
+    integers: bool,
     start: u64,
 ) -> Option<CutPosition>
     requires bracket { get_or piece.now 0 0 ≡ open_bracket }
@@ -31,7 +32,7 @@ fn read_spread_position(
         return None;
     }
     let first = 1 + form.number_gap;
-    let Some(pair) = read_spread_pair(&piece[first..], signs, form.number_gap, form.integers) else {
+    let Some(pair) = read_spread_pair(&piece[first..], signs, form.number_gap, integers) else {
         return None;
     };
     let comma = first + pair.comma;
@@ -64,11 +65,12 @@ fn read_spread_position(
 
 /// Writes to `positions` those that the piece starts with whose arrays have this form and whose numbers have these signs, each
 /// with a comma and another array after it, as far as there is room, and returns how many.
-#[inline(never)]
-pub fn read_spread_positions(
+#[inline(always)]
+fn read_in_spread_form(
     piece: &[u8],
     signs: Signs,
     form: SpreadForm,
+    integers: bool,
     start: u64,
     positions: &mut [CutPosition; MOST_POSITIONS],
 ) -> usize
@@ -82,7 +84,7 @@ pub fn read_spread_positions(
     let mut rest = piece;
     while count < MOST_POSITIONS {
         let place = end - rest.len() as u64;
-        let Some(position) = read_spread_position(rest, signs, form, place) else {
+        let Some(position) = read_spread_position(rest, signs, form, integers, place) else {
             return count;
         };
         rest = &rest[position.close_at as usize + 2 + form.bracket_gap..];
@@ -90,4 +92,42 @@ pub fn read_spread_positions(
         count += 1;
     }
     count
+}
+
+/// As `read_in_spread_form`. A form without integers has a loop of its own.
+#[inline(never)]
+fn read_spread<const INTEGERS: bool>(
+    piece: &[u8],
+    signs: Signs,
+    form: SpreadForm,
+    start: u64,
+    positions: &mut [CutPosition; MOST_POSITIONS],
+) -> usize
+    requires bracket { get_or piece.now 0 0 ≡ open_bracket }
+    requires small { start + length piece.now ≤ 2 ^ 60 }
+    ensures few { result ≤ 24 }
+    ensures spelled { SpellsPositions form.bracket_gap (take result positions.new) start piece.now }
+{
+    read_in_spread_form(piece, signs, form, INTEGERS, start, positions)
+}
+
+/// As `read_in_spread_form`, with integers or without them, as the form says.
+#[inline(always)]
+pub fn read_spread_positions(
+    piece: &[u8],
+    signs: Signs,
+    form: SpreadForm,
+    start: u64,
+    positions: &mut [CutPosition; MOST_POSITIONS],
+) -> usize
+    requires bracket { get_or piece.now 0 0 ≡ open_bracket }
+    requires small { start + length piece.now ≤ 2 ^ 60 }
+    ensures few { result ≤ 24 }
+    ensures spelled { SpellsPositions form.bracket_gap (take result positions.new) start piece.now }
+{
+    if form.integers {
+        read_spread::<true>(piece, signs, form, start, positions)
+    } else {
+        read_spread::<false>(piece, signs, form, start, positions)
+    }
 }

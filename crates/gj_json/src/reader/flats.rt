@@ -50,7 +50,7 @@ fn near_form(flat: &Flat, after_comma: bool) -> RunForm {
         inside: flat.first.place - flat.place != 1,
         after_comma,
         third: flat.third.is_some(),
-        integers: has_integer(flat),
+        integers: false,
     })
 }
 
@@ -64,7 +64,7 @@ fn spread_form(flat: &Flat, comma: usize) -> Option<SpreadForm>
     if first_at == 0 || flat.third.is_some() {
         return None;
     }
-    SpreadForm::of(first_at - 1, comma - 1, has_integer(flat))
+    SpreadForm::of(first_at - 1, comma - 1)
 }
 
 /// The form in which positions are read after an array and so many bytes more, a comma and white space.
@@ -160,7 +160,8 @@ impl Reader {
     }
 
     /// Takes the positions after an array and so many bytes more, a comma and white space, where no more arrays are to come before
-    /// they are looked for: how many bytes.
+    /// they are looked for: how many bytes. After an array with an integer, those with integers are looked for where there are no
+    /// others: one integer stands among other numbers more often than many do.
     #[inline(always)]
     fn take_next_positions<S: EventSink>(
         &mut self,
@@ -190,8 +191,13 @@ impl Reader {
             return 0;
         };
         let many = self.take_positions(piece, signs_of(flat), form, sink);
-        *left = arrays_before_next(many);
-        many
+        if many > 0 || !has_integer(flat) {
+            *left = arrays_before_next(many);
+            return many;
+        }
+        let others = self.take_positions(piece, signs_of(flat), form.with_integers(), sink);
+        *left = arrays_before_next(others);
+        others
     }
 
     /// Such arrays within an array, each with a comma after it and the white space after that.

@@ -325,9 +325,11 @@ fn are_whole(
     if one.fraction <= 12 && other.fraction <= 12 {
         return true;
     }
+    if comma < 3 {
+        return false;
+    }
     is_judged(one.fraction, precise)
         && is_judged(other.fraction, other_precise)
-        && comma >= 3
         && are_last_digits(piece, comma, end)
 }
 

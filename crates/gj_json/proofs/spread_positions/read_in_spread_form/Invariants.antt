@@ -1,7 +1,7 @@
 -- What was read so far, and where it ends.
 use Rattle.std.proofs.Common.{◌≡◌, ◌≤◌, length, take}
 use Rattle.gj_json.proofs.Pieces.ReadPositions.{ReadTo}
-use Rattle.gj_json.proofs.spread_positions.read_spread_positions.Given as goal
+use Rattle.gj_json.proofs.spread_positions.read_in_spread_form.Given as goal
 
 abbrev pub invariant-loop-count : goal.invariant-loop-count
 invariant-loop-count l = record {

@@ -2,7 +2,7 @@
 use Rattle.std.proofs.Common.{arith, rules}
 use Rattle.std.proofs.lemmas.List.{take_more_set}
 use Rattle.gj_json.proofs.Pieces.ReadPositions.{none_read, one_read}
-use Rattle.gj_json.proofs.spread_positions.read_spread_positions.Goals as goal
+use Rattle.gj_json.proofs.spread_positions.read_in_spread_form.Goals as goal
 
 pub loop-count-init : goal.loop-count-init
 loop-count-init c = record {
