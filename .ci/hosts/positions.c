@@ -37,6 +37,14 @@ static void add_usual(int negative, uint32_t natural, uint32_t fraction) {
     add_digits(fraction);
 }
 
+/* An integer, with a minus sign if it is to be negative: one to three digits. */
+static void add_integer(int negative, uint32_t natural) {
+    if (negative)
+        add_byte('-');
+    add_byte((char)(natural > 1 ? '1' + below(natural == 3 ? 1 : 9) : '0' + below(10)));
+    add_digits(natural - 1);
+}
+
 /* A number that no usual writer makes. Some of these are no number of JSON. */
 static void add_odd(void) {
     static const char *const odd[] = {"-0.0", "0.5", "01.5", "-01.5", "1.", ".5", "-.5", "--1.5", "+1.5", "1-2.5", "1.5-", "1.-5", "1.2.3", "1e2", "1.5e1",
@@ -45,18 +53,22 @@ static void add_odd(void) {
     add(odd[below(sizeof odd / sizeof *odd)]);
 }
 
-static void add_number(int negative, uint32_t natural, uint32_t fraction, int is_odd) {
+/* One in `integers` is an integer, none where that is 0. */
+static void add_number(int negative, uint32_t natural, uint32_t fraction, uint32_t integers, int is_odd) {
     if (is_odd && below(3) == 0)
         add_odd();
+    else if (integers > 0 && below(integers) == 0)
+        add_integer(negative, natural);
     else
         add_usual(is_odd ? (int)below(2) : negative, is_odd && below(4) == 0 ? 1 + below(4) : natural, is_odd ? 1 + below(16) : fraction);
 }
 
 /* How the positions of a text are written: with a space inside the brackets, a space after each comma, a third number. Or over
- * several lines, with so much white space at the beginning of a line with a number, or with a bracket. */
+ * several lines, with so much white space at the beginning of a line with a number, or with a bracket. One in so many of each
+ * position's first and second number is an integer, none where that is 0. */
 struct form {
     int inside, after_comma, third, lines;
-    uint32_t number, bracket;
+    uint32_t number, bracket, integers[2];
     char white;
 };
 
@@ -101,10 +113,10 @@ static void add_position(const struct form *form, const int *negative, uint32_t 
     int is_odd = below(rare) == 0, has_third = form->third != (is_odd && below(3) == 0);
     add_byte('[');
     add_gap(form, form->inside, form->number, is_odd);
-    add_number(negative[0], 1 + below(3), fraction, is_odd);
+    add_number(negative[0], 1 + below(3), fraction, form->integers[0], is_odd);
     add_byte(',');
     add_gap(form, form->after_comma, form->number, is_odd);
-    add_number(negative[1], 1 + below(2), fraction, is_odd);
+    add_number(negative[1], 1 + below(2), fraction, form->integers[1], is_odd);
     if (has_third) {
         add_byte(',');
         add_gap(form, form->after_comma, form->number, is_odd);
@@ -128,9 +140,12 @@ static void make_text(void) {
     static const uint32_t depths[] = {0, 0, 1, 1, 2};
     uint32_t type = below(5), depth = depths[type], fraction = 1 + below(15), rare = below(3) == 0 ? 8 : 300;
     int negative[2] = {(int)below(2), (int)below(2)}, inside = below(4) == 0;
-    struct form form = {inside, inside || below(3) == 0, below(3) == 0, below(3) == 0, 1 + below(16), 1 + below(12), ' '};
+    struct form form = {inside, inside || below(3) == 0, below(3) == 0, below(3) == 0, 1 + below(16), 1 + below(12), {0, 0}, ' '};
     size_t first, length, before_bracket;
     size = 0;
+    if (below(3) == 0)
+        for (int number = 0; number < 2; number++)
+            form.integers[number] = (const uint32_t[]){0, 1, 1, 2, 20}[below(5)];
     if (form.lines) {
         form.third = below(8) == 0;
         form.white = below(3) == 0 ? '\t' : ' ';

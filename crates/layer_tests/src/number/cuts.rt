@@ -9,30 +9,35 @@ type Parts = (i64, bool, i64, bool, usize, usize);
 /// As `1.5,2.5],`.
 const COMPACT: PairForm = PairForm {
     spaced: false,
+    integers: false,
     after: After::Bracket,
 };
 
 /// As `1.5, 2.5],`.
 const SPACED: PairForm = PairForm {
     spaced: true,
+    integers: false,
     after: After::Bracket,
 };
 
 /// As `1.5,2.5,`.
 const COMPACT_OF_THREE: PairForm = PairForm {
     spaced: false,
+    integers: false,
     after: After::Comma,
 };
 
 /// As `1.5, 2.5,`.
 const SPACED_OF_THREE: PairForm = PairForm {
     spaced: true,
+    integers: false,
     after: After::Comma,
 };
 
 /// As `1.5, 2.5 ],`.
 const SPACED_TO_THE_END: PairForm = PairForm {
     spaced: true,
+    integers: false,
     after: After::Space,
 };
 
@@ -281,5 +286,106 @@ static OTHER_FORMS: [(&str, &str, PairForm); 11] = [
 fn leaves_pairs_of_other_forms(rt: HostRuntime) {
     for (case, text, form) in OTHER_FORMS.iter() {
         equal(&rt, parts_as(text, signs_of(text), *form), None, case);
+    }
+}
+
+/// The same form, in which each number may be an integer.
+fn with_integers(form: PairForm) -> PairForm {
+    PairForm {
+        spaced: form.spaced,
+        integers: true,
+        after: form.after,
+    }
+}
+
+/// Pairs of which one or both are integers, and some of which none is.
+static INTEGERS: [(&str, PairForm, Parts); 12] = [
+    (
+        "12,34],[",
+        COMPACT,
+        (120000000, false, 340000000, false, 2, 5),
+    ),
+    ("0,0],[", COMPACT, (0, false, 0, false, 1, 3)),
+    (
+        "-180,-90],[",
+        COMPACT,
+        (-1800000000, false, -900000000, false, 4, 8),
+    ),
+    (
+        "999,5],[",
+        COMPACT,
+        (9990000000, false, 50000000, false, 3, 5),
+    ),
+    (
+        "7,2.5],[",
+        COMPACT,
+        (70000000, false, 25000000, false, 1, 5),
+    ),
+    (
+        "1.5,-7],[",
+        COMPACT,
+        (15000000, false, -70000000, false, 3, 6),
+    ),
+    (
+        "123,1.1234567800000],[",
+        COMPACT,
+        (1230000000, false, 11234567, true, 3, 19),
+    ),
+    (
+        "1.5,2.5],[",
+        COMPACT,
+        (15000000, false, 25000000, false, 3, 7),
+    ),
+    ("-0,-1.25],[", COMPACT, (0, false, -12500000, false, 2, 8)),
+    (
+        "12, 34], [",
+        SPACED,
+        (120000000, false, 340000000, false, 2, 6),
+    ),
+    (
+        "12, -3, 5], [",
+        SPACED_OF_THREE,
+        (120000000, false, -30000000, false, 2, 6),
+    ),
+    (
+        "12, 34 ], [",
+        SPACED_TO_THE_END,
+        (120000000, false, 340000000, false, 2, 6),
+    ),
+];
+
+#[test]
+fn reads_integers(rt: HostRuntime) {
+    for (text, form, expected) in INTEGERS.iter() {
+        let read = parts_as(text, signs_of(text), with_integers(*form));
+        equal(&rt, read, Some(*expected), text);
+    }
+}
+
+/// Pairs that are left where integers are read too.
+static OTHER_INTEGERS: [(&str, &str); 16] = [
+    ("four digits", "1234,5],["),
+    ("four digits of the second", "5,1234],["),
+    ("zero before a digit", "01,2],["),
+    ("zero before the second's digit", "1,02],["),
+    ("no digit", ",2],["),
+    ("no second digit", "1,],["),
+    ("only a minus", "-,2],["),
+    ("minus after a digit", "1-,2],["),
+    ("letter", "1a,2],["),
+    ("exponent", "1e2,3],["),
+    ("exponent of the second", "3,1e2],["),
+    ("space before the comma", "1 ,2],["),
+    ("no digit after the point", "1.,2],["),
+    ("no digit before the point", ".5,2],["),
+    ("three numbers", "1,2,3],["),
+    ("last of its array", "1,2]]"),
+];
+
+#[test]
+fn leaves_other_integers(rt: HostRuntime) {
+    for (case, text) in OTHER_INTEGERS.iter() {
+        let read = parts_as(text, signs_of(text), with_integers(COMPACT));
+        equal(&rt, read, None, case);
     }
 }

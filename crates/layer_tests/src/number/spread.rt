@@ -7,7 +7,7 @@ use gj_number::{Signs, read_spread_pair};
 type Parts = (i64, bool, i64, bool, usize, usize);
 
 /// What is read of a text with so many bytes between the comma and the second number, with the signs that its numbers have.
-fn parts(text: &str, gap: usize) -> Option<Parts> {
+fn parts(text: &str, gap: usize, integers: bool) -> Option<Parts> {
     let mut piece = [b' '; 128];
     for (to, from) in piece.iter_mut().zip(text.as_bytes()) {
         *to = *from;
@@ -16,7 +16,7 @@ fn parts(text: &str, gap: usize) -> Option<Parts> {
         first: text.starts_with('-'),
         second: text.contains(" -"),
     };
-    match read_spread_pair(&piece, signs, gap.min(32)) {
+    match read_spread_pair(&piece, signs, gap.min(32), integers) {
         Some(pair) => Some((
             pair.first.value,
             pair.first.precise,
@@ -66,7 +66,7 @@ static PAIRS: [(&str, usize, Parts); 7] = [
 #[test]
 fn reads_spread_pairs(rt: HostRuntime) {
     for (text, gap, expected) in PAIRS.iter() {
-        equal(&rt, parts(text, *gap), Some(*expected), text);
+        equal(&rt, parts(text, *gap, false), Some(*expected), text);
     }
 }
 
@@ -92,6 +92,46 @@ static OTHERS: [(&str, &str); 12] = [
 #[test]
 fn leaves_other_spread_pairs(rt: HostRuntime) {
     for (case, text) in OTHERS.iter() {
-        equal(&rt, parts(text, 3), None, case);
+        equal(&rt, parts(text, 3, false), None, case);
+    }
+}
+
+/// Pairs of which one or both are integers.
+static INTEGERS: [(&str, usize, Parts); 4] = [
+    (
+        "12,\n    34\n  ],",
+        5,
+        (120000000, false, 340000000, false, 2, 10),
+    ),
+    (
+        "-180,\n  -90\n],",
+        3,
+        (-1800000000, false, -900000000, false, 4, 11),
+    ),
+    ("7,\n  2.5\n],", 3, (70000000, false, 25000000, false, 1, 8)),
+    ("1.5,\n  7\n],", 3, (15000000, false, 70000000, false, 3, 8)),
+];
+
+#[test]
+fn reads_integers_on_lines(rt: HostRuntime) {
+    for (text, gap, expected) in INTEGERS.iter() {
+        equal(&rt, parts(text, *gap, true), Some(*expected), text);
+    }
+}
+
+/// Pairs that are left where integers are read too.
+static OTHER_INTEGERS: [(&str, &str); 6] = [
+    ("four digits", "1234,\n  5\n],"),
+    ("zero before the second's digit", "1,\n  02\n],"),
+    ("letter", "1a,\n  2\n],"),
+    ("space after the second", "1,\n  2 \n],"),
+    ("no second number", "1,\n  \n],"),
+    ("exponent", "1e2,\n  3\n],"),
+];
+
+#[test]
+fn leaves_other_integers_on_lines(rt: HostRuntime) {
+    for (case, text) in OTHER_INTEGERS.iter() {
+        equal(&rt, parts(text, 3, true), None, case);
     }
 }

@@ -87,6 +87,7 @@ fn expect_same(rt: &impl Abort, text: &str, flats: u64, cuts: usize) {
     tell_spaced("[[[1,2],[3,4],[5,6],[7,8],[9,10]", &mut grouped);
     grouped.walk.again();
     grouped.flats = 0;
+    grouped.cuts = 0;
     tell_spaced(text, &mut grouped);
     equal(rt, grouped.flats, flats, text);
     holds(rt, grouped.cuts == cuts, text);
@@ -478,6 +479,60 @@ static SPREAD: [(&str, u64, usize); 12] = [
 #[test]
 fn told_by_cut_values_over_several_lines(rt: HostRuntime) {
     for (text, flats, cuts) in SPREAD.iter() {
+        expect_same(&rt, text, *flats, *cuts);
+    }
+}
+
+/// As above, of values with integers, which are looked for after an array with one.
+static INTEGERS: [(&str, u64, usize); 10] = [
+    ("[[[1,2],[3,4],[5,6],[7,8],[9,10],[1,2]]]", 2, 4),
+    ("[[[-1,-2],[-3,-4],[-5,-6],[-7,-8],[-9,-10],[-1,-2]]]", 2, 4),
+    (
+        // one number of each
+        "[[[1,2.5],[3,4.5],[5,6.5],[7,8.5],[9,0.5],[1,2.5]]]",
+        2,
+        4,
+    ),
+    (
+        // some numbers, after an array with one
+        "[[[1,2.5],[3,4],[5.5,6],[7.5,8.5],[9,0],[1,2.5]]]",
+        2,
+        4,
+    ),
+    (
+        // an array with one among others, after which none is looked for
+        "[[[0.5,2.5],[3,4.5],[5.5,6.5],[7.5,8.5],[9.5,0],[0.5,2.5]]]",
+        4,
+        2,
+    ),
+    (
+        // four digits
+        "[[[1,2],[3,4],[1805,6],[7,8],[9,10],[1,2]]]",
+        3,
+        3,
+    ),
+    ("[[[1, 2], [3, 4], [5, 6], [7, 8], [9, 10], [1, 2]]]", 2, 4),
+    (
+        "[[[ 1, 2 ], [ 3, 4 ], [ 5, 6 ], [ 7, 8 ], [ 9, 10 ], [ 1, 2 ]]]",
+        2,
+        4,
+    ),
+    (
+        "[[[1,2,0],[3,4,-1.5],[5,6,120],[7,8,0],[9,10,0],[1,2,0]]]",
+        2,
+        4,
+    ),
+    (
+        // over several lines
+        "[\n  [\n    1,\n    2\n  ],\n  [\n    3,\n    4\n  ],\n  [\n    5.5,\n    6\n  ],\n  [\n    7,\n    8\n  ],\n  [\n    1,\n    2\n  ]\n]",
+        2,
+        3,
+    ),
+];
+
+#[test]
+fn told_by_cut_values_with_integers(rt: HostRuntime) {
+    for (text, flats, cuts) in INTEGERS.iter() {
         expect_same(&rt, text, *flats, *cuts);
     }
 }
