@@ -62,6 +62,22 @@ pub fn values(flat: &Flat) -> Values
     }
 }
 
+/// Writes its exact values, each where it is kept: to build them all and then copy them takes some fifty instructions more.
+#[inline(always)]
+pub fn keep_values(flat: &Flat, kept: &mut Option<Values>)
+    ensures { kept.new ≡ Some (flat_values flat.now) }
+{
+    *kept = Some(Values::two());
+    if let Some(values) = kept {
+        values.first = Some(flat.first.value.decimal());
+        values.second = Some(flat.second.value.decimal());
+        if let Some(third) = &flat.third {
+            values.third = Some(third.value.decimal());
+            values.count = 3;
+        }
+    }
+}
+
 /// Whether a number is too precise.
 #[inline(always)]
 fn is_too_precise(number: Short) -> bool

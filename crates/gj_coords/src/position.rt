@@ -109,7 +109,7 @@ fn is_third_same(number: &Option<Decimal>, other: &Option<Numbered>) -> bool
 }
 
 impl Values {
-    ghost use Rattle.std.specs.Prelude.{◌≡◌, true, false};
+    ghost use Rattle.std.specs.Prelude.{◌≡◌, true, false, None};
     ghost use Rattle.gj_coords.specs.Internal.FlatPosition.{flat_values};
     ghost use Rattle.gj_coords.specs.Internal.PositionGather.{no_values, pushed, same_values, corner_in};
 
@@ -118,6 +118,19 @@ impl Values {
     {
         Values {
             count: 0,
+            first: None,
+            second: None,
+            third: None,
+        }
+    }
+
+    /// Of two numbers that are not yet there.
+    #[inline(always)]
+    pub fn two() -> Values
+        ensures { result ≡ record { count = 2; first = None; second = None; third = None } }
+    {
+        Values {
+            count: 2,
             first: None,
             second: None,
             third: None,

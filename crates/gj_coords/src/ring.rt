@@ -186,9 +186,9 @@ impl Positions {
     fn begin_flat(&mut self, position: &Flat, corner: Corner)
         ensures { self.old.first ≡ None → self.new ≡ sound_joined self.old (flat_values position.now) (Some corner) }
     {
-        self.first = Some(flat::values(position));
+        flat::keep_values(position, &mut self.first);
         self.closes = true;
-        self.winding.add(Some(corner));
+        self.winding.begin(&corner);
     }
 
     /// Adds a position without a fault after others without one.

@@ -280,6 +280,20 @@ impl Winding {
         }
     }
 
+    /// Adds a corner, inlined for the one caller that begins an array: as the first corner it is written in place.
+    #[inline(always)]
+    pub fn begin(&mut self, corner: &Corner)
+        ensures { self.new ≡ corner_added self.old corner.now }
+    {
+        match &self.last {
+            Some(_) => self.add_corner(corner),
+            None => {
+                self.area = wrapped_sum(self.area, 0);
+                self.last = Some(*corner);
+            }
+        }
+    }
+
     /// Its sum and its last corner, where there is one.
     #[inline(always)]
     pub fn running_sum(&self) -> Option<RunningSum>
