@@ -62,7 +62,7 @@ pub fn values(flat: &Flat) -> Values
     }
 }
 
-/// Writes its exact values, each where it is kept: to build them all and then copy them takes some fifty instructions more.
+/// Writes its exact values, each where it is kept. To build them all and then copy them takes some forty instructions more.
 #[inline(always)]
 pub fn keep_values(flat: &Flat, kept: &mut Option<Values>)
     ensures { kept.new ≡ Some (flat_values flat.now) }

@@ -217,13 +217,14 @@ impl RunningSum {
     ghost use Rattle.std.specs.Prelude.{◌≡◌};
     ghost use Rattle.gj_coords.specs.Internal.WindingGather.{sum_added};
 
-    /// Adds a corner.
+    /// Adds a corner. Its two numbers are written one by one, so that a loop keeps each in a register.
     #[inline(always)]
     pub fn add(&mut self, corner: &Corner)
         ensures { self.new ≡ sum_added self.old corner.now }
     {
         self.area = wrapped_sum(self.area, self.last.cross(corner));
-        self.last = *corner;
+        self.last.x = corner.x;
+        self.last.y = corner.y;
     }
 }
 
@@ -280,7 +281,7 @@ impl Winding {
         }
     }
 
-    /// Adds a corner, inlined for the one caller that begins an array: as the first corner it is written in place.
+    /// Adds a corner, inlined for the one caller that begins an array: a first corner is written in place.
     #[inline(always)]
     pub fn begin(&mut self, corner: &Corner)
         ensures { self.new ≡ corner_added self.old corner.now }
@@ -288,6 +289,7 @@ impl Winding {
         match &self.last {
             Some(_) => self.add_corner(corner),
             None => {
+                // No edge ends in a first corner.
                 self.area = wrapped_sum(self.area, 0);
                 self.last = Some(*corner);
             }

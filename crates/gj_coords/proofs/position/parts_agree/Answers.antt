@@ -1,5 +1,4 @@
 use Rattle.std.proofs.Common.{◌≡◌, ◌∙◌, FitsSigned, w16, rules, arith}
-use Rattle.std.proofs.lemmas.Bool.Decides.{nat_tests}
 use Rattle.std.specs.Cmp.{booleans_Decides}
 use Rattle.gj_coords.proofs.Readers.WrittenParts.{power_read, same_written}
 use Rattle.gj_coords.proofs.position.parts_agree.Goals as goal
