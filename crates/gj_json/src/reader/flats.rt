@@ -159,9 +159,35 @@ impl Reader {
         self.skip(count, Mode::ValueDone)
     }
 
+    /// Takes the positions with integers after an array, if it has one: how many bytes.
+    #[inline(never)]
+    fn take_integers<S: EventSink>(
+        &mut self,
+        piece: &[u8],
+        flat: &Flat,
+        form: RunForm,
+        sink: &mut S,
+    ) -> usize
+        requires next { IsDueAt self.old.mode piece.now }
+        requires live { self.old.fault ≡ None }
+        requires deep { length (levels_in self.old.levels) < self.old.limits.depth }
+        requires inner { inner_of (levels_in self.old.levels) ≡ Some Array }
+        requires room { self.old.offset + length piece.now ≤ self.old.limits.bytes }
+        requires small { self.old.limits.bytes ≤ 2 ^ 60 }
+        ensures within { result ≤ length piece.now }
+        ensures next { IsDueAt self.new.mode (drop result piece.now) }
+        ensures levels { self.new.levels ≡ self.old.levels }
+        ensures feeds { FeedsAll (S.heard sink.old) (S.heard sink.new) self.old self.new (take result piece.now) }
+    {
+        if !has_integer(flat) {
+            return 0;
+        }
+        self.take_positions(piece, signs_of(flat), form.with_integers(), sink)
+    }
+
     /// Takes the positions after an array and so many bytes more, a comma and white space, where no more arrays are to come before
-    /// they are looked for: how many bytes. After an array with an integer, those with integers are looked for where there are no
-    /// others: one integer stands among other numbers more often than many do.
+    /// they are looked for: how many bytes. Those with integers are looked for where there are no others: one integer stands among
+    /// other numbers more often than many do.
     #[inline(always)]
     fn take_next_positions<S: EventSink>(
         &mut self,
@@ -191,11 +217,10 @@ impl Reader {
             return 0;
         };
         let many = self.take_positions(piece, signs_of(flat), form, sink);
-        if many > 0 || !has_integer(flat) {
-            *left = arrays_before_next(many);
+        if many > 0 {
             return many;
         }
-        let others = self.take_positions(piece, signs_of(flat), form.with_integers(), sink);
+        let others = self.take_integers(piece, flat, form, sink);
         *left = arrays_before_next(others);
         others
     }
