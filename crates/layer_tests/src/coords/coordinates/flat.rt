@@ -484,7 +484,7 @@ fn told_by_cut_values_over_several_lines(rt: HostRuntime) {
 }
 
 /// As above, of values with integers, which are looked for after an array with one.
-static INTEGERS: [(&str, u64, usize); 10] = [
+static INTEGERS: [(&str, u64, usize); 11] = [
     ("[[[1,2],[3,4],[5,6],[7,8],[9,10],[1,2]]]", 2, 4),
     ("[[[-1,-2],[-3,-4],[-5,-6],[-7,-8],[-9,-10],[-1,-2]]]", 2, 4),
     (
@@ -500,10 +500,16 @@ static INTEGERS: [(&str, u64, usize); 10] = [
         4,
     ),
     (
-        // an array with one among others, after which none is looked for
-        "[[[0.5,2.5],[3,4.5],[5.5,6.5],[7.5,8.5],[9.5,0],[0.5,2.5]]]",
+        // an array with one among others, after which others are looked for
+        "[[[0.5,2.5],[2.5,4.5],[3,4.5],[5.5,6.5],[7.5,8.5],[9.5,0.5],[0.5,2.5]]]",
+        3,
         4,
-        2,
+    ),
+    (
+        // an array with one right after the first: none is found, and none is looked for soon
+        "[[[0.5,2.5],[3,4.5],[5.5,6.5],[7.5,8.5],[9.5,0.5],[0.5,2.5]]]",
+        6,
+        0,
     ),
     (
         // four digits
