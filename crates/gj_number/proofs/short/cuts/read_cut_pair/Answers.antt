@@ -5,7 +5,8 @@ use Rattle.gj_number.specs.Internal.NumberMachine.{class_of}
 use Rattle.gj_number.specs.Internal.DigitRuns.{StartsSigned}
 use Rattle.gj_number.proofs.Shorts.CutPairs.{after_other, span_on}
 use Rattle.gj_number.proofs.Shorts.NumberPairs.{comma_other}
-use Rattle.gj_number.proofs.Shorts.UsualMarks.{pair_marks, first_point, second_point, before_mark, one_span, other_span, one_usual, other_usual, second_there, space_there}
+use Rattle.gj_number.proofs.Shorts.UsualMarks.{pair_marks, first_point, second_point, before_mark, one_span}
+use Rattle.gj_number.proofs.Shorts.UsualMarks.{other_span, one_usual, other_usual, second_there, space_there}
 use Rattle.gj_number.proofs.short.cuts.read_cut_pair.Goals as goal
 
 abbrev end_before : ℕ → ℕ → ℕ
@@ -39,7 +40,8 @@ returns-in_default-clause-taken c = λ u sign other_sign.
     let piece = c.args.piece.now in
     let form = c.args.form in
     let marks = c.first_marks-marks.result in
-    let h = c.first_marks-marks.ensures.first _ _ _ _ (pair_marks piece form u (omega (arith, c.requires))) (first_point piece form u) (second_point piece form u) in
+    let h = c.first_marks-marks.ensures.first _ _ _ _ (pair_marks piece form u (omega (arith, c.requires))) (first_point piece form u)
+    (second_point piece form u) in
     let few = c.first_marks-marks.ensures.next in
     let is = c.shares_mark-integer.ensures (before_mark piece form u _ _ _ _ _ _ h refl few refl).0 in
     c.in_default.ensures.taken is (one_span piece form u _ _ _ _ _ _ h refl few refl) sign
@@ -49,7 +51,8 @@ returns-then-not-is_spaced-clause-taken c = λ u sign other_sign.
     let piece = c.args.piece.now in
     let form = c.args.form in
     let marks = c.first_marks-marks.result in
-    let h = c.first_marks-marks.ensures.first _ _ _ _ (pair_marks piece form u (omega (arith, c.requires))) (first_point piece form u) (second_point piece form u) in
+    let h = c.first_marks-marks.ensures.first _ _ _ _ (pair_marks piece form u (omega (arith, c.requires))) (first_point piece form u)
+    (second_point piece form u) in
     let few = c.first_marks-marks.ensures.next in
     let yes = c.is_spaced.ensures.1 (space_there piece form u _ _ _ _ _ _ h refl few refl) in
     let no = c.if-not-is_spaced.true in
@@ -60,7 +63,8 @@ returns-in_default-span_before-clause-taken c = λ u sign other_sign.
     let piece = c.args.piece.now in
     let form = c.args.form in
     let marks = c.first_marks-marks.result in
-    let h = c.first_marks-marks.ensures.first _ _ _ _ (pair_marks piece form u (omega (arith, c.requires))) (first_point piece form u) (second_point piece form u) in
+    let h = c.first_marks-marks.ensures.first _ _ _ _ (pair_marks piece form u (omega (arith, c.requires))) (first_point piece form u)
+    (second_point piece form u) in
     let few = c.first_marks-marks.ensures.next in
     let end = ap (end_before marks.next) c.before_comma.ensures in
     let is = c.shares_mark-other_integer.ensures (before_mark piece form u _ _ _ _ _ _ h end few c.byte-behind.ensures).1 in
@@ -73,7 +77,8 @@ returns-in_default-cuts_before-clause-taken c = λ u sign other_sign.
     let piece = c.args.piece.now in
     let form = c.args.form in
     let marks = c.first_marks-marks.result in
-    let h = c.first_marks-marks.ensures.first _ _ _ _ (pair_marks piece form u (omega (arith, c.requires))) (first_point piece form u) (second_point piece form u) in
+    let h = c.first_marks-marks.ensures.first _ _ _ _ (pair_marks piece form u (omega (arith, c.requires))) (first_point piece form u)
+    (second_point piece form u) in
     let few = c.first_marks-marks.ensures.next in
     let end = ap (end_before marks.next) c.before_comma.ensures in
     let before = before_mark piece form u _ _ _ _ _ _ h end few c.byte-behind.ensures in

@@ -45,7 +45,8 @@ returns-in_default-span_before-clause-taken c = λ u sign other_sign.
     let found = c.first_ends-ends.ensures.first _ _ (two_marks piece 0 u.comma_at 44 u.one (omega arith)) (point_there piece 0 u.comma_at 44 u.one) in
     let at : ℕ = ends.end + 1 + gap in
     let usual = other_usual piece gap u ends.point ends.end found in
-    let more_found = c.first_ends-other_ends.ensures.first _ _ (two_marks piece at u.length_other 10 usual (omega arith)) (point_there piece at u.length_other 10 usual) in
+    let more_found = c.first_ends-other_ends.ensures.first _ _ (two_marks piece at u.length_other 10 usual (omega arith))
+    (point_there piece at u.length_other 10 usual) in
     let is = c.shares_mark-other_integer.ensures (before_end piece at u.length_other 10 usual more.point more.end more_found) in
     c.in_default-span_before.ensures.taken is (marked_span piece at u.length_other 10 usual more.point more.end more_found)
     (other_signed piece gap u ends.point ends.end found c.args.signs.second other_sign)
@@ -59,7 +60,8 @@ returns-in_default-cuts_before-clause-taken c = λ u sign other_sign.
     let found = c.first_ends-ends.ensures.first _ _ (two_marks piece 0 u.comma_at 44 u.one (omega arith)) (point_there piece 0 u.comma_at 44 u.one) in
     let at : ℕ = ends.end + 1 + gap in
     let usual = other_usual piece gap u ends.point ends.end found in
-    let more_found = c.first_ends-other_ends.ensures.first _ _ (two_marks piece at u.length_other 10 usual (omega arith)) (point_there piece at u.length_other 10 usual) in
+    let more_found = c.first_ends-other_ends.ensures.first _ _ (two_marks piece at u.length_other 10 usual (omega arith))
+    (point_there piece at u.length_other 10 usual) in
     let is = c.shares_mark-integer.ensures (before_end piece 0 u.comma_at 44 u.one ends.point ends.end found) in
     let other_is = c.shares_mark-other_integer.ensures (before_end piece at u.length_other 10 usual more.point more.end more_found) in
     c.in_default-cuts_before.ensures.taken
