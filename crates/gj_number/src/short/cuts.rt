@@ -376,8 +376,8 @@ pub(super) fn cuts_before(
 
 /// Reads two numbers of this form from the start of a piece as their cut values, where one to three digits stand before the
 /// point of each and fifteen at most after it. Each has a minus sign where `signs` says so, and else none. They are always
-/// found where eleven digits at most stand after the point. Where the form has integers, those of up to three digits are read
-/// too. Of others, `None` says that another reader is to read them.
+/// found where eleven digits at most stand after the point. Where the form has integers, those of up to three digits may be
+/// found too. Of others, `None` says that another reader is to read them.
 #[inline(always)]
 pub fn read_cut_pair(piece: &[u8], signs: Signs, form: PairForm) -> Option<CutPair>
     requires { 64 ≤ length piece.now }
