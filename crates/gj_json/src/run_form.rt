@@ -61,12 +61,13 @@ impl SpreadForm {
 }
 
 impl RunForm {
-    ghost use Rattle.gj_json.specs.Internal.SpelledPositions.{gap_of};
+    ghost use Rattle.gj_json.specs.Internal.SpelledPositions.{gap_of, IsWithIntegers};
 
     /// The same form, in which the first two numbers of an array may be integers.
     #[inline(never)]
     pub fn with_integers(self) -> RunForm
-        ensures { gap_of result ≡ gap_of self }
+        ensures same { IsWithIntegers self result }
+        ensures gap { gap_of result ≡ gap_of self }
     {
         match self {
             RunForm::Near(form) => RunForm::Near(ArrayForm {

@@ -1,5 +1,5 @@
 -- Arrays of two or three numbers that stand at the start of a piece, each with a comma and another array after it.
-use Rattle.std.specs.Prelude.{◌≡◌, ℕ, ◌+◌, ◌-◌, ◌<◌, ◌≤◌, Bool, IsTrue, if◌then◌else◌, List, [], ◌∷◌, Option, IfSome, get_or, length, take, drop}
+use Rattle.std.specs.Prelude.{◌≡◌, ℕ, ◌+◌, ◌-◌, ◌<◌, ◌≤◌, Bool, true, IsTrue, if◌then◌else◌, List, [], ◌∷◌, Option, IfSome, get_or, length, take, drop}
 use Rattle.std.specs.List.{AllByRecursion}
 use Rattle.std.specs.Option.{option_map_or, option_to_list}
 use mir.Val.{bool_byte}
@@ -21,6 +21,14 @@ near_gap form = bool_byte form.after_comma
 abbrev pub gap_of : RunForm → ℕ
 gap_of (Near form) = near_gap form
 gap_of (Spread form) = form.bracket_gap
+
+-- the other form is the same, but that the first two numbers of an array may be integers in it
+abbrev pub IsWithIntegers : RunForm → RunForm → Type 0
+IsWithIntegers (Near form) (Near other) =
+    (other.inside ≡ form.inside) × (other.after_comma ≡ form.after_comma) × (other.third ≡ form.third) × (other.integers ≡ true)
+IsWithIntegers (Spread form) (Spread other) =
+    (other.number_gap ≡ form.number_gap) × (other.bracket_gap ≡ form.bracket_gap) × (other.integers ≡ true)
+IsWithIntegers _ _ = ⊥
 
 -- the byte after the second number
 abbrev pub second_ends_with : ArrayForm → ℕ
