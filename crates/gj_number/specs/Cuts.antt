@@ -1,9 +1,9 @@
 -- Two ordinary numbers as their cut values: what it says of a piece that it starts with them.
-use Rattle.std.specs.Prelude.{◌≡◌, ℕ, ◌+◌, ◌-◌, ◌<◌, ◌≤◌, ◌↔◌, IsTrue, Some, List, get_or, drop}
+use Rattle.std.specs.Prelude.{◌≡◌, ℕ, ◌+◌, ◌-◌, ◌<◌, ◌≤◌, ◌⊎◌, ◌↔◌, Bool, IsTrue, Some, List, [], length, get_or, drop}
 use mir.Val.{bool_byte}
 use Rattle.gj_number.specs.Bytes.{comma, close_bracket, line_feed, space}
 use Rattle.gj_number.specs.Exact.{cut_of, cut_places, places_of}
-use Rattle.gj_number.specs.Short.{exact_of, StartsUsual, StartsWithNumber}
+use Rattle.gj_number.specs.Short.{exact_of, StartsOrdinary, StartsUsual, StartsWithNumber}
 use Rattle.gj_number.specs.declared.short.Short.{Short}
 use Rattle.gj_number.specs.declared.short.cuts.Cut.{Cut}
 use Rattle.gj_number.specs.declared.short.cuts.CutPair.{CutPair}
@@ -15,6 +15,17 @@ use Rattle.gj_number.specs.declared.short.cuts.PairForm.{PairForm}
 pub record IsCut (short : Short) (cut : Cut) : Type 0 where
   pub value : cut_of (exact_of short) ≡ Some cut.value
   pub precise : IsTrue cut.precise ↔ (cut_places < places_of (exact_of short))
+
+-- The piece starts with an integer of n bytes, of one to three digits and a minus sign or none, and this byte stands after it.
+pub record StartsInteger (piece : List ℕ) (n behind : ℕ) : Type 0 where
+  pub number : StartsOrdinary piece n
+  pub few : length number.ordinary.natural ≤ 3
+  pub none_after : number.ordinary.fraction ≡ []
+  pub ends : get_or piece n 0 ≡ behind
+
+-- a usual number, or, where integers may stand here, one of them
+abbrev pub StartsEither : Bool → List ℕ → ℕ → ℕ → Type 0
+StartsEither integers piece n behind = StartsUsual piece n behind ⊎ (IsTrue integers × StartsInteger piece n behind)
 
 -- the byte after the second number
 abbrev pub byte_after : After → ℕ
@@ -46,13 +57,14 @@ pub record StartsWithCutPair (piece : List ℕ) (form : PairForm) (pair : CutPai
   pub first : IsCut one pair.first
   pub second : IsCut other pair.second
 
--- Two usual numbers of this form stand at the start of the piece, and the next comma stands where the form says.
+-- Two usual numbers of this form stand at the start of the piece, or an integer for either where the form has integers, and the
+-- next comma stands where the form says.
 pub record StartsUsualCuts (piece : List ℕ) (form : PairForm) : Type 0 where
   pub comma_at : ℕ
   pub length_other : ℕ
-  pub one : StartsUsual piece comma_at comma
+  pub one : StartsEither form.integers piece comma_at comma
   pub between : IsTrue form.spaced → get_or piece (comma_at + 1) 0 ≡ space
-  pub other : StartsUsual (drop (second_after form comma_at) piece) length_other (byte_after form.after)
+  pub other : StartsEither form.integers (drop (second_after form comma_at) piece) length_other (byte_after form.after)
   pub bracket : form.after ≡ Space → get_or piece (second_after form comma_at + length_other + 1) 0 ≡ close_bracket
   pub next : get_or piece (second_after form comma_at + length_other + before_comma form.after) 0 ≡ comma
 
@@ -69,10 +81,10 @@ pub record StartsWithSpreadPair (piece : List ℕ) (gap : ℕ) (pair : CutPair) 
   pub first : IsCut one pair.first
   pub second : IsCut other pair.second
 
--- Two usual numbers stand at the start of the piece, with a comma and so many bytes between them, and a line feed after the
--- second.
-pub record StartsUsualSpread (piece : List ℕ) (gap : ℕ) : Type 0 where
+-- Two usual numbers stand at the start of the piece, or an integer for either where integers may stand here, with a comma and so
+-- many bytes between them, and a line feed after the second.
+pub record StartsUsualSpread (piece : List ℕ) (gap : ℕ) (integers : Bool) : Type 0 where
   pub comma_at : ℕ
   pub length_other : ℕ
-  pub one : StartsUsual piece comma_at comma
-  pub other : StartsUsual (drop (comma_at + 1 + gap) piece) length_other line_feed
+  pub one : StartsEither integers piece comma_at comma
+  pub other : StartsEither integers (drop (comma_at + 1 + gap) piece) length_other line_feed

@@ -163,16 +163,19 @@ module _ (piece : List ℕ) (fits : (k : ℕ) → Fits w8 (get_or piece k 0)) (s
   abbrev ArePlaced : ℕ → ℕ → Type 0
   ArePlaced n f = lanes ≡ in_lanes (before_point n (map lane_of (take 16 rest))) (after_point n f (map lane_of (take 16 rest)))
 
-  module _ (placed : 0 < span.natural → 0 < span.fraction → ArePlaced span.natural span.fraction) where
+  module _ (placed : 0 < span.natural → 0 < span.fraction → ArePlaced span.natural span.fraction)
+      (integer : span.natural ≡ 0 → 0 < span.fraction → span.fraction ≤ 3 → ArePlaced span.fraction 0) where
     pub usual_small : IsUsualSpan piece span → Each1 (λ x. x < 10) lanes
-    usual_small u =
-        let p = u.pointed in
-        let few = u.few in
-        digits_small piece fits span.first span.natural span.fraction p.some p.few (omega arith) b.room lanes (placed p.some p.some_more) p.digits.digits
-        p.more.digits
+    usual_small u = elim u.digits [
+      | inl p ↦
+          let few = u.few in
+          digits_small piece fits span.first span.natural span.fraction p.some p.few (omega arith) b.room lanes (placed p.some p.some_more) p.digits.digits
+          p.more.digits
+      | inr p ↦
+          digits_small piece fits span.first span.fraction 0 p.1 p.2 (omega arith) b.room lanes (integer p.0 p.1 p.2) p.3.digits (λ k d h. absurd (omega arith))
+    ]
 
-    module _ (integer : span.natural ≡ 0 → 0 < span.fraction → span.fraction ≤ 3 → ArePlaced span.fraction 0)
-        (has_digits : 0 < span.natural → get_or rest span.natural 0 ≡ decimal_point → Each1 (λ x. x < 10) lanes → 0 < span.fraction)
+    module _ (has_digits : 0 < span.natural → get_or rest span.natural 0 ≡ decimal_point → Each1 (λ x. x < 10) lanes → 0 < span.fraction)
         (small : Each1 (λ x. x < 10) lanes) (at : ℕ) (negative : Bool) (behind : ℕ) (s : IsSpan piece at negative span end behind)
         (other : class_of behind ≡ Other) (precise : Bool) (w : IsWhole piece span.fraction end precise)
         (found : precise ≡ true → Each1 (λ x. x ≡ 0) (rests_in lanes) → ⊥) (none : precise ≡ false → Each1 (λ x. x ≡ 0) (rests_in lanes))

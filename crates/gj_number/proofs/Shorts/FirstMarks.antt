@@ -1,10 +1,10 @@
 -- The first marks of a piece, by the bits of its bytes.
 use Rattle.std.proofs.Common.{zero, suc, ◌≡◌, ℕ, ◌+◌, ◌-◌, ◌*◌, ◌%◌, ◌^◌, ◌<◌, ◌≤◌, ◌++◌, Bool, true, false, List, [], ◌∷◌, length, map, take, drop}
-use Rattle.std.proofs.Common.{replicate, cond, refl, ◌||◌, eqb, inl, inr, sym, ◌∙◌, ap, subst, arith, length-drop, w64}
+use Rattle.std.proofs.Common.{get_or, IsTrue, length-append, replicate, cond, refl, ◌||◌, eqb, inl, inr, sym, ◌∙◌, ap, subst, arith, length-drop, w64}
 use lib.Bits.{bit_and, bit_or}
 use lib.Lanes.{mask_l, top, zip2}
 use Rattle.std.proofs.Math.Seq.{take-add}
-use Rattle.std.proofs.lemmas.List.{length-map, length-take-le, map-append}
+use Rattle.std.proofs.lemmas.List.{length-map, length-replicate, length-take-le, map-append}
 use Rattle.std.proofs.lemmas.Simd.{mask_l-lt}
 use Rattle.std.specs.Int.{bit_at}
 use lib.Count.{count_trailing_zeros}
@@ -12,7 +12,8 @@ use Rattle.std.proofs.Math.Nat.{pow-suc, mul_assoc}
 use Rattle.std.proofs.lemmas.Bool.{cases_lt}
 use Rattle.std.proofs.lemmas.Nat.{or_comm, or_shifted, and_block, and_le_l, and_le_r, pow-add, pow_pos}
 use Rattle.std.proofs.lemmas.Nat.Bits.{bit_at_and, bit_at_lowest, bit_at-zero, bit_at_cat_low, bit_at_cat_high, bit_at-trailing_zeros, same_from_bits}
-use Rattle.gj_number.specs.Internal.CutLanes.{is_mark_by, AreMarks, AreTwoMarks, HasMarks}
+use Rattle.gj_number.specs.Internal.CutLanes.{end_of, is_mark_by, number_marks, point_of, AreMarks, AreTwoMarks, HasMarks, IsFirstMark}
+use Rattle.gj_number.specs.Bytes.{decimal_point}
 
 -- ---- the lowest bit of a number
 
@@ -71,36 +72,72 @@ next_mark k j ms =
     ap (λ n. n * 2 ^ k) (one_mark j ms) ∙ mul_assoc (1 + 2 * mask_l ms) (2 ^ j) (2 ^ k)
     ∙ ap (λ n. (1 + 2 * mask_l ms) * n) (sym (pow-add 2 j k) ∙ ap (λ n. 2 ^ n) {x = j + k} {y = k + j} (omega arith))
 
+-- ---- the marks of a number
+
+-- what is left after its point: these without the lowest, or all where the lowest is that of the byte after it
+abbrev pub IsLeft : Bool → ℕ → ℕ → ℕ → Type 0
+IsLeft true bits left at = (r : ℕ) → bits ≡ (1 + 2 * r) * 2 ^ at → left ≡ r * 2 ^ (at + 1)
+IsLeft false bits left at = (r : ℕ) → bits ≡ (1 + 2 * r) * 2 ^ at → left ≡ bits
+
+pub left_by : (integers pointed : Bool) (xs : List ℕ) (bits left at behind : ℕ) → at < length xs → IsFirstMark integers pointed behind (get_or xs at 0)
+    → ((k r : ℕ) → bits ≡ (1 + 2 * r) * 2 ^ k → get_or xs k 0 ≡ decimal_point → left ≡ r * 2 ^ (k + 1))
+    → ((k r : ℕ) → bits ≡ (1 + 2 * r) * 2 ^ k → k < length xs → IsTrue integers → get_or xs k 0 ≡ behind → left ≡ bits) → IsLeft pointed bits left at
+left_by integers true xs bits left at behind within first point integer = λ r is. point at r is first
+left_by integers false xs bits left at behind within first point integer = λ r is. integer at r is within first.0 first.1
+
+number_found : (pointed : Bool) (k at bits left a b : ℕ) (ms : List Bool) → bits < 2 ^ 64 → bits ≡ mask_l (number_marks pointed a b ms) * 2 ^ k
+    → at ≡ k + point_of pointed a b → IsLeft pointed bits left at
+    → (count_trailing_zeros 64 bits ≡ at) × (left ≡ (1 + 2 * mask_l ms) * 2 ^ (k + end_of pointed a b))
+number_found true k at bits left a b ms small is at_is rest =
+    let twos : List Bool = replicate b false ++ true ∷ ms in
+    let one : bits ≡ (1 + 2 * mask_l twos) * 2 ^ at = is ∙ next_mark k a twos ∙ ap (λ n. (1 + 2 * mask_l twos) * 2 ^ n) (sym at_is) in (
+      lowest_at bits at (mask_l twos) small one,
+      rest (mask_l twos) one ∙ next_mark (at + 1) b ms ∙ ap (λ n. (1 + 2 * mask_l ms) * 2 ^ n) {x = at + 1 + b} {y = k + (a + 1 + b)} (omega arith),
+    )
+number_found false k at bits left a b ms small is at_is rest =
+    let one : bits ≡ (1 + 2 * mask_l ms) * 2 ^ at = is ∙ next_mark k (a + b) ms ∙ ap (λ n. (1 + 2 * mask_l ms) * 2 ^ n) (sym at_is) in (
+      lowest_at bits at (mask_l ms) small one,
+      rest (mask_l ms) one ∙ one ∙ ap (λ n. (1 + 2 * mask_l ms) * 2 ^ n) {x = at} {y = k + (a + 0 + b)} (omega arith),
+    )
+
+pub number_length : (pointed : Bool) (a b : ℕ) (ms : List Bool) → length (number_marks pointed a b ms) ≡ end_of pointed a b + 1 + length ms
+number_length true a b ms =
+    length-append (replicate a false) _ ∙ omega (arith, length-replicate a false, length-append (replicate b false) (true ∷ ms), length-replicate b false)
+number_length false a b ms = length-append (replicate (a + b) false) _ ∙ omega (arith, length-replicate (a + b) false)
+
+pub point_first : (pointed : Bool) (a b : ℕ) → point_of pointed a b ≤ end_of pointed a b
+point_first true a b = omega arith
+point_first false a b = omega arith
+
 module _ (marks second third fourth : ℕ) (small : marks < 2 ^ 64) (small_second : second < 2 ^ 64) (small_third : third < 2 ^ 64)
-    (small_fourth : fourth < 2 ^ 64) (ms : List Bool) (is : marks ≡ mask_l ms) (a b c d : ℕ) (m : AreMarks ms a b c d)
-    (off : (r : ℕ) → marks ≡ (1 + 2 * r) * 2 ^ a → second ≡ r * 2 ^ (a + 1))
-    (off_second : (k r : ℕ) → second ≡ (1 + 2 * r) * 2 ^ k → third ≡ r * 2 ^ (k + 1))
-    (off_third : (r : ℕ) → third ≡ (1 + 2 * r) * 2 ^ (a + 1 + b + 1 + c) → fourth ≡ r * 2 ^ (a + 1 + b + 1 + c + 1)) where
+    (small_fourth : fourth < 2 ^ 64) (ms : List Bool) (is : marks ≡ mask_l ms) (one : Bool) (a b : ℕ) (other : Bool) (c d : ℕ)
+    (m : AreMarks ms one a b other c d) (left : IsLeft one marks second (point_of one a b))
+    (off : (k r : ℕ) → second ≡ (1 + 2 * r) * 2 ^ k → third ≡ r * 2 ^ (k + 1))
+    (other_left : IsLeft other third fourth (end_of one a b + 1 + point_of other c d)) where
   pub marks_found : HasMarks (count_trailing_zeros 64 marks) (count_trailing_zeros 64 second) (count_trailing_zeros 64 third)
-      (count_trailing_zeros 64 fourth) a b c d
+      (count_trailing_zeros 64 fourth) one a b other c d
   marks_found =
-      let fours : List Bool = replicate d false ++ true ∷ m.0 in
-      let threes : List Bool = replicate c false ++ true ∷ fours in
-      let twos : List Bool = replicate b false ++ true ∷ threes in
-      let one : marks ≡ (1 + 2 * mask_l twos) * 2 ^ a = is ∙ ap mask_l m.1 ∙ one_mark a twos in
-      let two : second ≡ (1 + 2 * mask_l threes) * 2 ^ (a + 1 + b) = off (mask_l twos) one ∙ next_mark (a + 1) b threes in
-      let three : third ≡ (1 + 2 * mask_l fours) * 2 ^ (a + 1 + b + 1 + c) = off_second (a + 1 + b) (mask_l threes) two ∙ next_mark (a + 1 + b + 1) c fours in
-      let four : fourth ≡ (1 + 2 * mask_l m.0) * 2 ^ (a + 1 + b + 1 + c + 1 + d) = off_third (mask_l fours) three ∙ next_mark (a + 1 + b + 1 + c + 1) d m.0 in
+      let more : List Bool = number_marks other c d m.0 in
+      let all : marks ≡ mask_l (number_marks one a b more) * 2 ^ 0 = is ∙ ap mask_l m.1 ∙ omega arith in
+      let first = number_found one 0 (point_of one a b) marks second a b more small all (omega arith) left in
+      let after : third ≡ mask_l more * 2 ^ (0 + end_of one a b + 1) = off (0 + end_of one a b) (mask_l more) first.1 in
+      let next =
+      number_found other (0 + end_of one a b + 1) (end_of one a b + 1 + point_of other c d) third fourth c d m.0 small_third after (omega arith)
+      other_left in
       record {
-        point_is = lowest_at marks a (mask_l twos) small one;
-        comma_is = lowest_at second (a + 1 + b) (mask_l threes) small_second two;
-        other_point_is = lowest_at third (a + 1 + b + 1 + c) (mask_l fours) small_third three;
-        next_is = lowest_at fourth (a + 1 + b + 1 + c + 1 + d) (mask_l m.0) small_fourth four;
+        point_is = first.0;
+        comma_is = lowest_at second (0 + end_of one a b) (mask_l more) small_second first.1 ∙ omega arith;
+        other_point_is = next.0;
+        next_is = lowest_at fourth (0 + end_of one a b + 1 + end_of other c d) (mask_l m.0) small_fourth next.1 ∙ omega arith;
       }
 
-pub two_found : (marks second : ℕ) → marks < 2 ^ 64 → second < 2 ^ 64 → (ms : List Bool) → marks ≡ mask_l ms → (a b : ℕ) → AreTwoMarks ms a b
-    → ((r : ℕ) → marks ≡ (1 + 2 * r) * 2 ^ a → second ≡ r * 2 ^ (a + 1))
-    → (count_trailing_zeros 64 marks ≡ a) × (count_trailing_zeros 64 second ≡ a + 1 + b)
-two_found marks second small small_second ms is a b m off =
-    let twos : List Bool = replicate b false ++ true ∷ m.0 in
-    let one : marks ≡ (1 + 2 * mask_l twos) * 2 ^ a = is ∙ ap mask_l m.1 ∙ one_mark a twos in
-    let two : second ≡ (1 + 2 * mask_l m.0) * 2 ^ (a + 1 + b) = off (mask_l twos) one ∙ next_mark (a + 1) b m.0 in
-    (lowest_at marks a (mask_l twos) small one, lowest_at second (a + 1 + b) (mask_l m.0) small_second two)
+pub two_found : (marks second : ℕ) → marks < 2 ^ 64 → second < 2 ^ 64 → (ms : List Bool) → marks ≡ mask_l ms → (one : Bool) (a b : ℕ)
+    → AreTwoMarks ms one a b → IsLeft one marks second (point_of one a b)
+    → (count_trailing_zeros 64 marks ≡ point_of one a b) × (count_trailing_zeros 64 second ≡ end_of one a b)
+two_found marks second small small_second ms is one a b m left =
+    let all : marks ≡ mask_l (number_marks one a b m.0) * 2 ^ 0 = is ∙ ap mask_l m.1 ∙ omega arith in
+    let first = number_found one 0 (point_of one a b) marks second a b m.0 small all (omega arith) left in
+    (first.0, lowest_at second (0 + end_of one a b) (mask_l m.0) small_second first.1 ∙ omega arith)
 
 -- ---- sixteen bytes after sixteen
 

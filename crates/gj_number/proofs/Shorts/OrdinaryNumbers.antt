@@ -126,10 +126,10 @@ sign_size negative true sign rest s e n = let t : negative ≡ true = sym e ∙ 
 sign_size true false sign rest s e n = absurd (n (let f : (get_or rest 0 0 == minus_sign) ≡ true = rw s at e in grind (arith, nat_tests)))
 sign_size false false sign rest s e n = rw s refl
 
--- how many bytes it has, with a point
-pub laid_length : (piece : List ℕ) (negative : Bool) (n : ℕ) → StartsSigned piece negative → (o : StartsOrdinary piece n) → 0 < length o.ordinary.fraction
-    → n ≡ bool_byte negative + (length o.ordinary.natural + 1 + length o.ordinary.fraction)
-laid_length piece negative n s o some =
+-- how many bytes it has
+laid_size : (piece : List ℕ) (negative : Bool) (n : ℕ) → StartsSigned piece negative → (o : StartsOrdinary piece n)
+    → n ≡ bool_byte negative + (length o.ordinary.natural + length o.ordinary.after_natural)
+laid_size piece negative n s o =
     let x = o.ordinary in
     let rest : List ℕ = x.natural ++ (x.after_natural ++ (get_or piece n 0 ∷ drop (suc n) piece)) in
     let whole : piece ≡ x.sign ++ rest = sym (take-append-drop n piece) ∙ (λ i. x.joined i ++ drop-cons piece n 0 o.within i) ∙ simp append_assoc in
@@ -137,9 +137,29 @@ laid_length piece negative n s o some =
     let size = sign_size negative x.negative x.sign rest x.spells_sign e (first_digit x.natural _ x.spells_natural) in
     let w = o.within in
     let all : length (x.sign ++ (x.natural ++ x.after_natural)) ≡ n = ap length (sym x.joined) ∙ length-take-le n piece (omega arith) in
+    omega (arith, length-append x.sign (x.natural ++ x.after_natural), length-append x.natural x.after_natural)
+
+-- with a point
+pub laid_length : (piece : List ℕ) (negative : Bool) (n : ℕ) → StartsSigned piece negative → (o : StartsOrdinary piece n) → 0 < length o.ordinary.fraction
+    → n ≡ bool_byte negative + (length o.ordinary.natural + 1 + length o.ordinary.fraction)
+laid_length piece negative n s o some =
+    let x = o.ordinary in
     let last : length x.after_natural ≡ 1 + length x.fraction =
     elim x.spells_fraction [ inl h ↦ absurd (omega (arith, ap length h.1)) | inr h ↦ (ap length h.0 ∙ omega arith) ] in
-    omega (arith, length-append x.sign (x.natural ++ x.after_natural), length-append x.natural x.after_natural)
+    omega (arith, laid_size piece negative n s o)
+
+pub pointed_after : (fraction after : List ℕ) → SpellsFraction fraction after → 0 < length fraction → (after ≡ decimal_point ∷ fraction) × IsDigits fraction
+pointed_after fraction after f some = elim f [ inl h ↦ absurd (omega (arith, ap length h.1)) | inr h ↦ h ]
+
+-- without one
+pub no_fraction : (fraction after : List ℕ) → SpellsFraction fraction after → length fraction ≡ 0 → after ≡ []
+no_fraction fraction after f none = elim f [ inl h ↦ h.0 | inr h ↦ absurd (omega (arith, some_digits fraction h.1)) ]
+
+pub integer_length : (piece : List ℕ) (negative : Bool) (n : ℕ) → StartsSigned piece negative → (o : StartsOrdinary piece n)
+    → length o.ordinary.fraction ≡ 0 → n ≡ bool_byte negative + length o.ordinary.natural
+integer_length piece negative n s o none =
+    let x = o.ordinary in
+    omega (arith, laid_size piece negative n s o, ap length (no_fraction x.fraction x.after_natural x.spells_fraction none))
 
 -- ---- what the code meets
 

@@ -1,5 +1,5 @@
--- Where two usual numbers have their marks, and that they are found.
-use Rattle.std.proofs.Common.{zero, suc, ◌≡◌, ℕ, ◌+◌, ◌-◌, ◌%◌, ◌<◌, ◌≤◌, ◌==◌, ◌++◌, Bool, true, false, IsTrue, List, [], ◌∷◌}
+-- Where two usual numbers or integers have their marks, and that they are found.
+use Rattle.std.proofs.Common.{zero, suc, ◌≡◌, ℕ, ◌+◌, ◌-◌, ◌%◌, ◌<◌, ◌≤◌, ◌==◌, ◌++◌, ◌⊎◌, Bool, true, false, not, IsTrue, List, [], ◌∷◌}
 use Rattle.std.proofs.Common.{length, map, take, drop, get_or}
 use Rattle.std.proofs.Common.{replicate, refl, inl, inr, sym, ◌∙◌, ap, subst, arith, append_assoc, length-drop, length-append}
 use mir.Val.{bool_byte}
@@ -9,11 +9,12 @@ use Rattle.std.proofs.lemmas.Bool.Decides.{nat_tests}
 use Rattle.std.proofs.lemmas.List.Elements.{All-get_or}
 use Rattle.std.proofs.lemmas.List.{drop-drop, get_or-drop, get_or-take, length-take-le}
 use Rattle.std.proofs.lemmas.List.{map-append, replicate-append-replicate, take-append-drop, take-map}
-use Rattle.gj_number.specs.Bytes.{comma, minus_sign, decimal_point, space, close_bracket, IsDigit}
+use Rattle.gj_number.specs.Bytes.{comma, minus_sign, decimal_point, space, close_bracket, zero_digit, IsDigit}
 use Rattle.gj_number.specs.Denotation.{SpellsSign}
-use Rattle.gj_number.specs.Short.{StartsUsual}
-use Rattle.gj_number.specs.Cuts.{StartsUsualCuts, byte_after, before_comma, second_after}
-use Rattle.gj_number.specs.Internal.CutLanes.{is_mark, is_mark_by, AreMarks, HasMarks, IsMarkedSpan, IsSpan, IsUsualSpan}
+use Rattle.gj_number.specs.Short.{StartsOrdinary, StartsUsual}
+use Rattle.gj_number.specs.Cuts.{StartsEither, StartsUsualCuts, byte_after, before_comma, second_after}
+use Rattle.gj_number.specs.Internal.CutLanes.{end_of, is_mark, is_mark_by, number_marks, point_of, AreMarks, HasMarks}
+use Rattle.gj_number.specs.Internal.CutLanes.{IsCounted, IsFirstMark, IsMarked, IsMarkedInteger, IsMarkedSpan, IsSpan, IsUsualSpan}
 use Rattle.gj_number.specs.Internal.DigitRuns.{IsPointed}
 use Rattle.gj_number.specs.declared.short.cuts.After.{After}
 use Rattle.gj_number.specs.declared.short.cuts.After.TheVariants.{Comma, Bracket, Space}
@@ -21,7 +22,7 @@ use Rattle.gj_number.specs.declared.short.cuts.PairForm.{PairForm}
 use Rattle.gj_number.specs.declared.short.cuts.Span.{Span}
 use Rattle.gj_number.proofs.Grammar.FoundParts.{natural_digits, all_digits}
 use Rattle.gj_number.proofs.Shorts.NumberPrefixes.{sign_length}
-use Rattle.gj_number.proofs.Shorts.OrdinaryNumbers.{first_digit, laid, laid_length, pointed, sign_size}
+use Rattle.gj_number.proofs.Shorts.OrdinaryNumbers.{first_digit, integer_length, laid, laid_length, no_fraction, pointed, pointed_after, sign_size, IsLaid}
 
 -- ---- the marks of bytes
 
@@ -44,26 +45,52 @@ module _ (stop : ℕ) (low : stop < minus_sign) where
   point_marked : mark decimal_point ≡ true
   point_marked = grind (arith, nat_tests)
 
-  number_marks : (sign natural fraction more : List ℕ) (b : ℕ) → map mark sign ≡ replicate (length sign) false → AllByRecursion IsDigit natural
-      → map mark fraction ≡ replicate (length fraction) false → mark b ≡ true
-      → map mark (sign ++ (natural ++ ((decimal_point ∷ fraction) ++ (b ∷ more))))
-      ≡ replicate (length sign + length natural) false ++ true ∷ (replicate (length fraction) false ++ true ∷ map mark more)
-  number_marks sign natural fraction more b s n f e =
-      let rest : List ℕ = (decimal_point ∷ fraction) ++ (b ∷ more) in
-      let tail : map mark (fraction ++ (b ∷ more)) ≡ replicate (length fraction) false ++ true ∷ map mark more =
-      map-append mark fraction (b ∷ more) ∙ (λ i. f i ++ e i ∷ map mark more) in
-      let back : map mark rest ≡ true ∷ (replicate (length fraction) false ++ true ∷ map mark more) = (λ i. point_marked i ∷ tail i) in
-      map-append mark sign (natural ++ rest) ∙ (λ i. s i ++ map-append mark natural rest i)
-      ∙ (λ i. replicate (length sign) false ++ (digits_unmarked natural n i ++ back i))
-      ∙ sym (append_assoc (replicate (length sign) false) (replicate (length natural) false) _)
-      ∙ ap (λ ms. ms ++ true ∷ (replicate (length fraction) false ++ true ∷ map mark more)) (replicate-append-replicate (length sign) (length natural) false)
+  two_unmarked : (xs ys : List ℕ) → map mark xs ≡ replicate (length xs) false → map mark ys ≡ replicate (length ys) false
+      → map mark (xs ++ ys) ≡ replicate (length (xs ++ ys)) false
+  two_unmarked xs ys e f =
+      map-append mark xs ys ∙ (λ i. e i ++ f i) ∙ replicate-append-replicate (length xs) (length ys) false
+      ∙ ap (λ n. replicate n false) (sym (length-append xs ys))
 
-pub take_past : (k a : ℕ) (ms : List Bool) → a + 1 ≤ k → take k (replicate a false ++ true ∷ ms) ≡ replicate a false ++ true ∷ take (k - (a + 1)) ms
+  next_marked : (xs more : List ℕ) (b : ℕ) → map mark xs ≡ replicate (length xs) false → mark b ≡ true
+      → map mark (xs ++ (b ∷ more)) ≡ replicate (length xs) false ++ true ∷ map mark more
+  next_marked xs more b e f = map-append mark xs (b ∷ more) ∙ (λ i. e i ++ f i ∷ map mark more)
+
+take_past : (k a : ℕ) (ms : List Bool) → a + 1 ≤ k → take k (replicate a false ++ true ∷ ms) ≡ replicate a false ++ true ∷ take (k - (a + 1)) ms
 take_past zero a ms h = absurd (omega arith)
 take_past (suc k) zero ms h = let e : k ≡ suc k - (0 + 1) = omega arith in ap (λ n. true ∷ take n ms) e
 take_past (suc k) (suc a) ms h =
     let e : k - (a + 1) ≡ suc k - (suc a + 1) = omega arith in
     ap (λ zs. false ∷ zs) (take_past k a ms (omega arith) ∙ ap (λ n. replicate a false ++ true ∷ take n ms) e)
+
+pub take_marks : (pointed : Bool) (k a b : ℕ) (ms : List Bool) → end_of pointed a b + 1 ≤ k
+    → take k (number_marks pointed a b ms) ≡ number_marks pointed a b (take (k - (end_of pointed a b + 1)) ms)
+take_marks true k a b ms h =
+    take_past k a (replicate b false ++ true ∷ ms) (omega arith)
+    ∙ ap (λ ns. replicate a false ++ true ∷ ns) (take_past (k - (a + 1)) b ms (omega arith))
+    ∙ ap (λ n. number_marks true a b (take n ms)) {x = k - (a + 1) - (b + 1)} {y = k - (a + 1 + b + 1)} (omega arith)
+take_marks false k a b ms h =
+    take_past k (a + b) ms (omega arith) ∙ ap (λ n. number_marks false a b (take n ms)) {x = k - (a + b + 1)} {y = k - (a + 0 + b + 1)} (omega arith)
+
+-- bytes before a number that are no marks
+marks_after : (pointed : Bool) (k a b : ℕ) (ms : List Bool) → replicate k false ++ number_marks pointed a b ms ≡ number_marks pointed (k + a) b ms
+marks_after true k a b ms =
+    let more : List Bool = true ∷ (replicate b false ++ true ∷ ms) in
+    sym (append_assoc (replicate k false) (replicate a false) more) ∙ ap (λ ns. ns ++ more) (replicate-append-replicate k a false)
+marks_after false k a b ms =
+    sym (append_assoc (replicate k false) (replicate (a + b) false) (true ∷ ms))
+    ∙ ap (λ ns. ns ++ true ∷ ms) (replicate-append-replicate k (a + b) false)
+    ∙ ap (λ n. replicate n false ++ true ∷ ms) {x = k + (a + b)} {y = k + a + b} (omega arith)
+
+point_after : (pointed : Bool) (k a b : ℕ) → point_of pointed (k + a) b ≡ k + point_of pointed a b
+point_after true k a b = refl
+point_after false k a b = omega arith
+
+-- whether a number is an integer shows by its first mark
+pub integer_is : (pointed integers integer : Bool) (base a b point next : ℕ) → point ≡ base + point_of pointed a b → next ≡ base + end_of pointed a b
+    → (pointed ≡ false → IsTrue integers) → ((point ≡ next → ⊥) → integer ≡ false) → (IsTrue integers → point ≡ next → integer ≡ true)
+    → integer ≡ not pointed
+integer_is true integers integer base a b point next p n may other same = other (λ z. omega arith)
+integer_is false integers integer base a b point next p n may other same = same (may refl) (omega arith)
 
 -- ---- the bytes beside the numbers
 
@@ -92,9 +119,25 @@ few_ends Comma = omega arith
 few_ends Bracket = omega arith
 few_ends Space = omega arith
 
--- ---- one usual number
+-- ---- one number
 
-module _ (xs : List ℕ) (n behind : ℕ) (u : StartsUsual xs n behind) where
+-- a usual number or an integer
+pub record IsEither (integers : Bool) (xs : List ℕ) (n behind : ℕ) : Type 0 where
+  pub number : StartsOrdinary xs n
+  pub few : length number.ordinary.natural ≤ 3
+  pub few_after : length number.ordinary.fraction ≤ 11
+  pub ends : get_or xs n 0 ≡ behind
+  pub pointed : Bool
+  pub parts : ((pointed ≡ true) × (0 < length number.ordinary.fraction)) ⊎ ((pointed ≡ false) × (length number.ordinary.fraction ≡ 0) × IsTrue integers)
+
+pub either_of : (integers : Bool) (xs : List ℕ) (n behind : ℕ) → StartsEither integers xs n behind → IsEither integers xs n behind
+either_of integers xs n behind (inl u) =
+    record { number = u.number; few = u.few; few_after = u.few_after; ends = u.ends; pointed = true; parts = inl (refl, u.some_after) }
+either_of integers xs n behind (inr u) =
+    let none = ap length u.1.none_after in
+    record { number = u.1.number; few = u.1.few; few_after = omega arith; ends = u.1.ends; pointed = false; parts = inr (refl, none, u.0) }
+
+module _ (integers : Bool) (xs : List ℕ) (n behind : ℕ) (u : IsEither integers xs n behind) where
   abbrev pub negative : Bool
   negative = get_or xs 0 0 == minus_sign
 
@@ -104,66 +147,108 @@ module _ (xs : List ℕ) (n behind : ℕ) (u : StartsUsual xs n behind) where
   abbrev pub after : ℕ
   after = length u.number.ordinary.fraction
 
-  pub length_is : n ≡ bool_byte negative + (before + 1 + after)
-  length_is = laid_length xs negative n refl u.number u.some_after
+  -- the sign and the digits before its point
+  abbrev pub front : ℕ
+  front = bool_byte negative + before
 
-  pub digits : IsPointed (drop (bool_byte negative) xs) before after
-  digits = pointed xs negative n behind refl u
+  pub integers_may : u.pointed ≡ false → IsTrue integers
+  integers_may e = elim u.parts [ inl h ↦ absurd (let t = h.0 in cc) | inr h ↦ h.2 ]
+
+  usual_of : 0 < after → StartsUsual xs n behind
+  usual_of some = record { number = u.number; few = u.few; some_after = some; few_after = u.few_after; ends = u.ends }
+
+  pub length_is : n ≡ end_of u.pointed front after
+  length_is = elim u.parts [
+    | inl h ↦ (let l = laid_length xs negative n refl u.number h.1 in rw (h.0) (omega arith))
+    | inr h ↦ (let l = integer_length xs negative n refl u.number h.1 in let none = h.1 in rw (h.0) (omega arith))
+  ]
+
+  pub digits : 0 < after → IsPointed (drop (bool_byte negative) xs) before after
+  unfolding usual_of
+  digits some = pointed xs negative n behind refl (usual_of some)
+
+  pub lay : IsLaid xs (bool_byte negative) before after
+  lay = laid xs negative n refl u.number
 
   -- so many bytes after it are no marks, and the next is one
   pub marks_past : (stop : ℕ) → stop < minus_sign → (k : ℕ) → map (is_mark_by stop) (take k (drop n xs)) ≡ replicate k false
       → is_mark_by stop (get_or xs (n + k) 0) ≡ true → n + k < length xs
-      → map (is_mark_by stop) xs ≡ replicate (bool_byte negative + before) false
-      ++ true ∷ (replicate (after + k) false ++ true ∷ map (is_mark_by stop) (drop (suc (n + k)) xs))
+      → map (is_mark_by stop) xs ≡ number_marks u.pointed front (after + k) (map (is_mark_by stop) (drop (suc (n + k)) xs))
   marks_past stop low k unmarked marked within =
       let x = u.number.ordinary in
       let between = take k (drop n xs) in
       let more = drop (suc (n + k)) xs in
       let b = get_or xs (n + k) 0 in
+      let ms : List Bool = map (is_mark_by stop) more in
       let rest_is : drop n xs ≡ between ++ (b ∷ more) =
       sym (take-append-drop k (drop n xs)) ∙ ap (λ ys. between ++ ys) (drop-drop k n xs ∙ drop-cons xs (n + k) 0 within) in
       let whole : xs ≡ x.sign ++ (x.natural ++ (x.after_natural ++ (between ++ (b ∷ more)))) =
       sym (take-append-drop n xs) ∙ (λ i. x.joined i ++ rest_is i) ∙ simp append_assoc in
-      elim x.spells_fraction [
-        | inl h ↦ absurd (let some = u.some_after in omega (arith, ap length h.1))
-        | inr h ↦
+      let rest : List ℕ = x.natural ++ (x.after_natural ++ (between ++ (b ∷ more))) in
+      let e : (get_or (x.sign ++ rest) 0 0 == minus_sign) ≡ negative = ap (λ ys. get_or ys 0 0 == minus_sign) (sym whole) in
+      let size = sign_size negative x.negative x.sign rest x.spells_sign e (first_digit x.natural _ x.spells_natural) in
+      let room : k ≤ length (drop n xs) = omega (arith, length-drop n xs) in
+      let many : length between ≡ k = length-take-le k (drop n xs) room in
+      let between_off : map (is_mark_by stop) between ≡ replicate (length between) false = unmarked ∙ ap (λ m. replicate m false) (sym many) in
+      let head : List ℕ = x.sign ++ x.natural in
+      let head_off : map (is_mark_by stop) head ≡ replicate (length head) false =
+      two_unmarked stop low x.sign x.natural (sign_unmarked stop low x.negative x.sign x.spells_sign)
+      (digits_unmarked stop low x.natural (natural_digits x.natural x.spells_natural)) in
+      let long : length head ≡ front = length-append x.sign x.natural ∙ ap (λ m. m + before) size in
+      elim u.parts [
+        | inl h ↦
+            let spelled = pointed_after x.fraction x.after_natural x.spells_fraction h.1 in
             let tail : List ℕ = x.fraction ++ between in
-            let rest : List ℕ = x.natural ++ ((decimal_point ∷ tail) ++ (b ∷ more)) in
-            let all : xs ≡ x.sign ++ rest =
-            whole ∙ ap (λ ys. x.sign ++ (x.natural ++ (ys ++ (between ++ (b ∷ more))))) h.0
-            ∙ ap (λ ys. x.sign ++ (x.natural ++ (decimal_point ∷ ys))) (sym (append_assoc x.fraction between (b ∷ more))) in
-            let e : (get_or (x.sign ++ rest) 0 0 == minus_sign) ≡ negative = ap (λ ys. get_or ys 0 0 == minus_sign) (sym all) in
-            let size = sign_size negative x.negative x.sign rest x.spells_sign e (first_digit x.natural _ x.spells_natural) in
-            let room : k ≤ length (drop n xs) = omega (arith, length-drop n xs) in
-            let long : length tail ≡ after + k = length-append x.fraction between ∙ ap (λ m. after + m) (length-take-le k (drop n xs) room) in
-            let off : map (is_mark_by stop) tail ≡ replicate (length tail) false =
-            map-append (is_mark_by stop) x.fraction between ∙ (λ i. digits_unmarked stop low x.fraction (all_digits x.fraction h.1) i ++ unmarked i)
-            ∙ replicate-append-replicate (length x.fraction) k false ∙ ap (λ m. replicate m false) (sym long) in
+            let all : xs ≡ head ++ (decimal_point ∷ (tail ++ (b ∷ more))) =
+            whole ∙ ap (λ ys. x.sign ++ (x.natural ++ (ys ++ (between ++ (b ∷ more))))) spelled.0 ∙ simp append_assoc in
+            let tail_off = two_unmarked stop low x.fraction between (digits_unmarked stop low x.fraction (all_digits x.fraction spelled.1)) between_off in
+            let tail_long : length tail ≡ after + k = length-append x.fraction between ∙ ap (λ m. after + m) many in
+            rw (h.0) (
             ap (map (is_mark_by stop)) all
-            ∙ number_marks stop low x.sign x.natural tail more b (sign_unmarked stop low x.negative x.sign x.spells_sign)
-            (natural_digits x.natural x.spells_natural) off marked
-            ∙ ap (λ m. replicate (m + before) false ++ true ∷ (replicate (length tail) false ++ true ∷ map (is_mark_by stop) more)) size
-            ∙ ap (λ m. replicate (bool_byte negative + before) false ++ true ∷ (replicate m false ++ true ∷ map (is_mark_by stop) more)) long
+            ∙ next_marked stop low head (tail ++ (b ∷ more)) decimal_point head_off (point_marked stop low)
+            ∙ ap (λ ns. replicate (length head) false ++ true ∷ ns) (next_marked stop low tail more b tail_off marked)
+            ∙ (λ i. number_marks true (long i) (tail_long i) ms))
+        | inr h ↦
+            let none = no_fraction x.fraction x.after_natural x.spells_fraction h.1 in
+            let all : xs ≡ (head ++ between) ++ (b ∷ more) =
+            whole ∙ ap (λ ys. x.sign ++ (x.natural ++ (ys ++ (between ++ (b ∷ more))))) none ∙ simp append_assoc in
+            let zero_after = h.1 in
+            let all_long : length (head ++ between) ≡ front + (after + k) = length-append head between ∙ omega arith in
+            rw (h.0) (
+            ap (map (is_mark_by stop)) all
+            ∙ next_marked stop low (head ++ between) more b (two_unmarked stop low head between head_off between_off) marked
+            ∙ ap (λ m. replicate m false ++ true ∷ ms) all_long)
       ]
 
   -- the byte after it is a mark
-  pub marks_are : (stop : ℕ) → stop < minus_sign → is_mark_by stop behind ≡ true → map (is_mark_by stop) xs ≡ replicate (bool_byte negative + before) false
-      ++ true ∷ (replicate after false ++ true ∷ map (is_mark_by stop) (drop (suc n) xs))
+  pub marks_are : (stop : ℕ) → stop < minus_sign → is_mark_by stop behind ≡ true
+      → map (is_mark_by stop) xs ≡ number_marks u.pointed front after (map (is_mark_by stop) (drop (suc n) xs))
   marks_are stop low marked =
       let within = u.number.within in
-      let P : ℕ → ℕ → Type 0 = λ a m. map (is_mark_by stop) xs ≡ replicate (bool_byte negative + before) false
-      ++ true ∷ (replicate a false ++ true ∷ map (is_mark_by stop) (drop (suc m) xs)) in
+      let P : ℕ → ℕ → Type 0 = λ a m. map (is_mark_by stop) xs ≡ number_marks u.pointed front a (map (is_mark_by stop) (drop (suc m) xs)) in
       let none : n + 0 ≡ n = omega arith in
       let no_more : after + 0 ≡ after = omega arith in
       let there : is_mark_by stop (get_or xs (n + 0) 0) ≡ true = ap (λ k. is_mark_by stop (get_or xs k 0)) none ∙ ap (is_mark_by stop) u.ends ∙ marked in
       subst (λ a. P a n) no_more (subst (P (after + 0)) none (marks_past stop low 0 refl there (omega arith)))
 
+  -- the byte at its first mark
+  pub mark_there : (stop k : ℕ) → get_or xs (n + k) 0 ≡ stop → IsFirstMark integers u.pointed stop (get_or xs (point_of u.pointed front (after + k)) 0)
+  mark_there stop k there = elim u.parts [
+    | inl h ↦ rw (h.0) (sym (get_or-drop (bool_byte negative) xs before 0) ∙ (digits h.1).point)
+    | inr h ↦
+        let none = h.1 in
+        let l = integer_length xs negative n refl u.number none in
+        rw (h.0) (h.2, ap (λ i. get_or xs i 0) {x = front + (after + k)} {y = n + k} (omega arith) ∙ there)
+  ]
+
 -- where it stands in a piece
-module _ (piece : List ℕ) (at point end n behind : ℕ) (u : StartsUsual (drop at piece) n behind)
-    (point_is : point ≡ at + bool_byte (negative (drop at piece) n behind u) + before (drop at piece) n behind u)
-    (end_is : end ≡ point + 1 + after (drop at piece) n behind u) where
+module _ (integers : Bool) (piece : List ℕ) (at point end n behind : ℕ) (u : IsEither integers (drop at piece) n behind)
+    (point_is : u.pointed ≡ true → point ≡ at + front integers (drop at piece) n behind u) (end_is : end ≡ at + n) where
   abbrev sign : ℕ
-  sign = bool_byte (negative (drop at piece) n behind u)
+  sign = bool_byte (negative integers (drop at piece) n behind u)
+
+  abbrev natural : ℕ
+  natural = before integers (drop at piece) n behind u
 
   head : get_or (drop at piece) 0 0 ≡ get_or piece at 0
   head = get_or-drop at piece 0 0 ∙ ap (λ i. get_or piece i 0) {x = at + 0} {y = at} (omega arith)
@@ -171,54 +256,97 @@ module _ (piece : List ℕ) (at point end n behind : ℕ) (u : StartsUsual (drop
   sign_is : sign ≡ bool_byte (get_or piece at 0 == minus_sign)
   sign_is = ap (λ b. bool_byte (b == minus_sign)) head
 
-  pub span_at : IsMarkedSpan piece at point end behind
+  abbrev first_at : ℕ
+  first_at = at + bool_byte (get_or piece at 0 == minus_sign)
+
+  ends_there : get_or piece end 0 ≡ behind
+  ends_there = ap (λ i. get_or piece i 0) {x = end} {y = at + n} end_is ∙ sym (get_or-drop at piece n 0) ∙ u.ends
+
+  first_there : get_or (drop sign (drop at piece)) 0 0 ≡ get_or piece first_at 0
+  first_there =
+      let s = sign_is in
+      get_or-drop sign (drop at piece) 0 0 ∙ get_or-drop at piece (sign + 0) 0 ∙ ap (λ i. get_or piece i 0) {x = at + (sign + 0)} {y = first_at} (omega arith)
+
+  lead_there : zero_digit ≤ get_or piece first_at 0
+  lead_there =
+      let l = lay integers (drop at piece) n behind u in
+      let P : ℕ → Type 0 = λ x. IsDigit x in
+      let some : 0 < length (take natural (drop sign (drop at piece))) =
+      (let w = l.digits.within in let p = l.some in omega (arith, length-take-le natural (drop sign (drop at piece)) (omega arith))) in
+      (subst P (get_or-take natural (drop sign (drop at piece)) 0 0 l.some ∙ first_there) (All-get_or IsDigit _ 0 0 some l.digits.digits)).0
+
+  one_there : get_or piece first_at 0 ≡ zero_digit → natural ≡ 1
+  one_there z = (lay integers (drop at piece) n behind u).one (first_there ∙ z)
+
+  pub span_at : IsMarked (not u.pointed) piece at point end behind
   span_at =
       let s = sign_is in
-      let l = length_is (drop at piece) n behind u in
-      let d = digits (drop at piece) n behind u in
-      let few = u.few_after in
-      record {
-        natural = before (drop at piece) n behind u;
-        fraction = after (drop at piece) n behind u;
-        some = d.some;
-        few = d.few;
-        some_after = d.some_more;
-        few_after = omega arith;
-        point_is = omega arith;
-        end_is = end_is;
-        point_there =
-            ap (λ i. get_or piece i 0) {x = point} {y = at + (sign + before (drop at piece) n behind u)} (omega arith)
-            ∙ sym (get_or-drop at piece (sign + before (drop at piece) n behind u) 0)
-            ∙ sym (get_or-drop sign (drop at piece) (before (drop at piece) n behind u) 0) ∙ d.point;
-        ends = ap (λ i. get_or piece i 0) {x = end} {y = at + n} (omega arith) ∙ sym (get_or-drop at piece n 0) ∙ u.ends;
-        lead =
-            let P : ℕ → Type 0 = λ x. IsDigit x in
-            let natural : ℕ = before (drop at piece) n behind u in
-            let some : 0 < length (take natural (drop sign (drop at piece))) =
-            (let w = d.digits.within in let p = d.some in omega (arith, length-take-le natural (drop sign (drop at piece)) (omega arith))) in
-            let at_first : get_or (take natural (drop sign (drop at piece))) 0 0 ≡ get_or piece (at + bool_byte (get_or piece at 0 == minus_sign)) 0 =
-            get_or-take natural (drop sign (drop at piece)) 0 0 d.some ∙ get_or-drop sign (drop at piece) 0 0 ∙ get_or-drop at piece (sign + 0) 0
-            ∙ ap (λ i. get_or piece i 0) {x = at + (sign + 0)} {y = at + bool_byte (get_or piece at 0 == minus_sign)} (omega arith) in
-            (subst P at_first (All-get_or IsDigit _ 0 0 some d.digits.digits)).0;
-        one =
-            λ z. (laid (drop at piece) (negative (drop at piece) n behind u) n refl u.number).one
-            (get_or-drop sign (drop at piece) 0 0 ∙ get_or-drop at piece (sign + 0) 0
-            ∙ ap (λ i. get_or piece i 0) {x = at + (sign + 0)} {y = at + bool_byte (get_or piece at 0 == minus_sign)} (omega arith) ∙ z);
-      }
+      let l = length_is integers (drop at piece) n behind u in
+      let some = (lay integers (drop at piece) n behind u).some in
+      elim u.parts [
+        | inl h ↦
+            let d = digits integers (drop at piece) n behind u h.1 in
+            let few = u.few_after in
+            let there = point_is h.0 in
+            let marked : IsMarkedSpan piece at point end behind = record {
+              natural = natural;
+              fraction = after integers (drop at piece) n behind u;
+              some = some;
+              few = u.few;
+              some_after = h.1;
+              few_after = omega arith;
+              point_is = omega arith;
+              end_is = (let k = ap bool_byte h.0 in omega arith);
+              point_there =
+                  ap (λ i. get_or piece i 0) {x = point} {y = at + (sign + natural)} (omega arith)
+                  ∙ sym (get_or-drop at piece (sign + natural) 0) ∙ sym (get_or-drop sign (drop at piece) natural 0) ∙ d.point;
+              ends = ends_there;
+              lead = lead_there;
+              one = one_there;
+            } in
+            rw (h.0) marked
+        | inr h ↦
+            let none = h.1 in
+            let marked : IsMarkedInteger piece at end behind = record {
+              natural = natural;
+              some = some;
+              few = u.few;
+              end_is = (let k = ap bool_byte h.0 in omega arith);
+              ends = ends_there;
+              lead = lead_there;
+              one = one_there;
+            } in
+            rw (h.0) marked
+      ]
 
-  pub usual_span : (minus : Bool) (span : Span) → IsSpan piece at minus span end behind → point ≡ span.first + span.natural → IsUsualSpan piece span
-  usual_span minus span s there =
+  pub usual_span : (minus : Bool) (span : Span) → IsSpan piece at minus span end behind → IsCounted (not u.pointed) point span → IsUsualSpan piece span
+  usual_span minus span s counted =
       let a : sign ≡ bool_byte minus = ap bool_byte s.sign in
       let b = s.first_is in
-      let d = digits (drop at piece) n behind u in
-      let some = d.some in
-      let natural_is : before (drop at piece) n behind u ≡ span.natural = omega arith in
-      let fraction_is : after (drop at piece) n behind u ≡ span.fraction =
-      elim s.bytes.parts [ inl p ↦ (let e = p.end_is in omega arith) | inr p ↦ (let none = p.none in absurd (omega arith)) ] in
+      let l = length_is integers (drop at piece) n behind u in
+      let lies = lay integers (drop at piece) n behind u in
+      let some = lies.some in
+      let few = u.few in
+      let few_after = u.few_after in
       let same : drop sign (drop at piece) ≡ drop span.first piece =
       drop-drop sign at piece ∙ ap (λ i. drop i piece) {x = at + sign} {y = span.first} (omega arith) in
-      let few = u.few_after in
-      record { pointed = rw (← same, ← natural_is, ← fraction_is) d; few = omega arith }
+      elim u.parts [
+        | inl h ↦
+            let there : point ≡ span.first + span.natural = rw (h.0) at counted in
+            let is = point_is h.0 in
+            let k = ap bool_byte h.0 in
+            let natural_is : natural ≡ span.natural = omega arith in
+            let fraction_is : after integers (drop at piece) n behind u ≡ span.fraction =
+            elim s.bytes.parts [ inl p ↦ (let e = p.end_is in omega arith) | inr p ↦ (let none = p.none in absurd (omega arith)) ] in
+            record { digits = inl (rw (← same, ← natural_is, ← fraction_is) (digits integers (drop at piece) n behind u h.1)); few = omega arith }
+        | inr h ↦
+            let none : span.natural ≡ 0 = rw (h.0) at counted in
+            let k = ap bool_byte h.0 in
+            let no_more = h.1 in
+            let fraction_is : natural ≡ span.fraction =
+            elim s.bytes.parts [ inl p ↦ (let w = p.some in absurd (omega arith)) | inr p ↦ (let e = p.end_is in omega arith) ] in
+            record { digits = inr (none, omega arith, omega arith, rw (← same, ← fraction_is) lies.digits); few = omega arith }
+      ]
 
 -- ---- both
 
@@ -238,33 +366,47 @@ module _ (piece : List ℕ) (form : PairForm) (u : StartsUsualCuts piece form) w
   abbrev spaces : ℕ
   spaces = bool_byte form.spaced
 
-  second_small : second_at ≤ 18
-  second_small =
-      let s = sign_length (negative piece u.comma_at comma u.one) in
-      let t = sign_length form.spaced in
-      let l = length_is piece u.comma_at comma u.one in
-      let few = u.one.few in
-      let few_after = u.one.few_after in
-      omega arith
+  abbrev pub one : IsEither form.integers piece u.comma_at comma
+  one = either_of form.integers piece u.comma_at comma u.one
+
+  abbrev pub other : IsEither form.integers second u.length_other behind
+  other = either_of form.integers second u.length_other behind u.other
 
   abbrev pub point_at : ℕ
-  point_at = bool_byte (negative piece u.comma_at comma u.one) + before piece u.comma_at comma u.one
+  point_at = front form.integers piece u.comma_at comma one
 
   abbrev pub places : ℕ
-  places = after piece u.comma_at comma u.one
+  places = after form.integers piece u.comma_at comma one
 
   abbrev pub other_point_at : ℕ
-  other_point_at = bool_byte (negative second u.length_other behind u.other) + before second u.length_other behind u.other
+  other_point_at = front form.integers second u.length_other behind other
 
   abbrev pub other_places : ℕ
-  other_places = after second u.length_other behind u.other
+  other_places = after form.integers second u.length_other behind other
+
+  size_one : u.comma_at ≡ end_of one.pointed point_at places
+  size_one = length_is form.integers piece u.comma_at comma one
+
+  size_other : u.length_other ≡ end_of other.pointed other_point_at other_places
+  size_other = length_is form.integers second u.length_other behind other
+
+  second_small : second_at ≤ 18
+  second_small =
+      let s = sign_length (negative form.integers piece u.comma_at comma one) in
+      let t = sign_length form.spaced in
+      let p = sign_length one.pointed in
+      let l = size_one in
+      let few = one.few in
+      let few_after = one.few_after in
+      omega arith
 
   other_small_enough : u.length_other ≤ 16
   other_small_enough =
-      let s = sign_length (negative second u.length_other behind u.other) in
-      let l = length_is second u.length_other behind u.other in
-      let few = u.other.few in
-      let few_after = u.other.few_after in
+      let s = sign_length (negative form.integers second u.length_other behind other) in
+      let p = sign_length other.pointed in
+      let l = size_other in
+      let few = other.few in
+      let few_after = other.few_after in
       omega arith
 
   comma_follows : get_or second (u.length_other + ends) 0 ≡ comma
@@ -288,62 +430,64 @@ module _ (piece : List ℕ) (form : PairForm) (u : StartsUsualCuts piece form) w
       ∙ space_past form.spaced after_comma (omega (arith, length-drop (u.comma_at + 1) piece)) is
       ∙ ap (λ xs. replicate spaces false ++ map is_mark xs) (drop-drop spaces (u.comma_at + 1) piece)
 
-  pub pair_marks : 48 ≤ length piece → AreMarks (map is_mark (take 48 piece)) point_at places (spaces + other_point_at) (other_places + ends)
+  pub pair_marks : 48 ≤ length piece
+      → AreMarks (map is_mark (take 48 piece)) one.pointed point_at places other.pointed (spaces + other_point_at) (other_places + ends)
   pair_marks long =
       let end : List Bool = map is_mark (drop (suc (u.length_other + ends)) second) in
-      let fours : List Bool = replicate (other_places + ends) false ++ true ∷ end in
-      let threes : List Bool = replicate (spaces + other_point_at) false ++ true ∷ fours in
-      let twos : List Bool = replicate places false ++ true ∷ threes in
+      let more : List Bool = number_marks other.pointed (spaces + other_point_at) (other_places + ends) end in
       let room = second_small in
       let other_room = other_small_enough in
       let few = few_ends form.after in
-      let size = length_is second u.length_other behind u.other in
-      let size_one = length_is piece u.comma_at comma u.one in
+      let size = size_other in
+      let first_size = size_one in
       let left = length-drop second_at piece in
       let left_after = length-drop u.length_other second in
       let bytes_after : map is_mark (take ends (drop u.length_other second)) ≡ replicate ends false =
       ends_unmarked form.after (drop u.length_other second) (omega arith) (get_or-drop u.length_other second 0 0
-      ∙ ap (λ k. get_or second k 0) {x = u.length_other + 0} {y = u.length_other} (omega arith) ∙ u.other.ends)
+      ∙ ap (λ k. get_or second k 0) {x = u.length_other + 0} {y = u.length_other} (omega arith) ∙ other.ends)
       (λ is. get_or-drop u.length_other second 1 0 ∙ bracket_follows is) in
-      let past : map is_mark second ≡ replicate other_point_at false ++ true ∷ fours =
-      marks_past second u.length_other behind u.other comma (omega arith) ends bytes_after (ap is_mark comma_follows) (omega arith) in
-      let joined : replicate spaces false ++ map is_mark second ≡ threes =
-      ap (λ ms. replicate spaces false ++ ms) past ∙ sym (append_assoc (replicate spaces false) (replicate other_point_at false) (true ∷ fours))
-      ∙ ap (λ ms. ms ++ true ∷ fours) (replicate-append-replicate spaces other_point_at false) in
-      let whole : map is_mark piece ≡ replicate point_at false ++ true ∷ twos =
-      marks_are piece u.comma_at comma u.one comma (omega arith) refl
-      ∙ ap (λ ms. replicate point_at false ++ true ∷ (replicate places false ++ true ∷ ms)) (marks_between long ∙ joined) in
-      let k : ℕ = 48 - (point_at + 1) in
-      let l : ℕ = k - (places + 1) in
-      let m : ℕ = l - (spaces + other_point_at + 1) in (
-        take (m - (other_places + ends + 1)) end,
-        sym (take-map is_mark 48 piece) ∙ ap (take 48) whole ∙ take_past 48 point_at twos (omega arith)
-            ∙ ap (λ ms. replicate point_at false ++ true ∷ ms) (take_past k places threes (omega arith)
-            ∙ ap (λ ms. replicate places false ++ true ∷ ms) (take_past l (spaces + other_point_at) fours (omega arith)
-            ∙ ap (λ ms. replicate (spaces + other_point_at) false ++ true ∷ ms) (take_past m (other_places + ends) end (omega arith)))),
+      let past : map is_mark second ≡ number_marks other.pointed other_point_at (other_places + ends) end =
+      marks_past form.integers second u.length_other behind other comma (omega arith) ends bytes_after (ap is_mark comma_follows) (omega arith) in
+      let joined : replicate spaces false ++ map is_mark second ≡ more =
+      ap (λ ms. replicate spaces false ++ ms) past ∙ marks_after other.pointed spaces other_point_at (other_places + ends) end in
+      let whole : map is_mark piece ≡ number_marks one.pointed point_at places more =
+      marks_are form.integers piece u.comma_at comma one comma (omega arith) refl
+      ∙ ap (number_marks one.pointed point_at places) (marks_between long ∙ joined) in
+      let k : ℕ = 48 - (end_of one.pointed point_at places + 1) in (
+        take (k - (end_of other.pointed (spaces + other_point_at) (other_places + ends) + 1)) end,
+        sym (take-map is_mark 48 piece) ∙ ap (take 48) whole ∙ take_marks one.pointed 48 point_at places more (omega arith)
+            ∙ ap (number_marks one.pointed point_at places)
+            (take_marks other.pointed k (spaces + other_point_at) (other_places + ends) end (omega arith)),
       )
 
-  -- the third mark counts from the start
-  pub first_point : get_or piece point_at 0 ≡ decimal_point
-  first_point =
-      let d = digits piece u.comma_at comma u.one in
-      sym (get_or-drop (bool_byte (negative piece u.comma_at comma u.one)) piece (before piece u.comma_at comma u.one) 0) ∙ d.point
+  pub first_mark : IsFirstMark form.integers one.pointed comma (get_or piece (point_of one.pointed point_at places) 0)
+  first_mark =
+      let P : ℕ → Type 0 = λ b. IsFirstMark form.integers one.pointed comma (get_or piece (point_of one.pointed point_at b) 0) in
+      let no_more : places + 0 ≡ places = omega arith in
+      subst P no_more (mark_there form.integers piece u.comma_at comma one comma 0
+      (ap (λ k. get_or piece k 0) {x = u.comma_at + 0} {y = u.comma_at} (omega arith) ∙ one.ends))
 
-  pub second_point : get_or piece (point_at + 1 + places + 1 + (spaces + other_point_at)) 0 ≡ decimal_point
-  second_point =
-      let d = digits second u.length_other behind u.other in
-      let l = length_is piece u.comma_at comma u.one in
-      let s : ℕ = bool_byte (negative second u.length_other behind u.other) in
-      let there : second_at + (s + before second u.length_other behind u.other) ≡ point_at + 1 + places + 1 + (spaces + other_point_at) = omega arith in
-      ap (λ k. get_or piece k 0) (sym there) ∙ sym (get_or-drop second_at piece (s + before second u.length_other behind u.other) 0)
-      ∙ sym (get_or-drop s second (before second u.length_other behind u.other) 0) ∙ d.point
+  -- it counts from the start of the piece
+  pub second_mark : IsFirstMark form.integers other.pointed comma
+      (get_or piece (end_of one.pointed point_at places + 1 + point_of other.pointed (spaces + other_point_at) (other_places + ends)) 0)
+  second_mark =
+      let P : ℕ → Type 0 = λ b. IsFirstMark form.integers other.pointed comma b in
+      let l = size_one in
+      let m = point_after other.pointed spaces other_point_at (other_places + ends) in
+      let at : ℕ = point_of other.pointed other_point_at (other_places + ends) in
+      let there : get_or second at 0
+      ≡ get_or piece (end_of one.pointed point_at places + 1 + point_of other.pointed (spaces + other_point_at) (other_places + ends)) 0 =
+      get_or-drop second_at piece at 0
+      ∙ ap (λ k. get_or piece k 0) {x = second_at + at}
+      {y = end_of one.pointed point_at places + 1 + point_of other.pointed (spaces + other_point_at) (other_places + ends)} (omega arith) in
+      subst P there (mark_there form.integers second u.length_other behind other comma ends comma_follows)
 
   module _ (point comma_is other_point next end_is behind_is : ℕ)
-      (h : HasMarks point comma_is other_point next point_at places (spaces + other_point_at) (other_places + ends))
+      (h : HasMarks point comma_is other_point next one.pointed point_at places other.pointed (spaces + other_point_at) (other_places + ends))
       (before_next : end_is ≡ (next + (18446744073709551616 - ends)) % 18446744073709551616) (few_next : next ≤ 64)
       (behind_same : behind_is ≡ behind) where
     comma_there : u.comma_at ≡ comma_is
-    comma_there = let a = h.comma_is in let l = length_is piece u.comma_at comma u.one in omega arith
+    comma_there = let a = h.comma_is in let l = size_one in omega arith
 
     pub second_there : second_at ≡ second_after form comma_is
     second_there = ap (second_after form) comma_there
@@ -351,37 +495,57 @@ module _ (piece : List ℕ) (form : PairForm) (u : StartsUsualCuts piece form) w
     pub space_there : IsTrue form.spaced → get_or piece (comma_is + 1) 0 ≡ space
     space_there spaced = ap (λ k. get_or piece (k + 1) 0) (sym comma_there) ∙ u.between spaced
 
-    one_point : point ≡ 0 + bool_byte (negative piece u.comma_at comma u.one) + before piece u.comma_at comma u.one
-    one_point = let a = h.point_is in omega arith
+    one_point : one.pointed ≡ true → point ≡ 0 + point_at
+    one_point t = h.point_is ∙ ap (λ p. point_of p point_at places) t ∙ omega arith
 
-    one_end : comma_is ≡ point + 1 + places
-    one_end = let a = h.point_is in let b = h.comma_is in omega arith
+    one_end : comma_is ≡ 0 + u.comma_at
+    one_end = let a = comma_there in omega arith
 
-    other_from : other_point ≡ second_at + bool_byte (negative second u.length_other behind u.other) + before second u.length_other behind u.other
-    other_from = let a = comma_there in let b = h.comma_is in let d = h.other_point_is in omega arith
+    other_from : other.pointed ≡ true → other_point ≡ second_at + other_point_at
+    other_from t =
+        let l = size_one in
+        h.other_point_is ∙ ap (λ p. end_of one.pointed point_at places + 1 + point_of p (spaces + other_point_at) (other_places + ends)) t ∙ omega arith
 
-    other_end : end_is ≡ other_point + 1 + other_places
-    other_end = let a = h.other_point_is in let b = h.next_is in let few = few_ends form.after in omega arith
+    other_end : end_is ≡ second_at + u.length_other
+    other_end = let l = size_one in let m = size_other in let a = h.next_is in let few = few_ends form.after in omega arith
 
-    -- a point is before the mark of the byte after the number
-    pub before_mark : (point ≡ comma_is → ⊥) × (other_point ≡ next → ⊥)
-    before_mark = let a = h.point_is in let b = h.comma_is in let d = h.other_point_is in let e = h.next_is in (λ z. omega arith, λ z. omega arith)
+    -- an integer is told by its marks
+    pub one_integer : (integer : Bool) → ((point ≡ comma_is → ⊥) → integer ≡ false) → (IsTrue form.integers → point ≡ comma_is → integer ≡ true)
+        → integer ≡ not one.pointed
+    one_integer integer other_mark same_mark =
+        let a = h.point_is in
+        let b = h.comma_is in
+        integer_is one.pointed form.integers integer 0 point_at places point comma_is (omega arith) (omega arith)
+        (integers_may form.integers piece u.comma_at comma one) other_mark same_mark
 
-    pub one_span : IsMarkedSpan piece 0 point comma_is comma
-    one_span = span_at piece 0 point comma_is u.comma_at comma u.one one_point one_end
+    pub other_integer : (integer : Bool) → ((other_point ≡ next → ⊥) → integer ≡ false) → (IsTrue form.integers → other_point ≡ next → integer ≡ true)
+        → integer ≡ not other.pointed
+    other_integer integer other_mark same_mark =
+        integer_is other.pointed form.integers integer (end_of one.pointed point_at places + 1) (spaces + other_point_at) (other_places + ends) other_point next
+        h.other_point_is h.next_is (integers_may form.integers second u.length_other behind other) other_mark same_mark
 
-    pub other_span : IsMarkedSpan piece (second_after form comma_is) other_point end_is behind_is
-    other_span =
-        let P : ℕ → ℕ → Type 0 = λ at b. IsMarkedSpan piece at other_point end_is b in
-        subst (P (second_after form comma_is)) (sym behind_same)
-        (subst (λ at. P at behind) second_there (span_at piece second_at other_point end_is u.length_other behind u.other other_from other_end))
+    pub one_span : (integer : Bool) → integer ≡ not one.pointed → IsMarked integer piece 0 point comma_is comma
+    one_span integer is =
+        let P : Bool → Type 0 = λ b. IsMarked b piece 0 point comma_is comma in
+        subst P (sym is) (span_at form.integers piece 0 point comma_is u.comma_at comma one one_point one_end)
 
-    pub one_usual : (minus : Bool) (span : Span) → IsSpan piece 0 minus span comma_is comma → point ≡ span.first + span.natural → IsUsualSpan piece span
-    one_usual minus span = usual_span piece 0 point comma_is u.comma_at comma u.one one_point one_end minus span
+    pub other_span : (integer : Bool) → integer ≡ not other.pointed → IsMarked integer piece (second_after form comma_is) other_point end_is behind_is
+    other_span integer is =
+        let P : ℕ → ℕ → Type 0 = λ at b. IsMarked integer piece at other_point end_is b in
+        let Q : Bool → Type 0 = λ b. IsMarked b piece second_at other_point end_is behind in
+        subst (P (second_after form comma_is)) (sym behind_same) (subst (λ at. P at behind) second_there
+        (subst Q (sym is) (span_at form.integers piece second_at other_point end_is u.length_other behind other other_from other_end)))
 
-    pub other_usual : (minus : Bool) (span : Span) → IsSpan piece (second_after form comma_is) minus span end_is behind_is
-        → other_point ≡ span.first + span.natural → IsUsualSpan piece span
-    other_usual minus span t there =
+    pub one_usual : (integer : Bool) → integer ≡ not one.pointed → (minus : Bool) (span : Span) → IsSpan piece 0 minus span comma_is comma
+        → IsCounted integer point span → IsUsualSpan piece span
+    one_usual integer is minus span s counted =
+        let P : Bool → Type 0 = λ b. IsCounted b point span in
+        usual_span form.integers piece 0 point comma_is u.comma_at comma one one_point one_end minus span s (subst P is counted)
+
+    pub other_usual : (integer : Bool) → integer ≡ not other.pointed → (minus : Bool) (span : Span)
+        → IsSpan piece (second_after form comma_is) minus span end_is behind_is → IsCounted integer other_point span → IsUsualSpan piece span
+    other_usual integer is minus span t counted =
         let P : ℕ → ℕ → Type 0 = λ at b. IsSpan piece at minus span end_is b in
-        usual_span piece second_at other_point end_is u.length_other behind u.other other_from other_end minus span
-        (subst (P second_at) behind_same (subst (λ at. P at behind_is) (sym second_there) t)) there
+        let Q : Bool → Type 0 = λ b. IsCounted b other_point span in
+        usual_span form.integers piece second_at other_point end_is u.length_other behind other other_from other_end minus span
+        (subst (P second_at) behind_same (subst (λ at. P at behind_is) (sym second_there) t)) (subst Q is counted)

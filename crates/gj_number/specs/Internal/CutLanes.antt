@@ -1,5 +1,5 @@
 -- The digits of a number in lanes from which its cut value is read.
-use Rattle.std.specs.Prelude.{◌≡◌, ℕ, ◌+◌, ◌-◌, ◌*◌, ◌<◌, ◌≤◌, ◌⊎◌, Bool, true, false, ◌==◌, ◌||◌, List, [], ◌∷◌, ◌++◌, length, take, drop, get_or}
+use Rattle.std.specs.Prelude.{◌≡◌, ℕ, ◌+◌, ◌-◌, ◌*◌, ◌<◌, ◌≤◌, ◌⊎◌, Bool, IsTrue, true, false, ◌==◌, ◌||◌, List, [], ◌∷◌, ◌++◌, length, take, drop, get_or}
 use Rattle.std.specs.Prelude.{replicate}
 use Rattle.std.specs.List.{fold}
 use Rattle.std.specs.Simd.Lanes.{pick_l}
@@ -8,7 +8,7 @@ use Rattle.gj_number.specs.Bytes.{comma, minus_sign, decimal_point, zero_digit, 
 use Rattle.gj_number.specs.Cuts.{IsCut}
 use Rattle.gj_number.specs.Short.{exact_of, StartsWithNumber}
 use Rattle.gj_number.specs.Internal.DigitLanes.{with_value}
-use Rattle.gj_number.specs.Internal.DigitRuns.{IsPointed, StartsSigned}
+use Rattle.gj_number.specs.Internal.DigitRuns.{IsPointed, IsRun, StartsSigned}
 use Rattle.gj_number.specs.declared.short.Short.{Short}
 use Rattle.gj_number.specs.declared.short.cuts.Cut.{Cut}
 use Rattle.gj_number.specs.declared.short.cuts.Span.{Span}
@@ -75,8 +75,14 @@ pub record IsSpan (piece : List ℕ) (at : ℕ) (negative : Bool) (span : Span) 
 
 -- These bytes are digits, and each of them is in a lane.
 pub record IsUsualSpan (piece : List ℕ) (span : Span) : Type 0 where
-  pub pointed : IsPointed (drop span.first piece) span.natural span.fraction
+  pub digits : IsPointed (drop span.first piece) span.natural span.fraction
+      ⊎ ((span.natural ≡ 0) × (0 < span.fraction) × (span.fraction ≤ 3) × IsRun (drop span.first piece) span.fraction)
   pub few : span.fraction ≤ 12
+
+-- The bytes are counted as those of an integer, or as those before a point at this index.
+abbrev pub IsCounted : Bool → ℕ → Span → Type 0
+IsCounted true point span = span.natural ≡ 0
+IsCounted false point span = point ≡ span.first + span.natural
 
 -- An ordinary number stands in a piece from an index to another, and has this cut value.
 pub record HasCut (piece : List ℕ) (at end : ℕ) (cut : Cut) : Type 0 where
@@ -97,21 +103,40 @@ is_mark_by behind b = b == behind || b == decimal_point
 abbrev pub is_mark : ℕ → Bool
 is_mark b = is_mark_by comma b
 
--- after so many bytes a mark, after so many more another, and so on, to four of them
-abbrev pub AreMarks : List Bool → ℕ → ℕ → ℕ → ℕ → Type 0
-AreMarks marks a b c d = (rest : List Bool)
-    × (marks ≡ replicate a false ++ true ∷ (replicate b false ++ true ∷ (replicate c false ++ true ∷ (replicate d false ++ true ∷ rest))))
+-- The marks of a number, and then these: so many bytes stand before its point and so many after it, and then the byte after the
+-- number. An integer has the mark of the latter alone.
+abbrev pub number_marks : Bool → ℕ → ℕ → List Bool → List Bool
+number_marks true a b marks = replicate a false ++ true ∷ (replicate b false ++ true ∷ marks)
+number_marks false a b marks = replicate (a + b) false ++ true ∷ marks
 
--- the same of two marks
-abbrev pub AreTwoMarks : List Bool → ℕ → ℕ → Type 0
-AreTwoMarks marks a b = (rest : List Bool) × (marks ≡ replicate a false ++ true ∷ (replicate b false ++ true ∷ rest))
+-- the index of the first of them
+abbrev pub point_of : Bool → ℕ → ℕ → ℕ
+point_of true a b = a
+point_of false a b = a + b
 
--- the indices of the first four marks
-pub record HasMarks (point comma other_point next a b c d : ℕ) : Type 0 where
-  pub point_is : point ≡ a
-  pub comma_is : comma ≡ a + 1 + b
-  pub other_point_is : other_point ≡ a + 1 + b + 1 + c
-  pub next_is : next ≡ a + 1 + b + 1 + c + 1 + d
+-- the index of the last of them
+abbrev pub end_of : Bool → ℕ → ℕ → ℕ
+end_of pointed a b = a + bool_byte pointed + b
+
+-- The byte at the first of them: an integer stands only where integers may.
+abbrev pub IsFirstMark : Bool → Bool → ℕ → ℕ → Type 0
+IsFirstMark integers true behind b = b ≡ decimal_point
+IsFirstMark integers false behind b = IsTrue integers × (b ≡ behind)
+
+-- the marks of two numbers
+abbrev pub AreMarks : List Bool → Bool → ℕ → ℕ → Bool → ℕ → ℕ → Type 0
+AreMarks marks one a b other c d = (rest : List Bool) × (marks ≡ number_marks one a b (number_marks other c d rest))
+
+-- the marks of one
+abbrev pub AreTwoMarks : List Bool → Bool → ℕ → ℕ → Type 0
+AreTwoMarks marks one a b = (rest : List Bool) × (marks ≡ number_marks one a b rest)
+
+-- the indices of the first marks of two numbers and of the last
+pub record HasMarks (point comma other_point next : ℕ) (one : Bool) (a b : ℕ) (other : Bool) (c d : ℕ) : Type 0 where
+  pub point_is : point ≡ point_of one a b
+  pub comma_is : comma ≡ end_of one a b
+  pub other_point_is : other_point ≡ end_of one a b + 1 + point_of other c d
+  pub next_is : next ≡ end_of one a b + 1 + end_of other c d
 
 -- A number stands in a piece from an index on, with its point and the byte after it at these indices.
 pub record IsMarkedSpan (piece : List ℕ) (at point end behind : ℕ) : Type 0 where
@@ -127,3 +152,18 @@ pub record IsMarkedSpan (piece : List ℕ) (at point end behind : ℕ) : Type 0 
   pub ends : get_or piece end 0 ≡ behind
   pub lead : zero_digit ≤ get_or piece (at + bool_byte (get_or piece at 0 == minus_sign)) 0
   pub one : get_or piece (at + bool_byte (get_or piece at 0 == minus_sign)) 0 ≡ zero_digit → natural ≡ 1
+
+-- An integer stands in a piece from an index on, and ends before another, where this byte stands.
+pub record IsMarkedInteger (piece : List ℕ) (at end behind : ℕ) : Type 0 where
+  pub natural : ℕ
+  pub some : 0 < natural
+  pub few : natural ≤ 3
+  pub end_is : end ≡ at + bool_byte (get_or piece at 0 == minus_sign) + natural
+  pub ends : get_or piece end 0 ≡ behind
+  pub lead : zero_digit ≤ get_or piece (at + bool_byte (get_or piece at 0 == minus_sign)) 0
+  pub one : get_or piece (at + bool_byte (get_or piece at 0 == minus_sign)) 0 ≡ zero_digit → natural ≡ 1
+
+-- an integer, or a number with its point
+abbrev pub IsMarked : Bool → List ℕ → ℕ → ℕ → ℕ → ℕ → Type 0
+IsMarked true piece at point end behind = IsMarkedInteger piece at end behind
+IsMarked false piece at point end behind = IsMarkedSpan piece at point end behind

@@ -3,14 +3,14 @@
 //! A bit for each byte that is a comma or a point says where the parts of two numbers end, if two numbers stand there.
 //! What does stand there is checked after that.
 ghost use mir.Val.{bool_byte};
-ghost use Rattle.std.specs.Prelude.{◌≡◌, ◌==◌, ℕ, ◌+◌, ◌*◌, ◌^◌, ◌<◌, ◌≤◌, ◌↔◌, ◌⊎◌, true, false, get_or, length, map, take, drop, IsTrue, IfSome};
+ghost use Rattle.std.specs.Prelude.{◌≡◌, ◌==◌, ℕ, ◌+◌, ◌*◌, ◌^◌, ◌<◌, ◌≤◌, ◌↔◌, ◌⊎◌, Bool, true, false, get_or, length, map, take, drop, IsTrue, IfSome};
 ghost use Rattle.std.specs.Simd.Lanes.{mask_l};
 ghost use Rattle.std.specs.Option.{IsSome};
-ghost use Rattle.gj_number.specs.Bytes.{space, zero_digit, decimal_point};
+ghost use Rattle.gj_number.specs.Bytes.{comma, space, zero_digit, decimal_point};
 ghost use Rattle.gj_number.specs.Cuts.{StartsWithCutPair, StartsUsualCuts, second_after};
 ghost use Rattle.gj_number.specs.Internal.DigitRuns.{StartsSigned};
-ghost use Rattle.gj_number.specs.Internal.CutLanes.{is_mark, is_mark_by, AreMarks, HasCut, HasMarks};
-ghost use Rattle.gj_number.specs.Internal.CutLanes.{IsMarkedSpan, IsSpan, IsUnsignedSpan, IsUsualSpan, IsWhole};
+ghost use Rattle.gj_number.specs.Internal.CutLanes.{end_of, is_mark, is_mark_by, point_of, AreMarks, HasCut, HasMarks, IsCounted, IsFirstMark};
+ghost use Rattle.gj_number.specs.Internal.CutLanes.{IsMarked, IsMarkedInteger, IsMarkedSpan, IsSpan, IsUnsignedSpan, IsUsualSpan, IsWhole};
 ghost use Rattle.gj_number.specs.Internal.NumberMachine.{class_of};
 ghost use Rattle.gj_number.specs.declared.state.Class.TheVariants.{Other};
 
@@ -132,7 +132,9 @@ pub(super) fn without_lowest(bits: u64) -> u64
 #[inline(always)]
 pub(super) fn after_point(piece: &[u8], marks: u64, behind: u8, integers: bool) -> u64
     requires { behind < decimal_point }
-    ensures { (k rest : ℕ) → marks ≡ (1 + 2 * rest) * 2 ^ k → get_or piece.now k 0 ≡ decimal_point → result ≡ rest * 2 ^ (k + 1) }
+    ensures point { (k rest : ℕ) → marks ≡ (1 + 2 * rest) * 2 ^ k → get_or piece.now k 0 ≡ decimal_point → result ≡ rest * 2 ^ (k + 1) }
+    ensures integer { (k rest : ℕ) → marks ≡ (1 + 2 * rest) * 2 ^ k → k < length piece.now → IsTrue integers → get_or piece.now k 0 ≡ behind
+        → result ≡ marks }
 {
     let lowest = marks.trailing_zeros() as usize;
     if integers && lowest < piece.len() && piece[lowest] == behind {
@@ -150,8 +152,10 @@ fn first_marks(piece: &[u8], integers: bool) -> Marks
     ensures comma { result.comma ≤ 64 }
     ensures other_point { result.other_point ≤ 64 }
     ensures next { result.next ≤ 64 }
-    ensures first { (a b c d : ℕ) → AreMarks (map is_mark (take 48 piece.now)) a b c d → get_or piece.now a 0 ≡ decimal_point
-        → get_or piece.now (a + 1 + b + 1 + c) 0 ≡ decimal_point → HasMarks result.point result.comma result.other_point result.next a b c d }
+    ensures first { (one other : Bool) (a b c d : ℕ) → AreMarks (map is_mark (take 48 piece.now)) one a b other c d
+        → IsFirstMark integers one comma (get_or piece.now (point_of one a b) 0)
+        → IsFirstMark integers other comma (get_or piece.now (end_of one a b + 1 + point_of other c d) 0)
+        → HasMarks result.point result.comma result.other_point result.next one a b other c d }
 {
     let marks = marks_at(piece, 0, b',')
         | (marks_at(piece, 16, b',') << 16)
@@ -236,7 +240,9 @@ fn span_between(
 fn integer_before(piece: &[u8], at: usize, negative: bool, end: usize, behind: u8) -> Option<Span>
     requires at { at ≤ 64 }
     requires room { at + 33 ≤ length piece.now }
-    ensures { IfSome result (λ span. IsSpan piece.now at negative span end behind) }
+    ensures integer { IfSome result (λ span. span.natural ≡ 0) }
+    ensures span { IfSome result (λ span. IsSpan piece.now at negative span end behind) }
+    ensures taken { IsMarkedInteger piece.now at end behind → StartsSigned (drop at piece.now) negative → IsSome result }
 {
     let Some(first) = after_sign(piece, at, negative) else {
         return None;
@@ -258,7 +264,8 @@ fn integer_before(piece: &[u8], at: usize, negative: bool, end: usize, behind: u
 /// Whether the mark of a number's point is the one after the number, so that the number is an integer, if there may be one.
 #[inline(always)]
 pub(super) fn shares_mark(integers: bool, point: usize, next: usize) -> bool
-    ensures { (point ≡ next → ⊥) → result ≡ false }
+    ensures pointed { (point ≡ next → ⊥) → result ≡ false }
+    ensures integer { IsTrue integers → point ≡ next → result ≡ true }
 {
     integers && point == next
 }
@@ -277,9 +284,9 @@ pub(super) fn span_before(
     requires at { at ≤ 64 }
     requires room { at + 33 ≤ length piece.now }
     requires point { point ≤ 128 }
-    ensures point { IfSome result (λ span. integer ≡ false → point ≡ span.first + span.natural) }
+    ensures counted { IfSome result (λ span. IsCounted integer point span) }
     ensures span { IfSome result (λ span. IsSpan piece.now at negative span end behind) }
-    ensures taken { integer ≡ false → IsMarkedSpan piece.now at point end behind → StartsSigned (drop at piece.now) negative → IsSome result }
+    ensures taken { IsMarked integer piece.now at point end behind → StartsSigned (drop at piece.now) negative → IsSome result }
 {
     if integer {
         integer_before(piece, at, negative, end, behind)

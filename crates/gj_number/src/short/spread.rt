@@ -1,10 +1,10 @@
 //! Two numbers on a line each, read as their cut values.
-ghost use Rattle.std.specs.Prelude.{◌≡◌, ℕ, ◌+◌, ◌≤◌, ◌<◌, get_or, length, map, take, drop, IfSome};
+ghost use Rattle.std.specs.Prelude.{◌≡◌, ℕ, Bool, ◌+◌, ◌≤◌, ◌<◌, get_or, length, map, take, drop, IfSome};
 ghost use Rattle.std.specs.Option.{IsSome};
 ghost use Rattle.gj_number.specs.Bytes.{decimal_point};
 ghost use Rattle.gj_number.specs.Cuts.{StartsWithSpreadPair, StartsUsualSpread};
 ghost use Rattle.gj_number.specs.Internal.DigitRuns.{StartsSigned};
-ghost use Rattle.gj_number.specs.Internal.CutLanes.{is_mark_by, AreTwoMarks};
+ghost use Rattle.gj_number.specs.Internal.CutLanes.{end_of, is_mark_by, point_of, AreTwoMarks, IsFirstMark};
 
 use super::cuts::{CutPair, Signs, after_point, cuts_before, marks_at, shares_mark, span_before};
 
@@ -24,8 +24,9 @@ fn first_ends(piece: &[u8], at: usize, behind: u8, integers: bool) -> Ends
     requires behind { behind < decimal_point }
     ensures point { result.point ≤ at + 64 }
     ensures end { result.end ≤ at + 64 }
-    ensures first { (a b : ℕ) → AreTwoMarks (map (is_mark_by behind) (take 32 (drop at piece.now))) a b
-        → get_or piece.now (at + a) 0 ≡ decimal_point → (result.point ≡ at + a) × (result.end ≡ at + a + 1 + b) }
+    ensures first { (one : Bool) (a b : ℕ) → AreTwoMarks (map (is_mark_by behind) (take 32 (drop at piece.now))) one a b
+        → IsFirstMark integers one behind (get_or piece.now (at + point_of one a b) 0)
+        → (result.point ≡ at + point_of one a b) × (result.end ≡ at + end_of one a b) }
 {
     let marks = marks_at(piece, at, behind) | (marks_at(piece, at + 16, behind) << 16);
     Ends {
@@ -43,7 +44,7 @@ pub fn read_spread_pair(piece: &[u8], signs: Signs, gap: usize, integers: bool) 
     requires gap { gap ≤ 32 }
     ensures numbers { IfSome result (λ pair. StartsWithSpreadPair piece.now gap pair) }
     ensures near { IfSome result (λ pair. pair.end < 80) }
-    ensures taken { (usual : StartsUsualSpread piece.now gap) → StartsSigned piece.now signs.first
+    ensures taken { (usual : StartsUsualSpread piece.now gap integers) → StartsSigned piece.now signs.first
         → StartsSigned (drop (usual.comma_at + 1 + gap) piece.now) signs.second → IsSome result }
 {
     let ends = first_ends(piece, 0, b',', integers);

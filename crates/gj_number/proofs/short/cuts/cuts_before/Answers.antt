@@ -27,8 +27,10 @@ returns-clause-second c at behind s other =
 
 pub returns-then-not-are_digits-clause-taken : goal.returns-then-not-are_digits-clause-taken
 returns-then-not-are_digits-clause-taken c = λ one other.
-    let first = usual_small c.args.piece.now c.type_inv.piece c.args.one c.args.comma c.requires.one _ c.placed_digits-first.ensures.digits one in
-    let second = usual_small c.args.piece.now c.type_inv.piece c.args.other c.args.end c.requires.other _ c.placed_digits-second.ensures.digits other in
+    let p = c.placed_digits-first.ensures in
+    let q = c.placed_digits-second.ensures in
+    let first = usual_small c.args.piece.now c.type_inv.piece c.args.one c.args.comma c.requires.one _ p.digits p.integer one in
+    let second = usual_small c.args.piece.now c.type_inv.piece c.args.other c.args.end c.requires.other _ q.digits q.integer other in
     let yes = c.are_digits.ensures.taken first second in
     let no = c.if-not-are_digits.true in
     cc

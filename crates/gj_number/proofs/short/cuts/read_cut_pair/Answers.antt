@@ -5,7 +5,7 @@ use Rattle.gj_number.specs.Internal.NumberMachine.{class_of}
 use Rattle.gj_number.specs.Internal.DigitRuns.{StartsSigned}
 use Rattle.gj_number.proofs.Shorts.CutPairs.{after_other, span_on}
 use Rattle.gj_number.proofs.Shorts.NumberPairs.{comma_other}
-use Rattle.gj_number.proofs.Shorts.UsualMarks.{pair_marks, first_point, second_point, before_mark, one_span}
+use Rattle.gj_number.proofs.Shorts.UsualMarks.{pair_marks, first_mark, second_mark, one_integer, other_integer, one_span}
 use Rattle.gj_number.proofs.Shorts.UsualMarks.{other_span, one_usual, other_usual, second_there, space_there}
 use Rattle.gj_number.proofs.short.cuts.read_cut_pair.Goals as goal
 
@@ -40,19 +40,20 @@ returns-in_default-clause-taken c = λ u sign other_sign.
     let piece = c.args.piece.now in
     let form = c.args.form in
     let marks = c.first_marks-marks.result in
-    let h = c.first_marks-marks.ensures.first _ _ _ _ (pair_marks piece form u (omega (arith, c.requires))) (first_point piece form u)
-    (second_point piece form u) in
+    let h = c.first_marks-marks.ensures.first _ _ _ _ _ _ (pair_marks piece form u (omega (arith, c.requires))) (first_mark piece form u)
+    (second_mark piece form u) in
     let few = c.first_marks-marks.ensures.next in
-    let is = c.shares_mark-integer.ensures (before_mark piece form u _ _ _ _ _ _ h refl few refl).0 in
-    c.in_default.ensures.taken is (one_span piece form u _ _ _ _ _ _ h refl few refl) sign
+    let told = c.shares_mark-integer.ensures in
+    let is = one_integer piece form u _ _ _ _ _ _ h refl few refl c.shares_mark-integer.result told.pointed told.integer in
+    c.in_default.ensures.taken (one_span piece form u _ _ _ _ _ _ h refl few refl _ is) sign
 
 pub returns-then-not-is_spaced-clause-taken : goal.returns-then-not-is_spaced-clause-taken
 returns-then-not-is_spaced-clause-taken c = λ u sign other_sign.
     let piece = c.args.piece.now in
     let form = c.args.form in
     let marks = c.first_marks-marks.result in
-    let h = c.first_marks-marks.ensures.first _ _ _ _ (pair_marks piece form u (omega (arith, c.requires))) (first_point piece form u)
-    (second_point piece form u) in
+    let h = c.first_marks-marks.ensures.first _ _ _ _ _ _ (pair_marks piece form u (omega (arith, c.requires))) (first_mark piece form u)
+    (second_mark piece form u) in
     let few = c.first_marks-marks.ensures.next in
     let yes = c.is_spaced.ensures.1 (space_there piece form u _ _ _ _ _ _ h refl few refl) in
     let no = c.if-not-is_spaced.true in
@@ -63,12 +64,14 @@ returns-in_default-span_before-clause-taken c = λ u sign other_sign.
     let piece = c.args.piece.now in
     let form = c.args.form in
     let marks = c.first_marks-marks.result in
-    let h = c.first_marks-marks.ensures.first _ _ _ _ (pair_marks piece form u (omega (arith, c.requires))) (first_point piece form u)
-    (second_point piece form u) in
+    let h = c.first_marks-marks.ensures.first _ _ _ _ _ _ (pair_marks piece form u (omega (arith, c.requires))) (first_mark piece form u)
+    (second_mark piece form u) in
     let few = c.first_marks-marks.ensures.next in
     let end = ap (end_before marks.next) c.before_comma.ensures in
-    let is = c.shares_mark-other_integer.ensures (before_mark piece form u _ _ _ _ _ _ h end few c.byte-behind.ensures).1 in
-    c.in_default-span_before.ensures.taken is (other_span piece form u _ _ _ _ _ _ h end few c.byte-behind.ensures)
+    let other_told = c.shares_mark-other_integer.ensures in
+    let other_is =
+    other_integer piece form u _ _ _ _ _ _ h end few c.byte-behind.ensures c.shares_mark-other_integer.result other_told.pointed other_told.integer in
+    c.in_default-span_before.ensures.taken (other_span piece form u _ _ _ _ _ _ h end few c.byte-behind.ensures _ other_is)
     (let P : ℕ → Type 0 = λ k. StartsSigned (drop k piece) c.args.signs.second in
     subst P (second_there piece form u _ _ _ _ _ _ h end few c.byte-behind.ensures) other_sign)
 
@@ -77,13 +80,16 @@ returns-in_default-cuts_before-clause-taken c = λ u sign other_sign.
     let piece = c.args.piece.now in
     let form = c.args.form in
     let marks = c.first_marks-marks.result in
-    let h = c.first_marks-marks.ensures.first _ _ _ _ (pair_marks piece form u (omega (arith, c.requires))) (first_point piece form u)
-    (second_point piece form u) in
+    let h = c.first_marks-marks.ensures.first _ _ _ _ _ _ (pair_marks piece form u (omega (arith, c.requires))) (first_mark piece form u)
+    (second_mark piece form u) in
     let few = c.first_marks-marks.ensures.next in
+    let told = c.shares_mark-integer.ensures in
+    let is = one_integer piece form u _ _ _ _ _ _ h refl few refl c.shares_mark-integer.result told.pointed told.integer in
     let end = ap (end_before marks.next) c.before_comma.ensures in
-    let before = before_mark piece form u _ _ _ _ _ _ h end few c.byte-behind.ensures in
+    let other_told = c.shares_mark-other_integer.ensures in
+    let other_is =
+    other_integer piece form u _ _ _ _ _ _ h end few c.byte-behind.ensures c.shares_mark-other_integer.result other_told.pointed other_told.integer in
     c.in_default-cuts_before.ensures.taken
-    (one_usual piece form u _ _ _ _ _ _ h end few c.byte-behind.ensures _ _ c.in-Some.ensures.span
-    (c.in-Some.ensures.point (c.shares_mark-integer.ensures before.0)))
-    (other_usual piece form u _ _ _ _ _ _ h end few c.byte-behind.ensures _ _ c.in-Some-span_before.ensures.span
-    (c.in-Some-span_before.ensures.point (c.shares_mark-other_integer.ensures before.1)))
+    (one_usual piece form u _ _ _ _ _ _ h end few c.byte-behind.ensures _ is _ _ c.in-Some.ensures.span c.in-Some.ensures.counted)
+    (other_usual piece form u _ _ _ _ _ _ h end few c.byte-behind.ensures _ other_is _ _ c.in-Some-span_before.ensures.span
+    c.in-Some-span_before.ensures.counted)

@@ -2,7 +2,7 @@ use Rattle.std.proofs.Common.{◌+◌, ℕ, subst, arith}
 use Rattle.gj_number.specs.Short.{exact_of, StartsWithNumber}
 use Rattle.gj_number.proofs.Shorts.CutPairs.{line_feed_other, span_on}
 use Rattle.gj_number.proofs.Shorts.NumberPairs.{comma_other}
-use Rattle.gj_number.proofs.Shorts.UsualSpreads.{two_marks, point_there, before_end, marked_span, is_usual, other_usual, other_signed}
+use Rattle.gj_number.proofs.Shorts.UsualSpreads.{two_marks, first_mark, is_integer, marked_span, is_usual, one, other, other_signed}
 use Rattle.gj_number.proofs.short.spread.read_spread_pair.Goals as goal
 
 pub returns-clause-numbers : goal.returns-clause-numbers
@@ -31,40 +31,56 @@ returns-clause-numbers c =
 pub returns-in_default-clause-taken : goal.returns-in_default-clause-taken
 returns-in_default-clause-taken c = λ u sign other_sign.
     let piece = c.args.piece.now in
+    let may = c.args.integers in
     let ends = c.first_ends-ends.result in
-    let found = c.first_ends-ends.ensures.first _ _ (two_marks piece 0 u.comma_at 44 u.one (omega arith)) (point_there piece 0 u.comma_at 44 u.one) in
-    let is = c.shares_mark-integer.ensures (before_end piece 0 u.comma_at 44 u.one ends.point ends.end found) in
-    c.in_default.ensures.taken is (marked_span piece 0 u.comma_at 44 u.one ends.point ends.end found) sign
+    let number = one may piece c.args.gap u in
+    let found = c.first_ends-ends.ensures.first _ _ _ (two_marks may piece 0 u.comma_at 44 number (omega arith)) (first_mark may piece 0 u.comma_at 44 number) in
+    let told = c.shares_mark-integer.ensures in
+    let is =
+    is_integer may piece 0 u.comma_at 44 number ends.point ends.end found c.shares_mark-integer.result told.pointed told.integer in
+    c.in_default.ensures.taken (marked_span may piece 0 u.comma_at 44 number ends.point ends.end found _ is) sign
 
 pub returns-in_default-span_before-clause-taken : goal.returns-in_default-span_before-clause-taken
 returns-in_default-span_before-clause-taken c = λ u sign other_sign.
     let piece = c.args.piece.now in
-    let gap = c.args.gap in
+    let may = c.args.integers in
     let ends = c.first_ends-ends.result in
+    let number = one may piece c.args.gap u in
+    let found = c.first_ends-ends.ensures.first _ _ _ (two_marks may piece 0 u.comma_at 44 number (omega arith)) (first_mark may piece 0 u.comma_at 44 number) in
+    let gap = c.args.gap in
     let more = c.first_ends-other_ends.result in
-    let found = c.first_ends-ends.ensures.first _ _ (two_marks piece 0 u.comma_at 44 u.one (omega arith)) (point_there piece 0 u.comma_at 44 u.one) in
     let at : ℕ = ends.end + 1 + gap in
-    let usual = other_usual piece gap u ends.point ends.end found in
-    let more_found = c.first_ends-other_ends.ensures.first _ _ (two_marks piece at u.length_other 10 usual (omega arith))
-    (point_there piece at u.length_other 10 usual) in
-    let is = c.shares_mark-other_integer.ensures (before_end piece at u.length_other 10 usual more.point more.end more_found) in
-    c.in_default-span_before.ensures.taken is (marked_span piece at u.length_other 10 usual more.point more.end more_found)
-    (other_signed piece gap u ends.point ends.end found c.args.signs.second other_sign)
+    let second = other may piece gap u ends.point ends.end found in
+    let more_found = c.first_ends-other_ends.ensures.first _ _ _ (two_marks may piece at u.length_other 10 second (omega arith))
+    (first_mark may piece at u.length_other 10 second) in
+    let other_told = c.shares_mark-other_integer.ensures in
+    let other_is =
+    is_integer may piece at u.length_other 10 second more.point more.end more_found c.shares_mark-other_integer.result other_told.pointed
+    other_told.integer in
+    c.in_default-span_before.ensures.taken (marked_span may piece at u.length_other 10 second more.point more.end more_found _ other_is)
+    (other_signed may piece gap u ends.point ends.end found c.args.signs.second other_sign)
 
 pub returns-in_default-cuts_before-clause-taken : goal.returns-in_default-cuts_before-clause-taken
 returns-in_default-cuts_before-clause-taken c = λ u sign other_sign.
     let piece = c.args.piece.now in
-    let gap = c.args.gap in
+    let may = c.args.integers in
     let ends = c.first_ends-ends.result in
+    let number = one may piece c.args.gap u in
+    let found = c.first_ends-ends.ensures.first _ _ _ (two_marks may piece 0 u.comma_at 44 number (omega arith)) (first_mark may piece 0 u.comma_at 44 number) in
+    let told = c.shares_mark-integer.ensures in
+    let is =
+    is_integer may piece 0 u.comma_at 44 number ends.point ends.end found c.shares_mark-integer.result told.pointed told.integer in
+    let gap = c.args.gap in
     let more = c.first_ends-other_ends.result in
-    let found = c.first_ends-ends.ensures.first _ _ (two_marks piece 0 u.comma_at 44 u.one (omega arith)) (point_there piece 0 u.comma_at 44 u.one) in
     let at : ℕ = ends.end + 1 + gap in
-    let usual = other_usual piece gap u ends.point ends.end found in
-    let more_found = c.first_ends-other_ends.ensures.first _ _ (two_marks piece at u.length_other 10 usual (omega arith))
-    (point_there piece at u.length_other 10 usual) in
-    let is = c.shares_mark-integer.ensures (before_end piece 0 u.comma_at 44 u.one ends.point ends.end found) in
-    let other_is = c.shares_mark-other_integer.ensures (before_end piece at u.length_other 10 usual more.point more.end more_found) in
+    let second = other may piece gap u ends.point ends.end found in
+    let more_found = c.first_ends-other_ends.ensures.first _ _ _ (two_marks may piece at u.length_other 10 second (omega arith))
+    (first_mark may piece at u.length_other 10 second) in
+    let other_told = c.shares_mark-other_integer.ensures in
+    let other_is =
+    is_integer may piece at u.length_other 10 second more.point more.end more_found c.shares_mark-other_integer.result other_told.pointed
+    other_told.integer in
     c.in_default-cuts_before.ensures.taken
-    (is_usual piece 0 u.comma_at 44 u.one ends.point ends.end found _ _ c.in-Some.ensures.span (c.in-Some.ensures.point is))
-    (is_usual piece at u.length_other 10 usual more.point more.end more_found _ _ c.in-Some-span_before.ensures.span
-    (c.in-Some-span_before.ensures.point other_is))
+    (is_usual may piece 0 u.comma_at 44 number ends.point ends.end found _ is _ _ c.in-Some.ensures.span c.in-Some.ensures.counted)
+    (is_usual may piece at u.length_other 10 second more.point more.end more_found _ other_is _ _ c.in-Some-span_before.ensures.span
+    c.in-Some-span_before.ensures.counted)
