@@ -15,6 +15,7 @@ pub mod CutLanes
 pub mod FirstMarks
 pub mod CutPlaces
 pub mod CutPairs
+pub mod CutExamples
 pub mod UsualMarks
 pub mod UsualSpreads
 pub mod PointedNumbers

@@ -23,7 +23,7 @@ pub record StartsInteger (piece : List ℕ) (n behind : ℕ) : Type 0 where
   pub none_after : number.ordinary.fraction ≡ []
   pub ends : get_or piece n 0 ≡ behind
 
--- a usual number, or, where integers may stand here, one of them
+-- a usual number, or such an integer where integers may stand here
 abbrev pub StartsEither : Bool → List ℕ → ℕ → ℕ → Type 0
 StartsEither integers piece n behind = StartsUsual piece n behind ⊎ (IsTrue integers × StartsInteger piece n behind)
 

@@ -12,7 +12,7 @@ use Rattle.std.proofs.Math.Nat.{pow-suc, mul_assoc}
 use Rattle.std.proofs.lemmas.Bool.{cases_lt}
 use Rattle.std.proofs.lemmas.Nat.{or_comm, or_shifted, and_block, and_le_l, and_le_r, pow-add, pow_pos}
 use Rattle.std.proofs.lemmas.Nat.Bits.{bit_at_and, bit_at_lowest, bit_at-zero, bit_at_cat_low, bit_at_cat_high, bit_at-trailing_zeros, same_from_bits}
-use Rattle.gj_number.specs.Internal.CutLanes.{end_of, is_mark_by, number_marks, point_of, AreMarks, AreTwoMarks, HasMarks, IsFirstMark}
+use Rattle.gj_number.specs.Internal.CutLanes.{end_of, is_mark_by, number_marks, point_of, ArePairMarks, AreNumberMarks, HasMarks, IsFirstMark}
 use Rattle.gj_number.specs.Bytes.{decimal_point}
 
 -- ---- the lowest bit of a number
@@ -111,7 +111,7 @@ point_first false a b = omega arith
 
 module _ (marks second third fourth : ℕ) (small : marks < 2 ^ 64) (small_second : second < 2 ^ 64) (small_third : third < 2 ^ 64)
     (small_fourth : fourth < 2 ^ 64) (ms : List Bool) (is : marks ≡ mask_l ms) (one : Bool) (a b : ℕ) (other : Bool) (c d : ℕ)
-    (m : AreMarks ms one a b other c d) (left : IsLeft one marks second (point_of one a b))
+    (m : ArePairMarks ms one a b other c d) (left : IsLeft one marks second (point_of one a b))
     (off : (k r : ℕ) → second ≡ (1 + 2 * r) * 2 ^ k → third ≡ r * 2 ^ (k + 1))
     (other_left : IsLeft other third fourth (end_of one a b + 1 + point_of other c d)) where
   pub marks_found : HasMarks (count_trailing_zeros 64 marks) (count_trailing_zeros 64 second) (count_trailing_zeros 64 third)
@@ -131,10 +131,10 @@ module _ (marks second third fourth : ℕ) (small : marks < 2 ^ 64) (small_secon
         next_is = lowest_at fourth (0 + end_of one a b + 1 + end_of other c d) (mask_l m.0) small_fourth next.1 ∙ omega arith;
       }
 
-pub two_found : (marks second : ℕ) → marks < 2 ^ 64 → second < 2 ^ 64 → (ms : List Bool) → marks ≡ mask_l ms → (one : Bool) (a b : ℕ)
-    → AreTwoMarks ms one a b → IsLeft one marks second (point_of one a b)
+pub one_found : (marks second : ℕ) → marks < 2 ^ 64 → second < 2 ^ 64 → (ms : List Bool) → marks ≡ mask_l ms → (one : Bool) (a b : ℕ)
+    → AreNumberMarks ms one a b → IsLeft one marks second (point_of one a b)
     → (count_trailing_zeros 64 marks ≡ point_of one a b) × (count_trailing_zeros 64 second ≡ end_of one a b)
-two_found marks second small small_second ms is one a b m left =
+one_found marks second small small_second ms is one a b m left =
     let all : marks ≡ mask_l (number_marks one a b m.0) * 2 ^ 0 = is ∙ ap mask_l m.1 ∙ omega arith in
     let first = number_found one 0 (point_of one a b) marks second a b m.0 small all (omega arith) left in
     (first.0, lowest_at second (0 + end_of one a b) (mask_l m.0) small_second first.1 ∙ omega arith)

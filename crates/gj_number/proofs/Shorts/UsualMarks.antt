@@ -13,7 +13,7 @@ use Rattle.gj_number.specs.Bytes.{comma, minus_sign, decimal_point, space, close
 use Rattle.gj_number.specs.Denotation.{SpellsSign}
 use Rattle.gj_number.specs.Short.{StartsOrdinary, StartsUsual}
 use Rattle.gj_number.specs.Cuts.{StartsEither, StartsUsualCuts, byte_after, before_comma, second_after}
-use Rattle.gj_number.specs.Internal.CutLanes.{end_of, is_mark, is_mark_by, number_marks, point_of, AreMarks, HasMarks}
+use Rattle.gj_number.specs.Internal.CutLanes.{end_of, is_mark, is_mark_by, number_marks, point_of, ArePairMarks, HasMarks}
 use Rattle.gj_number.specs.Internal.CutLanes.{IsCounted, IsFirstMark, IsMarked, IsMarkedInteger, IsMarkedSpan, IsSpan, IsUsualSpan}
 use Rattle.gj_number.specs.Internal.DigitRuns.{IsPointed}
 use Rattle.gj_number.specs.declared.short.cuts.After.{After}
@@ -431,7 +431,7 @@ module _ (piece : List ℕ) (form : PairForm) (u : StartsUsualCuts piece form) w
       ∙ ap (λ xs. replicate spaces false ++ map is_mark xs) (drop-drop spaces (u.comma_at + 1) piece)
 
   pub pair_marks : 48 ≤ length piece
-      → AreMarks (map is_mark (take 48 piece)) one.pointed point_at places other.pointed (spaces + other_point_at) (other_places + ends)
+      → ArePairMarks (map is_mark (take 48 piece)) one.pointed point_at places other.pointed (spaces + other_point_at) (other_places + ends)
   pair_marks long =
       let end : List Bool = map is_mark (drop (suc (u.length_other + ends)) second) in
       let more : List Bool = number_marks other.pointed (spaces + other_point_at) (other_places + ends) end in

@@ -5,7 +5,7 @@ use Rattle.std.proofs.lemmas.Bool.Decides.{nat_tests}
 use Rattle.std.proofs.lemmas.List.{get_or-drop, take-map}
 use Rattle.gj_number.specs.Bytes.{comma, line_feed, minus_sign}
 use Rattle.gj_number.specs.Cuts.{StartsEither, StartsUsualSpread}
-use Rattle.gj_number.specs.Internal.CutLanes.{end_of, is_mark_by, point_of, AreTwoMarks, IsCounted, IsFirstMark, IsMarked, IsSpan, IsUsualSpan}
+use Rattle.gj_number.specs.Internal.CutLanes.{end_of, is_mark_by, point_of, AreNumberMarks, IsCounted, IsFirstMark, IsMarked, IsSpan, IsUsualSpan}
 use Rattle.gj_number.specs.Internal.DigitRuns.{StartsSigned}
 use Rattle.gj_number.specs.declared.short.cuts.Span.{Span}
 use Rattle.gj_number.proofs.Shorts.NumberPrefixes.{sign_length}
@@ -31,8 +31,8 @@ module _ (integers : Bool) (piece : List ℕ) (at n behind : ℕ) (u : IsEither 
       let few_after = u.few_after in
       omega arith
 
-  pub two_marks : behind < minus_sign → AreTwoMarks (map (is_mark_by behind) (take 32 bytes)) u.pointed point_at places
-  two_marks low =
+  pub marks_there : behind < minus_sign → AreNumberMarks (map (is_mark_by behind) (take 32 bytes)) u.pointed point_at places
+  marks_there low =
       let more : List Bool = map (is_mark_by behind) (drop (suc n) bytes) in
       let few = few_bytes in
       let size = length_is integers bytes n behind u in
@@ -79,8 +79,14 @@ module _ (integers : Bool) (piece : List ℕ) (gap : ℕ) (u : StartsUsualSpread
   abbrev pub one : IsEither integers (drop 0 piece) u.comma_at comma
   one = either_of integers piece u.comma_at comma u.one
 
-  module _ (point end : ℕ) (found : (point ≡ 0 + point_of one.pointed (point_at integers piece 0 u.comma_at comma one) (places integers piece 0 u.comma_at comma one))
-      × (end ≡ 0 + end_of one.pointed (point_at integers piece 0 u.comma_at comma one) (places integers piece 0 u.comma_at comma one))) where
+  abbrev before_point : ℕ
+  before_point = point_at integers piece 0 u.comma_at comma one
+
+  abbrev after_point : ℕ
+  after_point = places integers piece 0 u.comma_at comma one
+
+  module _ (point end : ℕ)
+      (found : (point ≡ 0 + point_of one.pointed before_point after_point) × (end ≡ 0 + end_of one.pointed before_point after_point)) where
     comma_there : u.comma_at ≡ end
     comma_there = let e = end_there integers piece 0 u.comma_at comma one point end found in omega arith
 

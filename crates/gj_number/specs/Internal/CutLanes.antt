@@ -103,8 +103,8 @@ is_mark_by behind b = b == behind || b == decimal_point
 abbrev pub is_mark : ℕ → Bool
 is_mark b = is_mark_by comma b
 
--- The marks of a number, and then these: so many bytes stand before its point and so many after it, and then the byte after the
--- number. An integer has the mark of the latter alone.
+-- The marks of a number and of the byte after it, and then these: so many bytes stand before its point, and so many between its
+-- point and that byte. An integer has no point, and both stand before that byte.
 abbrev pub number_marks : Bool → ℕ → ℕ → List Bool → List Bool
 number_marks true a b marks = replicate a false ++ true ∷ (replicate b false ++ true ∷ marks)
 number_marks false a b marks = replicate (a + b) false ++ true ∷ marks
@@ -123,15 +123,15 @@ abbrev pub IsFirstMark : Bool → Bool → ℕ → ℕ → Type 0
 IsFirstMark integers true behind b = b ≡ decimal_point
 IsFirstMark integers false behind b = IsTrue integers × (b ≡ behind)
 
--- the marks of two numbers
-abbrev pub AreMarks : List Bool → Bool → ℕ → ℕ → Bool → ℕ → ℕ → Type 0
-AreMarks marks one a b other c d = (rest : List Bool) × (marks ≡ number_marks one a b (number_marks other c d rest))
+-- the list begins with those of two numbers
+abbrev pub ArePairMarks : List Bool → Bool → ℕ → ℕ → Bool → ℕ → ℕ → Type 0
+ArePairMarks marks one a b other c d = (rest : List Bool) × (marks ≡ number_marks one a b (number_marks other c d rest))
 
--- the marks of one
-abbrev pub AreTwoMarks : List Bool → Bool → ℕ → ℕ → Type 0
-AreTwoMarks marks one a b = (rest : List Bool) × (marks ≡ number_marks one a b rest)
+-- it begins with those of one
+abbrev pub AreNumberMarks : List Bool → Bool → ℕ → ℕ → Type 0
+AreNumberMarks marks one a b = (rest : List Bool) × (marks ≡ number_marks one a b rest)
 
--- the indices of the first marks of two numbers and of the last
+-- the indices of the first and last marks of two numbers
 pub record HasMarks (point comma other_point next : ℕ) (one : Bool) (a b : ℕ) (other : Bool) (c d : ℕ) : Type 0 where
   pub point_is : point ≡ point_of one a b
   pub comma_is : comma ≡ end_of one a b

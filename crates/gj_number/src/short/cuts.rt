@@ -9,7 +9,7 @@ ghost use Rattle.std.specs.Option.{IsSome};
 ghost use Rattle.gj_number.specs.Bytes.{comma, space, zero_digit, decimal_point};
 ghost use Rattle.gj_number.specs.Cuts.{StartsWithCutPair, StartsUsualCuts, second_after};
 ghost use Rattle.gj_number.specs.Internal.DigitRuns.{StartsSigned};
-ghost use Rattle.gj_number.specs.Internal.CutLanes.{end_of, is_mark, is_mark_by, point_of, AreMarks, HasCut, HasMarks, IsCounted, IsFirstMark};
+ghost use Rattle.gj_number.specs.Internal.CutLanes.{end_of, is_mark, is_mark_by, point_of, ArePairMarks, HasCut, HasMarks, IsCounted, IsFirstMark};
 ghost use Rattle.gj_number.specs.Internal.CutLanes.{IsMarked, IsMarkedInteger, IsMarkedSpan, IsSpan, IsUnsignedSpan, IsUsualSpan, IsWhole};
 ghost use Rattle.gj_number.specs.Internal.NumberMachine.{class_of};
 ghost use Rattle.gj_number.specs.declared.state.Class.TheVariants.{Other};
@@ -152,7 +152,7 @@ fn first_marks(piece: &[u8], integers: bool) -> Marks
     ensures comma { result.comma ≤ 64 }
     ensures other_point { result.other_point ≤ 64 }
     ensures next { result.next ≤ 64 }
-    ensures first { (one other : Bool) (a b c d : ℕ) → AreMarks (map is_mark (take 48 piece.now)) one a b other c d
+    ensures first { (one other : Bool) (a b c d : ℕ) → ArePairMarks (map is_mark (take 48 piece.now)) one a b other c d
         → IsFirstMark integers one comma (get_or piece.now (point_of one a b) 0)
         → IsFirstMark integers other comma (get_or piece.now (end_of one a b + 1 + point_of other c d) 0)
         → HasMarks result.point result.comma result.other_point result.next one a b other c d }
@@ -382,9 +382,9 @@ pub(super) fn cuts_before(
 }
 
 /// Reads two numbers of this form from the start of a piece as their cut values, where one to three digits stand before the
-/// point of each and fifteen at most after it. Each has a minus sign where `signs` says so, and else none. They are always
-/// found where eleven digits at most stand after the point. Where the form has integers, those of up to three digits may be
-/// found too. Of others, `None` says that another reader is to read them.
+/// point of each and fifteen at most after it. Where the form has integers, either may be one of up to three digits. Each has
+/// a minus sign where `signs` says so, and else none. They are always found where eleven digits at most stand after each point.
+/// Of others, `None` says that another reader is to read them.
 #[inline(always)]
 pub fn read_cut_pair(piece: &[u8], signs: Signs, form: PairForm) -> Option<CutPair>
     requires { 64 ≤ length piece.now }

@@ -4,7 +4,7 @@ ghost use Rattle.std.specs.Option.{IsSome};
 ghost use Rattle.gj_number.specs.Bytes.{decimal_point};
 ghost use Rattle.gj_number.specs.Cuts.{StartsWithSpreadPair, StartsUsualSpread};
 ghost use Rattle.gj_number.specs.Internal.DigitRuns.{StartsSigned};
-ghost use Rattle.gj_number.specs.Internal.CutLanes.{end_of, is_mark_by, point_of, AreTwoMarks, IsFirstMark};
+ghost use Rattle.gj_number.specs.Internal.CutLanes.{end_of, is_mark_by, point_of, AreNumberMarks, IsFirstMark};
 
 use super::cuts::{CutPair, Signs, after_point, cuts_before, marks_at, shares_mark, span_before};
 
@@ -24,7 +24,7 @@ fn first_ends(piece: &[u8], at: usize, behind: u8, integers: bool) -> Ends
     requires behind { behind < decimal_point }
     ensures point { result.point ≤ at + 64 }
     ensures end { result.end ≤ at + 64 }
-    ensures first { (one : Bool) (a b : ℕ) → AreTwoMarks (map (is_mark_by behind) (take 32 (drop at piece.now))) one a b
+    ensures first { (one : Bool) (a b : ℕ) → AreNumberMarks (map (is_mark_by behind) (take 32 (drop at piece.now))) one a b
         → IsFirstMark integers one behind (get_or piece.now (at + point_of one a b) 0)
         → (result.point ≡ at + point_of one a b) × (result.end ≡ at + end_of one a b) }
 {
@@ -37,7 +37,7 @@ fn first_ends(piece: &[u8], at: usize, behind: u8, integers: bool) -> Ends
 
 /// Reads two numbers from the start of a piece as their cut values, as [`read_cut_pair`](crate::read_cut_pair) does, where so many
 /// bytes stand between the comma and the second number, and that one is the last of its line. What stands between is not looked at.
-/// Either may be an integer if `integers` says so.
+/// Either may be an integer of up to three digits if `integers` says so.
 #[inline(always)]
 pub fn read_spread_pair(piece: &[u8], signs: Signs, gap: usize, integers: bool) -> Option<CutPair>
     requires room { 128 ≤ length piece.now }

@@ -1,4 +1,4 @@
-use Rattle.std.proofs.Common.{◌≡◌, ◌<◌, ◌∙◌, ap, sym, arith, get_or, length}
+use Rattle.std.proofs.Common.{◌≡◌, ◌∙◌, ap, sym, arith, get_or}
 use Rattle.gj_number.specs.Bytes.{decimal_point}
 use Rattle.gj_number.proofs.Shorts.FirstMarks.{lowest_at}
 use Rattle.gj_number.proofs.short.cuts.after_point.Goals as goal

@@ -1,4 +1,4 @@
-use Rattle.std.proofs.Common.{◌+◌, ◌∙◌, ap, arith, length, take}
+use Rattle.std.proofs.Common.{◌∙◌, ap, arith, length, take}
 use Rattle.std.proofs.lemmas.List.{length-map, length-take-le}
 use Rattle.gj_number.specs.Bytes.{comma}
 use Rattle.gj_number.specs.Internal.CutLanes.{is_mark, number_marks}

@@ -2,7 +2,7 @@ use Rattle.std.proofs.Common.{◌≡◌, ℕ, ◌+◌, ◌-◌, ◌<◌, ◌≤�
 use lib.Lanes.{mask_l}
 use Rattle.std.proofs.lemmas.List.{drop-drop, get_or-drop, length-map, length-take-le, take_rest}
 use Rattle.gj_number.specs.Internal.CutLanes.{is_mark_by, point_of, IsFirstMark}
-use Rattle.gj_number.proofs.Shorts.FirstMarks.{left_by, marks_small, more_marks, number_length, point_first, two_found}
+use Rattle.gj_number.proofs.Shorts.FirstMarks.{left_by, marks_small, more_marks, number_length, point_first, one_found}
 use Rattle.gj_number.proofs.short.spread.first_ends.Goals as goal
 
 pub returns-clause-first : goal.returns-clause-first
@@ -23,6 +23,6 @@ returns-clause-first c one a b m point =
     let first = point_first one a b in
     let room : point_of one a b < length rest = omega (arith, ap length same) in
     let f =
-    two_found _ _ (omega arith) c.after_point.type_inv _ is one a b m
+    one_found _ _ (omega arith) c.after_point.type_inv _ is one a b m
     (left_by c.args.integers one rest _ _ _ c.args.behind room (subst P (sym there) point) c.after_point.ensures.point c.after_point.ensures.integer) in
     (omega arith, omega arith)

@@ -2,7 +2,7 @@ use Rattle.std.proofs.Common.{◌+◌, ℕ, subst, arith}
 use Rattle.gj_number.specs.Short.{exact_of, StartsWithNumber}
 use Rattle.gj_number.proofs.Shorts.CutPairs.{line_feed_other, span_on}
 use Rattle.gj_number.proofs.Shorts.NumberPairs.{comma_other}
-use Rattle.gj_number.proofs.Shorts.UsualSpreads.{two_marks, first_mark, is_integer, marked_span, is_usual, one, other, other_signed}
+use Rattle.gj_number.proofs.Shorts.UsualSpreads.{marks_there, first_mark, is_integer, marked_span, is_usual, one, other, other_signed}
 use Rattle.gj_number.proofs.short.spread.read_spread_pair.Goals as goal
 
 pub returns-clause-numbers : goal.returns-clause-numbers
@@ -34,7 +34,8 @@ returns-in_default-clause-taken c = λ u sign other_sign.
     let may = c.args.integers in
     let ends = c.first_ends-ends.result in
     let number = one may piece c.args.gap u in
-    let found = c.first_ends-ends.ensures.first _ _ _ (two_marks may piece 0 u.comma_at 44 number (omega arith)) (first_mark may piece 0 u.comma_at 44 number) in
+    let found = c.first_ends-ends.ensures.first _ _ _ (marks_there may piece 0 u.comma_at 44 number (omega arith))
+    (first_mark may piece 0 u.comma_at 44 number) in
     let told = c.shares_mark-integer.ensures in
     let is =
     is_integer may piece 0 u.comma_at 44 number ends.point ends.end found c.shares_mark-integer.result told.pointed told.integer in
@@ -46,12 +47,13 @@ returns-in_default-span_before-clause-taken c = λ u sign other_sign.
     let may = c.args.integers in
     let ends = c.first_ends-ends.result in
     let number = one may piece c.args.gap u in
-    let found = c.first_ends-ends.ensures.first _ _ _ (two_marks may piece 0 u.comma_at 44 number (omega arith)) (first_mark may piece 0 u.comma_at 44 number) in
+    let found = c.first_ends-ends.ensures.first _ _ _ (marks_there may piece 0 u.comma_at 44 number (omega arith))
+    (first_mark may piece 0 u.comma_at 44 number) in
     let gap = c.args.gap in
     let more = c.first_ends-other_ends.result in
     let at : ℕ = ends.end + 1 + gap in
     let second = other may piece gap u ends.point ends.end found in
-    let more_found = c.first_ends-other_ends.ensures.first _ _ _ (two_marks may piece at u.length_other 10 second (omega arith))
+    let more_found = c.first_ends-other_ends.ensures.first _ _ _ (marks_there may piece at u.length_other 10 second (omega arith))
     (first_mark may piece at u.length_other 10 second) in
     let other_told = c.shares_mark-other_integer.ensures in
     let other_is =
@@ -66,7 +68,8 @@ returns-in_default-cuts_before-clause-taken c = λ u sign other_sign.
     let may = c.args.integers in
     let ends = c.first_ends-ends.result in
     let number = one may piece c.args.gap u in
-    let found = c.first_ends-ends.ensures.first _ _ _ (two_marks may piece 0 u.comma_at 44 number (omega arith)) (first_mark may piece 0 u.comma_at 44 number) in
+    let found = c.first_ends-ends.ensures.first _ _ _ (marks_there may piece 0 u.comma_at 44 number (omega arith))
+    (first_mark may piece 0 u.comma_at 44 number) in
     let told = c.shares_mark-integer.ensures in
     let is =
     is_integer may piece 0 u.comma_at 44 number ends.point ends.end found c.shares_mark-integer.result told.pointed told.integer in
@@ -74,7 +77,7 @@ returns-in_default-cuts_before-clause-taken c = λ u sign other_sign.
     let more = c.first_ends-other_ends.result in
     let at : ℕ = ends.end + 1 + gap in
     let second = other may piece gap u ends.point ends.end found in
-    let more_found = c.first_ends-other_ends.ensures.first _ _ _ (two_marks may piece at u.length_other 10 second (omega arith))
+    let more_found = c.first_ends-other_ends.ensures.first _ _ _ (marks_there may piece at u.length_other 10 second (omega arith))
     (first_mark may piece at u.length_other 10 second) in
     let other_told = c.shares_mark-other_integer.ensures in
     let other_is =
