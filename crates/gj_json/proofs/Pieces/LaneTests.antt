@@ -102,31 +102,33 @@ block_at n (suc k) (suc i) piece h =
     let e : n + i * n ≡ suc i * n =
     omega arith in block_at n k i (drop n piece) (omega arith) ∙ ap (take n) (drop-drop (i * n) n piece) ∙ ap (λ m. take n (drop m piece)) e
 
--- a run by blocks of sixteen bytes: where no lane of a block fails the test, and where one does
-module _ (q : ℕ → Bool) (piece : List ℕ) (index : ℕ) (block : List ℕ) (blocks : List (List ℕ)) (same : blocks ≡ first_chunks 16 (length piece / 16) piece)
-    (is : block ≡ get_or blocks index []) (less : index < length piece / 16)
-    (stops : ℕ) (mask : stops ≡ mask_l (map (λ b. not (q b)) block)) (run : prefix_len q piece ≡ index * 16 + prefix_len q (drop (index * 16) piece)) where
-  block_is : block ≡ chunk (index * 16) 16 piece
-  block_is = is ∙ ap (λ bs. get_or bs index []) same ∙ block_at 16 (length piece / 16) index piece less
+-- a run by blocks of sixteen bytes: where no lane of a block fails the test, where one does, and the bytes after the last block
+module _ (q : ℕ → Bool) (piece : List ℕ) (index : ℕ) (blocks : List (List ℕ)) (front : blocks ≡ first_chunks 16 (length piece / 16) piece)
+    (many : length blocks ≡ length piece / 16) (run : prefix_len q piece ≡ index * 16 + prefix_len q (drop (index * 16) piece)) where
+  lanes : (stops : ℕ) → index < length blocks → stops ≡ mask_l (map (λ b. not (q b)) (get_or blocks index []))
+      → stops ≡ mask_l (map (λ b. not (q b)) (chunk (index * 16) 16 piece))
+  lanes stops more mask =
+      mask
+      ∙ ap (λ v. mask_l (map (λ b. not (q b)) v)) (ap (λ bs. get_or bs index []) front ∙ block_at 16 (length piece / 16) index piece (omega (arith, many)))
 
-  lanes : stops ≡ mask_l (map (λ b. not (q b)) (chunk (index * 16) 16 piece))
-  lanes = mask ∙ ap (λ v. mask_l (map (λ b. not (q b)) v)) block_is
-
-  pub block_passes : stops ≡ 0 → prefix_len q piece ≡ (index + 1) * 16 + prefix_len q (drop ((index + 1) * 16) piece)
-  block_passes none =
+  pub block_passes : (stops : ℕ) → index < length blocks → stops ≡ mask_l (map (λ b. not (q b)) (get_or blocks index [])) → stops ≡ 0
+      → prefix_len q piece ≡ (index + 1) * 16 + prefix_len q (drop ((index + 1) * 16) piece)
+  block_passes stops more mask none =
       let next : index * 16 + 16 ≡ (index + 1) * 16 = omega arith in
-      let on = lanes_on q piece (index * 16) 16 (omega (arith, less)) (sym lanes ∙ none) in
+      let on = lanes_on q piece (index * 16) 16 (omega (arith, more, many)) (sym (lanes stops more mask) ∙ none) in
       omega (arith, run, on, ap (λ m. prefix_len q (drop m piece)) next)
 
-  pub block_stops : 0 < stops → index * 16 + count_trailing_zeros 64 stops ≡ prefix_len q piece
-  block_stops some =
-      let end = lanes_stop q piece (index * 16) 16 (omega (arith, less)) (omega arith) (omega (arith, some, lanes))
-      ∙ ap (count_trailing_zeros 64) (sym lanes) in
+  pub block_stops : (stops : ℕ) → index < length blocks → stops ≡ mask_l (map (λ b. not (q b)) (get_or blocks index [])) → 0 < stops
+      → index * 16 + count_trailing_zeros 64 stops ≡ prefix_len q piece
+  block_stops stops more mask some =
+      let is = lanes stops more mask in
+      let end = lanes_stop q piece (index * 16) 16 (omega (arith, more, many)) (omega arith) (omega (arith, some, is))
+      ∙ ap (count_trailing_zeros 64) (sym is) in
       omega (arith, run, end)
 
--- and the bytes after the last block
-pub rest_stops : (q : ℕ → Bool) (piece rest : List ℕ) (index : ℕ) → rest ≡ drop (length piece / 16 * 16) piece → index ≡ length piece / 16
-    → prefix_len q piece ≡ index * 16 + prefix_len q (drop (index * 16) piece)
-    → index * 16 + prefix_len q rest ≡ prefix_len q piece
-rest_stops q piece rest index same e run = let k : prefix_len q rest ≡ prefix_len q (drop (index * 16) piece) =
-    ap (prefix_len q) same ∙ ap (λ m. prefix_len q (drop (m * 16) piece)) (sym e) in omega (arith, run, k)
+  pub rest_stops : (rest : List ℕ) → index ≤ length blocks → length blocks ≤ index → rest ≡ drop (length piece / 16 * 16) piece
+      → (count : ℕ) → count ≡ prefix_len q rest → index * 16 + count ≡ prefix_len q piece
+  rest_stops rest within end back count is =
+      let e : length piece / 16 ≡ index = omega (arith, many, within, end) in
+      let k : prefix_len q rest ≡ prefix_len q (drop (index * 16) piece) = ap (prefix_len q) (back ∙ ap (λ m. drop (m * 16) piece) e) in
+      omega (arith, run, k, is)

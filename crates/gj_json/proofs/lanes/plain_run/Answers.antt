@@ -1,39 +1,30 @@
 -- Block by block, and then the bytes that fill none.
-use Rattle.std.proofs.Common.{◌<◌, ◌/◌, ◌≡◌, refl, length, arith}
+use Rattle.std.proofs.Common.{◌≡◌, ◌+◌, ◌*◌, arith}
 use Rattle.std.proofs.lemmas.List.Sums.{prefix_len-le-length}
+use Rattle.std.specs.List.{prefix_len}
 use Rattle.gj_json.specs.Runs.{is_unescaped}
 use Rattle.gj_json.proofs.Pieces.LaneTests.{block_passes, block_stops, rest_stops}
 use Rattle.gj_json.proofs.lanes.plain_run.Goals as goal
 
 pub returns-then-stops-ne0 : goal.returns-then-stops-ne0
 returns-then-stops-ne0 c =
-    let less : c.loop-index.index < length c.args.piece.now / 16 = omega (arith, c.loop-index-test.true, c.as_chunks.ensures.front_len) in
-    block_stops is_unescaped c.args.piece.now c.loop-index.index _ _ c.as_chunks.ensures.front refl less _ c.plain_stops-stops.ensures
-    c.loop-index.invariant.run (omega arith)
+    block_stops is_unescaped _ c.loop-index.index _ c.as_chunks.ensures.front c.as_chunks.ensures.front_len c.loop-index.invariant.run
+    _ c.loop-index-test.true c.plain_stops-stops.ensures (omega arith)
 
 pub loop-index-preserved : goal.loop-index-preserved
-loop-index-preserved c =
-    let less : c.loop-index.index < length c.args.piece.now / 16 = omega (arith, c.loop-index-test.true, c.as_chunks.ensures.front_len) in
-    record {
-      within = omega arith;
-      run = block_passes is_unescaped c.args.piece.now c.loop-index.index _ _ c.as_chunks.ensures.front refl less _ c.plain_stops-stops.ensures
-          c.loop-index.invariant.run (omega arith);
-    }
+loop-index-preserved c = record {
+  within = omega arith;
+  run = block_passes is_unescaped _ c.loop-index.index _ c.as_chunks.ensures.front c.as_chunks.ensures.front_len c.loop-index.invariant.run
+      _ c.loop-index-test.true c.plain_stops-stops.ensures (omega arith);
+}
+
+all : (c : goal.After-few_plain) → c.loop-index.index * 16 + c.few_plain.result ≡ prefix_len is_unescaped c.args.piece.now
+all c =
+    rest_stops is_unescaped _ c.loop-index.index _ c.as_chunks.ensures.front c.as_chunks.ensures.front_len c.loop-index.invariant.run
+    _ c.loop-index.invariant.within c.loop-index-test.false c.as_chunks.ensures.back _ c.few_plain.ensures
 
 pub returns : goal.returns
-returns c =
-    let end : c.loop-index.index ≡ length c.args.piece.now / 16 =
-    omega (arith, c.loop-index-test.false, c.loop-index.invariant.within, c.as_chunks.ensures.front_len) in
-    omega (
-      arith,
-      c.few_plain.ensures,
-      rest_stops is_unescaped c.args.piece.now c.as_chunks.result.1.now c.loop-index.index c.as_chunks.ensures.back end
-          c.loop-index.invariant.run,
-    )
+returns c = all c
 
 pub overflow_add-result-2 : goal.overflow_add-result-2
-overflow_add-result-2 c =
-    let end : c.loop-index.index ≡ length c.args.piece.now / 16 =
-    omega (arith, c.loop-index-test.false, c.loop-index.invariant.within, c.as_chunks.ensures.front_len) in
-    let run = rest_stops is_unescaped c.args.piece.now c.as_chunks.result.1.now c.loop-index.index c.as_chunks.ensures.back end c.loop-index.invariant.run in
-    record { fits = omega (arith, c.few_plain.ensures, run, prefix_len-le-length is_unescaped c.args.piece.now) }
+overflow_add-result-2 c = record { fits = omega (arith, all c, prefix_len-le-length is_unescaped c.args.piece.now) }
