@@ -7,6 +7,7 @@ use Rattle.gj_json.specs.declared.mode.Bounds.{Bounds}
 use Rattle.gj_json.specs.declared.mode.Bounds.TheVariants.{Any, AfterE0, AfterED, AfterF0, AfterF4}
 use Rattle.gj_json.specs.Grammar.{Then, Exactly, Ends}
 use Rattle.gj_json.specs.Characters.{IsPlain, IsUnicode, SpellsContent, SpellsCharacter, escape_of, hex_of}
+use Rattle.gj_json.specs.Broken.{BeginsTail, BeginsCharacter}
 use Rattle.gj_json.specs.Utf8Bytes.{Lead, lead, lead_of, low_of, high_of}
 use Rattle.gj_json.proofs.Grammar.Utf8Tables.{IsTail, IsWide, of_bytes, by_bytes}
 use Rattle.gj_json.proofs.Grammar.SpelledForms
@@ -60,93 +61,110 @@ said_plain b = first (b == quote_byte) refl
     first true e = grind (arith, nat_tests)
     first false e = second (grind (arith, nat_tests)) (b == backslash) refl
 
--- the bytes of the character under way lead to the state
-abbrev pub Leads : List ℕ → StringState → Type 0
-Leads bytes plain = bytes ≡ []
-Leads bytes escape = bytes ≡ backslash ∷ []
-Leads bytes hex_due = bytes ≡ backslash ∷ letter_u ∷ []
-Leads bytes (hex_one v) = (b0 : ℕ) × (bytes ≡ backslash ∷ letter_u ∷ b0 ∷ []) × (hex_of b0 ≡ Some v)
-Leads bytes (hex_two v) = (b0 : ℕ) × (b1 : ℕ) × (d0 : ℕ) × (d1 : ℕ) × (bytes ≡ backslash ∷ letter_u ∷ b0 ∷ b1 ∷ []) × (hex_of b0 ≡ Some d0)
-    × (hex_of b1 ≡ Some d1) × (v ≡ d0 * 16 + d1)
--- whatever ends the character
-Leads bytes (in_character more bounds value) = (c : ℕ) (tail : List ℕ) → IsTail more bounds value c tail → SpellsCharacter c (bytes ++ tail)
-Leads bytes (hex_three v) =
-    (b0 : ℕ) × (b1 : ℕ) × (b2 : ℕ) × (d0 : ℕ) × (d1 : ℕ) × (d2 : ℕ) × (bytes ≡ backslash ∷ letter_u ∷ b0 ∷ b1 ∷ b2 ∷ [])
-    × (hex_of b0 ≡ Some d0) × (hex_of b1 ≡ Some d1) × (hex_of b2 ≡ Some d2) × (v ≡ (d0 * 16 + d1) * 16 + d2)
+-- the last byte of a character, or one before it
+tail_ends : (more : ℕ) (bounds last_bounds : Bounds) (value last_value b : ℕ) (bytes : List ℕ)
+    → BeginsTail more bounds value (in_character zero last_bounds last_value) bytes → low_of last_bounds ≤ b → b ≤ high_of last_bounds
+    → IsTail more bounds value (last_value * 64 + b % 64) (bytes ++ b ∷ [])
+tail_ends zero bounds lb value lv b [] h l u = let e : lb ≡ bounds = cc in let f : lv ≡ value =
+    cc in (b, refl, rw (← e) l, rw (← e) u, ap (λ x. x * 64 + b % 64) f)
+tail_ends (suc more) bounds lb value lv b [] h l u = cc
+tail_ends zero bounds lb value lv b (c ∷ bytes) h l u = absurd h
+tail_ends (suc more) bounds lb value lv b (c ∷ bytes) h l u =
+    (c, bytes ++ b ∷ [], refl, h.0, h.1, tail_ends more Any lb (value * 64 + c % 64) lv b bytes h.2 l u)
 
--- a step goes on in a character, or ends it
-abbrev pub Led : List ℕ → ℕ → StringStep → Type 0
-Led bytes b string_ends = (bytes ≡ []) × (b ≡ quote_byte)
-Led bytes b (string_goes [] next) = Leads (bytes ++ b ∷ []) next
-Led bytes b (string_goes (c ∷ []) next) = (next ≡ plain) × SpellsCharacter c (bytes ++ b ∷ [])
-Led bytes b (string_goes (c ∷ d ∷ more) next) = ⊥
-Led bytes b string_refuses = Unit {0}
+tail_goes : (more : ℕ) (bounds last_bounds : Bounds) (value last_value left b : ℕ) (bytes : List ℕ)
+    → BeginsTail more bounds value (in_character (suc left) last_bounds last_value) bytes → low_of last_bounds ≤ b → b ≤ high_of last_bounds
+    → BeginsTail more bounds value (in_character left Any (last_value * 64 + b % 64)) (bytes ++ b ∷ [])
+tail_goes zero bounds lb value lv left b [] h l u = cc
+tail_goes (suc more) bounds lb value lv left b [] h l u =
+    let e : lb ≡ bounds = cc in
+    let f : lv ≡ value = cc in
+    let g : left ≡ more = cc in
+    (rw (← e) l, rw (← e) u, rw (f, g) refl)
+tail_goes zero bounds lb value lv left b (c ∷ bytes) h l u = absurd h
+tail_goes (suc more) bounds lb value lv left b (c ∷ bytes) h l u = (h.0, h.1, tail_goes more Any lb (value * 64 + c % 64) lv left b bytes h.2 l u)
 
-led_plain : (b : ℕ) (s : StringStep) → SaidPlain b s → Led [] b s
-led_plain b string_ends h = (refl, h)
-led_plain b (string_goes more next) h = elim h [
+-- what the machine's step by b says, after these bytes of a character
+abbrev pub Begun : List ℕ → ℕ → StringStep → Type 0
+Begun bytes b string_ends = (bytes ≡ []) × (b ≡ quote_byte)
+Begun bytes b (string_goes [] next) = BeginsCharacter next (bytes ++ b ∷ [])
+Begun bytes b (string_goes (c ∷ []) next) = (next ≡ plain) × SpellsCharacter c (bytes ++ b ∷ [])
+Begun bytes b (string_goes (c ∷ d ∷ more) next) = ⊥
+Begun bytes b string_refuses = Unit {0}
+
+begun_plain : (b : ℕ) (s : StringStep) → SaidPlain b s → Begun [] b s
+begun_plain b string_ends h = (refl, h)
+begun_plain b (string_goes more next) h = elim h [
   | inl g ↦ rw (g.1, g.2) (refl, inl (g.0, refl))
   | inr k ↦ elim k [
     | inl g ↦ rw (g.1, g.2, g.0) refl
-    | inr g ↦ rw (g.2, g.3) (λ c tail t. inr (inr (inr (of_bytes c (b ∷ tail) (b, tail, g.0, refl, g.1, t)))))
+    | inr g ↦ rw (g.2, g.3) (b, [], g.0, refl, g.1, refl)
   ]
 ]
-led_plain b string_refuses h = tt
+begun_plain b string_refuses h = tt
 
-led : (bytes : List ℕ) (state : StringState) (b : ℕ) → Leads bytes state → Led bytes b (string_next state b)
-led bytes plain b h = rw h (led_plain b (plain_step b) (said_plain b))
-led bytes escape b h = rw h (first (b == letter_u) refl)
+pub begun : (bytes : List ℕ) (state : StringState) (b : ℕ) → BeginsCharacter state bytes → Begun bytes b (string_next state b)
+begun bytes plain b h = rw h (begun_plain b (plain_step b) (said_plain b))
+begun bytes escape b h = rw h (first (b == letter_u) refl)
   where
-    second : (o : Option ℕ) → escape_of b ≡ o → Led (backslash ∷ []) b (escape_step o)
+    second : (o : Option ℕ) → escape_of b ≡ o → Begun (backslash ∷ []) b (escape_step o)
     second (Some c) e = (refl, inr (inl (b, refl, e)))
     second None e = tt
 
-    first : (t : Bool) → (b == letter_u) ≡ t → Led (backslash ∷ []) b (if t then string_goes [] hex_due else escape_step (escape_of b))
+    first : (t : Bool) → (b == letter_u) ≡ t → Begun (backslash ∷ []) b (if t then string_goes [] hex_due else escape_step (escape_of b))
     first true e = let f : b ≡ letter_u = grind (arith, nat_tests) in rw f refl
     first false e = second (escape_of b) refl
-led bytes hex_due b h = rw h (go (hex_of b) refl)
+begun bytes hex_due b h = rw h (go (hex_of b) refl)
   where
-    go : (o : Option ℕ) → hex_of b ≡ o → Led (backslash ∷ letter_u ∷ []) b (hex_step (λ d. string_goes [] (hex_one d)) o)
+    go : (o : Option ℕ) → hex_of b ≡ o → Begun (backslash ∷ letter_u ∷ []) b (hex_step (λ d. string_goes [] (hex_one d)) o)
     go (Some d) e = (b, refl, e)
     go None e = tt
-led bytes (hex_one v) b h = go (hex_of b) refl
+begun bytes (hex_one v) b h = go (hex_of b) refl
   where
-    go : (o : Option ℕ) → hex_of b ≡ o → Led bytes b (hex_step (λ d. string_goes [] (hex_two (v * 16 + d))) o)
+    go : (o : Option ℕ) → hex_of b ≡ o → Begun bytes b (hex_step (λ d. string_goes [] (hex_two (v * 16 + d))) o)
     go (Some d) e = (h.0, b, v, d, ap (λ xs. xs ++ b ∷ []) h.1, h.2, e, refl)
     go None e = tt
-led bytes (hex_two v) b h = go (hex_of b) refl
+begun bytes (hex_two v) b h = go (hex_of b) refl
   where
-    go : (o : Option ℕ) → hex_of b ≡ o → Led bytes b (hex_step (λ d. string_goes [] (hex_three (v * 16 + d))) o)
+    go : (o : Option ℕ) → hex_of b ≡ o → Begun bytes b (hex_step (λ d. string_goes [] (hex_three (v * 16 + d))) o)
     go (Some d) e = (h.0, h.1, b, h.2, h.3, d, ap (λ xs. xs ++ b ∷ []) h.4, h.5, h.6, e, ap (λ w. w * 16 + d) h.7)
     go None e = tt
-led bytes (hex_three v) b h = go (hex_of b) refl
+begun bytes (hex_three v) b h = go (hex_of b) refl
   where
-    go : (o : Option ℕ) → hex_of b ≡ o → Led bytes b (hex_step (λ d. hex_end (v * 16 + d)) o)
+    go : (o : Option ℕ) → hex_of b ≡ o → Begun bytes b (hex_step (λ d. hex_end (v * 16 + d)) o)
     go (Some d) e = (refl, inr (inr (inl (h.0, h.1, h.2, b, h.3, h.4, h.5, d, ap (λ xs. xs ++ b ∷ []) h.6, h.7, h.8, h.9, e, ap (λ w. w * 16 + d) h.10))))
     go None e = tt
-led bytes (in_character more bounds value) b h = go (within bounds b) refl
+begun bytes (in_character more bounds value) b h = go (within bounds b) refl
   where
-    inner : (low_of bounds ≤ b) × (b ≤ high_of bounds) → (k : ℕ) → more ≡ k → Led bytes b (tail_step k (value * 64 + b % 64))
-    inner r zero e = (refl, (let g = rw e at h in g (value * 64 + b % 64) (b ∷ []) (b, refl, r.0, r.1, refl)))
-    inner r (suc k) e = λ c tail t. rw (append_assoc bytes (b ∷ []) tail) (let g = rw e at h in g c (b ∷ tail) (b, tail, refl, r.0, r.1, t))
+    inner : low_of bounds ≤ b → b ≤ high_of bounds → (k : ℕ) → more ≡ k → Begun bytes b (tail_step k (value * 64 + b % 64))
+    inner l u zero e =
+        let t : BeginsTail h.2.more h.2.bounds h.2.value (in_character zero bounds value) h.1 = rw e at h.5 in (
+          refl,
+          inr (inr (inr
+              (of_bytes (value * 64 + b % 64) (bytes ++ b ∷ [])
+              (h.0, h.1 ++ b ∷ [], h.2, ap (λ xs. xs ++ b ∷ []) h.3, h.4, tail_ends h.2.more h.2.bounds bounds h.2.value value b h.1 t l u)))),
+        )
+    inner l u (suc k) e =
+        let t : BeginsTail h.2.more h.2.bounds h.2.value (in_character (suc k) bounds value) h.1 = rw e at h.5 in
+        (h.0, h.1 ++ b ∷ [], h.2, ap (λ xs. xs ++ b ∷ []) h.3, h.4, tail_goes h.2.more h.2.bounds bounds h.2.value value k b h.1 t l u)
 
-    go : (t : Bool) → (within bounds b) ≡ t → Led bytes b (if t then tail_step more (value * 64 + b % 64) else string_refuses)
-    go true e = inner ((grind (arith, nat_tests)), (grind (arith, nat_tests))) more refl
+    go : (t : Bool) → (within bounds b) ≡ t → Begun bytes b (if t then tail_step more (value * 64 + b % 64) else string_refuses)
+    go true e = inner (grind (arith, nat_tests)) (grind (arith, nat_tests)) more refl
     go false e = tt
 
 -- what begins by the bytes of a character under way
-pub content_from : (bytes before content : List ℕ) (state : StringState) → Leads before state → StringRest state content bytes
+pub content_from : (bytes before content : List ℕ) (state : StringState) → BeginsCharacter state before → StringRest state content bytes
     → SpellsContent content (before ++ bytes)
 content_from [] before content state l h =
-    let e : before ≡ [] = (let P : StringState → Type 0 = λ s. Leads before s in let k : Leads before plain = subst P h.1 l in k) in
+    let e : before ≡ [] = (let P : StringState → Type 0 = λ s. BeginsCharacter s before in let k : BeginsCharacter plain before = subst P h.1 l in k) in
     rw (h.0, e) refl
 content_from (b ∷ bytes) before content state l h =
-    let P : StringStep → Type 0 = λ s. Led before b s in
-    go (λ first rest s k r. content_from bytes first rest s k r) h.0 h.1 h.2 h.4 (subst P h.3 (led before state b l)) h.5
+    let P : StringStep → Type 0 = λ s. Begun before b s in
+    go (λ first rest s k r. content_from bytes first rest s k r) h.0 h.1 h.2 h.4 (subst P h.3 (begun before state b l)) h.5
   where
-    go : ((first rest : List ℕ) (s : StringState) → Leads first s → StringRest s rest bytes → SpellsContent rest (first ++ bytes))
+    go : ((first rest : List ℕ) (s : StringState) → BeginsCharacter s first → StringRest s rest bytes → SpellsContent rest (first ++ bytes))
         → (more : List ℕ) (next : StringState) (later : List ℕ)
-        → content ≡ more ++ later → Led before b (string_goes more next) → StringRest next later bytes → SpellsContent content (before ++ b ∷ bytes)
+        → content ≡ more ++ later → Begun before b (string_goes more next) → StringRest next later bytes → SpellsContent content (before ++ b ∷ bytes)
     go ih [] next later f d r = rw f (rw (← append_assoc before (b ∷ []) bytes) (ih (before ++ b ∷ []) later next d r))
     go ih (c ∷ []) next later f d r =
         let Q : StringState → Type 0 = λ s. StringRest s later bytes in

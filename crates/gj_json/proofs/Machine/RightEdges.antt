@@ -12,8 +12,9 @@ use Rattle.gj_json.specs.Internal.ByteClasses.{first_letter}
 use Rattle.gj_json.specs.Broken.{Frame, number_on, BeginsCharacter, BeginsQuoted, SpellsLeaf}
 use Rattle.gj_json.specs.Internal.TextMachine.{letters_after, string_next, StringStep, string_ends, string_goes}
 use Rattle.gj_json.proofs.Grammar.SpelledForms
-use Rattle.gj_json.proofs.Grammar.CharacterPrefixes
-use Rattle.gj_json.proofs.Grammar.CharacterPrefixes.{Begun, content_push}
+use Rattle.gj_json.proofs.Grammar.SpelledTexts
+use Rattle.gj_json.proofs.Grammar.SpelledTexts.{Begun}
+use Rattle.gj_json.proofs.Grammar.CharacterPrefixes.{content_push}
 use Rattle.gj_number.specs.Grammar.{IsNumber}
 use Rattle.gj_json.proofs.Machine.TakenBytes.{Adds, then_adds, white_adds}
 
@@ -55,7 +56,7 @@ content_adds : {n b : ℕ} (so_far more : List ℕ) (state next : StringState) �
     → Adds n (b ∷ []) (Then (λ here inner. SpellsContent so_far inner) (λ here inner. BeginsCharacter state inner))
     (Then (λ here inner. SpellsContent (so_far ++ more) inner) (λ here inner. BeginsCharacter next inner))
 content_adds {n} {b} so_far more state next e = record {
-  on = λ m bytes l h. (let P : StringStep → Type 0 = λ s. Begun h.rest b s in go more bytes m h (subst P e (CharacterPrefixes.begun h.rest state b h.after)));
+  on = λ m bytes l h. (let P : StringStep → Type 0 = λ s. Begun h.rest b s in go more bytes m h (subst P e (SpelledTexts.begun h.rest state b h.after)));
 }
   where
     go : (more bytes : List ℕ) (m : ℕ) (h : Then (λ here inner. SpellsContent so_far inner) (λ here inner. BeginsCharacter state inner) m bytes)
@@ -86,7 +87,7 @@ content_ends : {n b : ℕ} (so_far : List ℕ) (state : StringState) → string_
 content_ends {n} {b} so_far state e = then_adds (record {
   on = λ m bytes l h.
       let P : StringStep → Type 0 = λ s. Begun bytes b s in
-      let g = subst P e (CharacterPrefixes.begun bytes state b h) in
+      let g = subst P e (SpelledTexts.begun bytes state b h) in
       let k : length bytes ≡ 0 = ap length g.0 in
       let j : m ≡ n = omega (arith, l, k) in
       SpelledForms.moved (Then (Exactly (quote_byte ∷ [])) (Ends (n + 1))) (sym j) (sym (ap (λ xs. xs ++ b ∷ []) g.0))
