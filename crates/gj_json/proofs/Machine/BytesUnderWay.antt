@@ -174,49 +174,29 @@ run_begun (b ∷ bytes) s last n u e = go (λ next. run_begun bytes next last (n
     go on None c f = let g = sym (run_none bytes (n + 1)) ∙ f in cc
     go on (Some next) c f = on next (came_begun (under_of s) b (under_of next) c) f
 
--- ---- the mode shows whether a number is under way
+-- ---- the mode shows whether a number is under way, and which character of a string
 
 abbrev pub has_number : Under → Bool
 has_number (number so_far) = true
 has_number _ = false
 
-leaf_mode : (leaf : Leaf) (mode : Mode) → LeafAs leaf mode → in_number mode ≡ has_number (under_leaf leaf)
-leaf_mode value_due mode a = rw a refl
-leaf_mode (value_done t) mode a = rw a refl
-leaf_mode (array_opened place) mode a = rw a refl
-leaf_mode (object_opened place) mode a = rw a refl
-leaf_mode (constant_on which place left) mode a = rw (a.1) refl
-leaf_mode (number_on place so_far) mode a = rw a refl
-leaf_mode (string_on place so_far state) mode a = rw a refl
-leaf_mode (name_due place done) mode a = rw a refl
-leaf_mode (name_on place done np so_far state) mode a = rw a refl
-leaf_mode (colon_due place done np name ne) mode a = rw a refl
-
-pub mode_under : (s : Broken) (mode : Mode) (levels : List Level) → StandsAs s mode levels → in_number mode ≡ has_number (under_of s)
-mode_under text_due mode levels a = rw (a.0) refl
-mode_under mark_one mode levels a = rw (a.0) refl
-mode_under mark_two mode levels a = rw (a.0) refl
-mode_under (begun marked s) mode levels a = leaf_mode s.leaf mode a.0
-
--- and which character of a string
 abbrev pub state_under : Under → Option StringState
 state_under (text so_far state) = Some state
 state_under _ = None
 
-leaf_state : (leaf : Leaf) (mode : Mode) → LeafAs leaf mode → text_state mode ≡ state_under (under_leaf leaf)
-leaf_state value_due mode a = rw a refl
-leaf_state (value_done t) mode a = rw a refl
-leaf_state (array_opened place) mode a = rw a refl
-leaf_state (object_opened place) mode a = rw a refl
-leaf_state (constant_on which place left) mode a = rw (a.1) refl
-leaf_state (number_on place so_far) mode a = rw a refl
-leaf_state (string_on place so_far state) mode a = rw a refl
-leaf_state (name_due place done) mode a = rw a refl
-leaf_state (name_on place done np so_far state) mode a = rw a refl
-leaf_state (colon_due place done np name ne) mode a = rw a refl
+abbrev Shows : Mode → Under → Type 0
+Shows mode u = (in_number mode ≡ has_number u) × (text_state mode ≡ state_under u)
+
+leaf_shows : (leaf : Leaf) (mode : Mode) → LeafAs leaf mode → Shows mode (under_leaf leaf)
+leaf_shows (constant_on which place left) mode a = rw (a.1) (refl, refl)
+leaf_shows _ mode a = rw a (refl, refl)
+
+shows : (s : Broken) (mode : Mode) (levels : List Level) → StandsAs s mode levels → Shows mode (under_of s)
+shows (begun marked s) mode levels a = leaf_shows s.leaf mode a.0
+shows _ mode levels a = rw (a.0) (refl, refl)
+
+pub mode_under : (s : Broken) (mode : Mode) (levels : List Level) → StandsAs s mode levels → in_number mode ≡ has_number (under_of s)
+mode_under s mode levels a = (shows s mode levels a).0
 
 pub mode_state : (s : Broken) (mode : Mode) (levels : List Level) → StandsAs s mode levels → text_state mode ≡ state_under (under_of s)
-mode_state text_due mode levels a = rw (a.0) refl
-mode_state mark_one mode levels a = rw (a.0) refl
-mode_state mark_two mode levels a = rw (a.0) refl
-mode_state (begun marked s) mode levels a = leaf_state s.leaf mode a.0
+mode_state s mode levels a = (shows s mode levels a).1
