@@ -20,7 +20,7 @@ use Rattle.gj_json.specs.declared.reader.Reader.{Reader}
 use Rattle.gj_json.specs.Internal.OpenLevels.{levels_in, inner_of, outer_of}
 use Rattle.gj_json.specs.Internal.Transitions.{move_of, string_move}
 use Rattle.gj_json.specs.Internal.KeptContent.{words_in, Holds}
-use Rattle.gj_json.specs.Internal.ReaderStep.{Passes, IsRefusedWith, RefusesWith, PassesTo, Applied, opened, move_by, made_by, told_by, Takes}
+use Rattle.gj_json.specs.Internal.ReaderStep.{Passes, IsRefusedWith, RefusesWith, PassesTo, Applied, opened, move_by, made_by, told_by, told_on, Takes}
 use Rattle.gj_json.specs.declared.event.Event.{Event}
 use Rattle.gj_number.specs.Grammar.{BeginsNumber}
 use Rattle.gj_number.specs.Literal.{StandsFor as LiteralStandsFor}
@@ -196,6 +196,37 @@ reads_tells old between state turn value b c m e =
 pub no_more : (s : StringStep) (more : List ℕ) (next : StringState) → s ≡ string_goes more next → ((c : ℕ) → string_move s ≡ Reads c → ⊥) → more ≡ []
 no_more s [] next e h = refl
 no_more s (c ∷ more) next e h = absurd (h c (rw e refl))
+
+-- a byte of a string or a name, by the characters that it completes
+pub in_text : {before heard : List Event → Type 0} (old new : Reader) (b : ℕ) (result : Result Move JsonFault) (state : StringState) → IsText old.mode state
+    → Applied (move_by old Ends b) old new result
+    → ((events : List Event) → before events → heard (events ++ told_on result (told_by old Ends None b)))
+    → ((more so_far : List ℕ) (next : StringState) → string_next state b ≡ string_goes more next → Holds old.content so_far
+    → Holds new.content (so_far ++ more))
+    → Takes before heard old new b result
+in_text old new b result state from w h holds = record {
+  turn = Ends;
+  value = None;
+  says = record {
+    turns = λ bytes m k. let x = sym m ∙ from.number in cc;
+    values = λ e bytes m k n. let x = sym m ∙ from.number in cc;
+  };
+  goes = λ made e. (
+    record {
+      goes = λ t bytes m n k. let x = sym m ∙ from.number in cc;
+      begins = λ m t n f. let x = sym t ∙ from.text in cc;
+    },
+    record {
+      goes = λ last next more so_far t f k.
+          let same : last ≡ state = (let x = sym t ∙ from.text in cc) in
+          let P : StringState → Type 0 = λ s. string_next s b ≡ string_goes more next in
+          holds more so_far next (subst P same f) k;
+      begins = λ last m t f. let x = sym t ∙ from.text in cc;
+    },
+  );
+  applied = w;
+  told = h;
+}
 
 -- ---- while neither is under way
 
