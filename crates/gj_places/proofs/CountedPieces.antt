@@ -1,10 +1,12 @@
 -- Lines and characters of bytes behind others, and of one byte behind others.
-use Rattle.std.proofs.Common.{arith, ◌≡◌, ◌<◌, ◌≤◌, ◌∙◌, ℕ, suc, ◌+◌, ◌++◌, ◌∷◌, [], List, ap, sym, refl, length, take, drop}
+use Rattle.std.proofs.Common.{arith, ◌≡◌, ◌<◌, ◌≤◌, ◌∙◌, ℕ, suc, ◌+◌, ◌*◌, ◌++◌, ◌∷◌, [], List, ap, sym, refl, length, take, drop}
 use Rattle.std.proofs.Common.{get_or, append_assoc, length-drop}
 use Rattle.std.proofs.lemmas.List.{take_more, get_or-drop, take-append-drop}
+use Rattle.std.specs.Simd.{first_chunks}
 use Rattle.std.specs.Prelude.{Bool, true, false, if◌then◌else◌}
 use Rattle.std.proofs.lemmas.Bool.{or_parts, false_from_ne_true}
 use Rattle.gj_places.specs.Lines.{is_line_feed, begins_character, line_feeds, characters, has_line_feed, last_line, line_of, column_of}
+use Rattle.gj_places.proofs.Blocks.{next_block, blocks_and_rest}
 use Rattle.gj_places.proofs.KeptLines.{has-one, last_line-behind, last_line-longer}
 
 -- what a byte adds to a count, by whether it counts
@@ -43,6 +45,20 @@ line_feeds-at-most (x ∷ xs) = at-most-by (is_line_feed x) (line_feeds xs) (len
 pub characters-at-most : (xs : List ℕ) → characters xs ≤ length xs
 characters-at-most [] = omega arith
 characters-at-most (x ∷ xs) = at-most-by (begins_character x) (characters xs) (length xs) (characters-at-most xs)
+
+-- a count of what the bytes of a list add, block by block: with one block more, and with the bytes that fill none
+module _ (count : List ℕ → ℕ) (adds : (xs ys : List ℕ) → count (xs ++ ys) ≡ count xs + count ys) (n i k : ℕ) (bytes : List ℕ) (so_far here : ℕ)
+    (before : so_far ≡ count (take (i * n) bytes)) where
+  pub block_counted : (blocks : List (List ℕ)) → blocks ≡ first_chunks n k bytes → i < k → here ≡ count (get_or blocks i [])
+      → so_far + here ≡ count (take ((i + 1) * n) bytes)
+  block_counted blocks front less is =
+      let next = ap count (next_block n i k bytes blocks front less) in
+      omega (arith, next, adds (take (i * n) bytes) (get_or blocks i []), before, is)
+
+  pub rest_counted : (rest : List ℕ) → rest ≡ drop (k * n) bytes → i ≡ k → here ≡ count rest → so_far + here ≡ count bytes
+  rest_counted rest back end is =
+      let parts = ap count (blocks_and_rest n i k bytes rest back end) in
+      omega (arith, parts, adds (take (i * n) bytes) rest, before, is)
 
 pub line_feeds-take : (xs : List ℕ) (i : ℕ) → i < length xs →
     line_feeds (take (i + 1) xs) ≡ line_feeds (take i xs) + (if is_line_feed (get_or xs i 0) then 1 else 0)

@@ -1,38 +1,27 @@
-use Rattle.std.proofs.Common.{rules, arith, ◌≡◌, ◌<◌, ◌+◌, ◌*◌, ◌/◌, [], ap, length, take, get_or, w64, Fits}
+use Rattle.std.proofs.Common.{rules, arith, ◌≡◌, ◌+◌, ◌*◌, ◌∙◌, length, take, w64, Fits}
 use Rattle.std.proofs.lemmas.List.{length-take}
 use Rattle.gj_places.specs.Lines.{characters}
-use Rattle.gj_places.proofs.Blocks.{next_block, blocks_and_rest}
-use Rattle.gj_places.proofs.CountedPieces.{characters-append, characters-at-most}
+use Rattle.gj_places.proofs.CountedPieces.{characters-append, characters-at-most, block_counted, rest_counted}
 use Rattle.gj_places.proofs.lines.characters.Goals as goal
 
 counted : (c : goal.After-from-count) → c.loop-block.count + c.from-count.result ≡ characters (take ((c.loop-block.block-index + 1) * 192) c.args.bytes.now)
 counted c =
-    let bytes = c.args.bytes.now in
-    let i = c.loop-block.block-index in
-    let blocks = c.as_chunks.result.0.now in
-    let less : i < length bytes / 192 = omega (arith, c.loop-block-test.true, c.loop-block.auto.block-index-end, c.as_chunks.ensures.front_len) in
-    let next = ap characters (next_block 192 i (length bytes / 192) bytes blocks c.as_chunks.ensures.front less) in
-    let sum = characters-append (take (i * 192) bytes) (get_or blocks i []) in
-    omega (arith, next, sum, c.loop-block.invariant, c.from-count.ensures, c.characters_in_block.ensures)
+    block_counted characters characters-append 192 c.loop-block.block-index _ c.args.bytes.now _ _ c.loop-block.invariant _ c.as_chunks.ensures.front
+    (omega (arith, c.loop-block-test.true, c.loop-block.auto.block-index-end, c.as_chunks.ensures.front_len)) (c.from-count.ensures ∙ c.characters_in_block.ensures)
 
 pub overflow_add-count : goal.overflow_add-count
 overflow_add-count c =
-    let bytes = c.args.bytes.now in
-    let front = (c.loop-block.block-index + 1) * 192 in
-    let long : Fits w64 (length bytes) = search rules in
-    omega (arith, counted c, characters-at-most (take front bytes), length-take front bytes, long)
+    let front = take ((c.loop-block.block-index + 1) * 192) c.args.bytes.now in
+    let long : Fits w64 (length c.args.bytes.now) = search rules in
+    omega (arith, counted c, characters-at-most front, length-take ((c.loop-block.block-index + 1) * 192) c.args.bytes.now, long)
 
 pub loop-block-preserved : goal.loop-block-preserved
 loop-block-preserved c = counted c
 
 all : (c : goal.After-from) → c.loop-block.count + c.from.result ≡ characters c.args.bytes.now
 all c =
-    let bytes = c.args.bytes.now in
-    let i = c.loop-block.block-index in
-    let end : i ≡ length bytes / 192 = omega (arith, c.loop-block-test.false, c.loop-block.auto.block-index-end, c.as_chunks.ensures.front_len) in
-    let parts = ap characters (blocks_and_rest 192 i (length bytes / 192) bytes c.as_chunks.result.1.now c.as_chunks.ensures.back end) in
-    let sum = characters-append (take (i * 192) bytes) c.as_chunks.result.1.now in
-    omega (arith, parts, sum, c.loop-block.invariant, c.from.ensures, c.characters_in_block-2.ensures)
+    rest_counted characters characters-append 192 c.loop-block.block-index _ c.args.bytes.now _ _ c.loop-block.invariant _ c.as_chunks.ensures.back
+    (omega (arith, c.loop-block-test.false, c.loop-block.auto.block-index-end, c.as_chunks.ensures.front_len)) (c.from.ensures ∙ c.characters_in_block-2.ensures)
 
 pub overflow_add-result : goal.overflow_add-result
 overflow_add-result c =
