@@ -1,18 +1,13 @@
 -- The reader of each type reports the warnings of the value under it.
-use Rattle.std.specs.List.{flat_map}
-use Rattle.std.specs.Prelude.{⊤}
-use Rattle.std.proofs.Common.{◌≡◌, ℕ, true, refl, ap, ◌∙◌, arith}
-use Rattle.gj_json.specs.Tree.{Tree, constant, number, string, array, object}
+use Rattle.std.proofs.Common.{◌≡◌, ℕ, refl, ap, ◌∙◌}
+use Rattle.gj_json.specs.Tree.{Tree, array}
 use Rattle.gj_coords.specs.declared.watcher.findings.Findings.{Findings}
 use Rattle.gj_coords.specs.declared.watcher.ring.LinearRing.{LinearRing}
-use Rattle.gj_coords.specs.declared.watcher.ring.RingGather.{RingGather}
 use Rattle.gj_coords.specs.declared.watcher.several.Several.{Several}
 use Rattle.gj_coords.specs.declared.simple.Simple.{Simple}
 use Rattle.gj_coords.specs.declared.simple.Simple.TheVariants.{Point, MultiPoint, LineString, MultiLineString, Polygon, MultiPolygon}
 use Rattle.gj_coords.specs.declared.warned.Warned.{Warned}
-use Rattle.gj_coords.specs.Items.{items, elements_of, place_of}
-use Rattle.gj_coords.specs.Shape.{is_empty, ring}
-use Rattle.gj_coords.specs.Winding.{ring_turn}
+use Rattle.gj_coords.specs.Items.{items, place_of}
 use Rattle.gj_coords.specs.Internal.WindingGather.{turn_in}
 use Rattle.gj_coords.specs.CoordinateWarnings.{Concern, each, position_warnings, polygon_warnings, coordinates_warnings}
 use Rattle.gj_coords.specs.Internal.SentEvents.{head}
@@ -26,12 +21,10 @@ use Rattle.gj_coords.specs.Internal.ListGather.{several_gathering}
 use Rattle.gj_coords.specs.Internal.SixReaders.{line_answer, ring_answer, polygon_answer, type_answer}
 use Rattle.gj_coords.specs.Internal.PositionWarnings.{position_warned}
 use Rattle.gj_coords.specs.Internal.RingLaws.{ring_least}
-use Rattle.gj_coords.specs.Internal.RingWarnings.{added_warned, ring_turns}
 use Rattle.gj_coords.specs.Internal.ElementCountLaws.{gathered_place}
 use Rattle.gj_coords.specs.Internal.GatheredWarningLaws.{taken_is}
-use Rattle.gj_coords.proofs.Readers.EventCounts.{length_below}
-use Rattle.gj_coords.proofs.Readers.WarningsOfElements.{IsShort, elements_short, none_of, always, gathered_warned, from_none, ring_warnings, ring_warned}
-use Rattle.gj_coords.proofs.Readers.WarningsOfElements.{sound_positions, gathered_rings}
+use Rattle.gj_coords.proofs.Readers.WarningsOfElements.{IsShort, elements_short, elements_warned, none_of, from_none, ring_warnings, ring_warned}
+use Rattle.gj_coords.proofs.Readers.WarningsOfElements.{ring_turned, ring_positions, gathered_rings}
 use Rattle.gj_coords.proofs.Readers.OrEmptyLaws.{whole_warned}
 
 -- ---- what an answer adds to warnings
@@ -57,50 +50,16 @@ alone j meaning concern h v short = from_none _ no_warnings (concern v) (h 0 no_
 
 several_warned : {A : Type 0} (j : Judgement A) (needed : ℕ) (meaning : Tree → A) (concern : Concern) → Adds j meaning concern →
     (v : Tree) → IsShort v → all_in (given (several_gathering j needed) meaning v).warned ≡ warnings_of (each concern v)
-several_warned j needed meaning concern h (constant which place) short = none_of
-several_warned j needed meaning concern h (number place literal end) short = none_of
-several_warned j needed meaning concern h (string place content end) short = none_of
-several_warned j needed meaning concern h (object place ms close) short = none_of
 several_warned {A = A} j needed meaning concern h (array place es close) short =
     let r : Gathering (Several needed) A Findings = several_gathering j needed in
-    from_none _ no_warnings (flat_map concern (items es))
-    (gathered_warned r meaning (λ g. g.warned) concern (λ g. ⊤) always (λ g v t few. h g.tally.count g.warned v few)
-    (items es) (r.opened place) tt (elements_short place es close short))
-    refl
+    elements_warned r meaning (λ g. g.warned) concern (λ g v few. h g.tally.count g.warned v few) place es close short refl
+several_warned j needed meaning concern h _ short = none_of
 
 -- ---- linear rings
 
 ring_place : (v : Tree) → (ring_answer v).place ≡ place_of v
-ring_place (constant which place) = refl
-ring_place (number place literal end) = refl
-ring_place (string place content end) = refl
-ring_place (object place ms close) = refl
 ring_place (array place es close) = gathered_place ring_gathering position_answer (λ g. g.tally) (λ g a. refl) (items es) (ring_gathering.opened place)
-
-ring_turned : (v : Tree) → IsShort v → is_empty (ring v) ≡ true → turn_in (ring_answer v).positions.winding ≡ ring_turn (elements_of v)
-ring_turned (constant which place) short sound = cc
-ring_turned (number place literal end) short sound = cc
-ring_turned (string place content end) short sound = cc
-ring_turned (object place ms close) short sound = cc
-ring_turned (array place es close) short sound =
-    let count = elements_short place es close short in
-    let long = length_below (items es) in
-    ring_turns place (items es) (sound_positions place (items es) sound) (omega arith)
-
-ring_step : (g : RingGather) (v : Tree) → ⊤ → IsShort v →
-    all_in (ring_gathering.added g (position_answer v)).positions.warned ≡ joined (all_in g.positions.warned) (warnings_of (position_warnings v))
-ring_step g v t short = ap all_in (added_warned g.positions (position_answer v)) ∙ position_warned g.positions.warned v
-
-ring_positions : (v : Tree) → IsShort v → all_in (ring_answer v).positions.warned ≡ warnings_of (each position_warnings v)
-ring_positions (constant which place) short = none_of
-ring_positions (number place literal end) short = none_of
-ring_positions (string place content end) short = none_of
-ring_positions (object place ms close) short = none_of
-ring_positions (array place es close) short =
-    from_none _ no_warnings (flat_map position_warnings (items es))
-    (gathered_warned ring_gathering position_answer (λ g. g.positions.warned) position_warnings (λ g. ⊤) always ring_step
-    (items es) (ring_gathering.opened place) tt (elements_short place es close short))
-    refl
+ring_place _ = refl
 
 ring_adds : (others : ℕ) (w : Warned) (v : Tree) → IsShort v →
     all_in (ring_judged.warned_behind others w (ring_answer v)) ≡ joined (all_in w) (warnings_of (ring_warnings (role_behind others) v))
@@ -110,14 +69,11 @@ ring_adds others w v short =
     (ring_place v) (ring_least v) (ring_turned v short) (ring_positions v short)
 
 rings_warned : (v : Tree) → IsShort v → all_in (polygon_answer v).warned ≡ warnings_of (polygon_warnings v)
-rings_warned (constant which place) short = none_of
-rings_warned (number place literal end) short = none_of
-rings_warned (string place content end) short = none_of
-rings_warned (object place ms close) short = none_of
 rings_warned (array place es close) short =
     let r : Gathering (Several 0) LinearRing Findings = several_gathering ring_judged 0 in
     gathered_rings r ring_answer (λ g. g.warned) (λ g. g.tally.count) (λ g a. refl) (λ g v few. ring_adds g.tally.count g.warned v few)
     (items es) (r.opened place) refl refl (elements_short place es close short)
+rings_warned _ short = none_of
 
 -- ---- the six types
 

@@ -4,6 +4,11 @@ use Rattle.std.specs.List.{flat_map}
 use Rattle.std.proofs.Common.{◌≡◌, ℕ, zero, suc, ◌<◌, ◌^◌, List, [], ◌∷◌, ◌++◌, length, Option, Bool, true, false, ◌&&◌, refl, sym, ap, ◌∙◌, arith, nat_lt}
 use Rattle.std.proofs.Common.{if◌then◌else◌}
 use Rattle.gj_json.specs.Tree.{Tree, array, Elements}
+use Rattle.gj_coords.specs.Internal.WindingGather.{turn_in}
+use Rattle.gj_coords.specs.Internal.PositionGather.{position_answer}
+use Rattle.gj_coords.specs.Internal.PositionWarnings.{position_warned}
+use Rattle.gj_coords.specs.Internal.RingWarnings.{added_warned, ring_turns}
+use Rattle.gj_coords.specs.Internal.SixReaders.{ring_answer}
 use Rattle.gj_coords.specs.declared.fault.Fault.{Fault}
 use Rattle.gj_coords.specs.declared.fault.Rule.TheVariants.{G14}
 use Rattle.gj_coords.specs.declared.kind.Kind.TheVariants.{W2}
@@ -23,11 +28,11 @@ use Rattle.gj_coords.specs.Internal.Gathering.{Gathering, gathered}
 use Rattle.gj_coords.specs.Internal.ElementCount.{one_counted}
 use Rattle.gj_coords.specs.Internal.KeptWarnings.{warnings_of, no_warnings, joined}
 use Rattle.gj_coords.specs.Internal.GatheredWarnings.{all_in, noted_when}
-use Rattle.gj_coords.specs.Internal.PositionsGather.{role_behind, runs_wrong, ring_noted}
+use Rattle.gj_coords.specs.Internal.PositionsGather.{ring_gathering, role_behind, runs_wrong, ring_noted}
 use Rattle.gj_coords.specs.Internal.RingLaws.{is_some_lesser, empty_front}
 use Rattle.gj_coords.specs.Internal.WarningLaws.{joined_none_first, warnings_of_none, joined_step}
 use Rattle.gj_coords.specs.Internal.GatheredWarningLaws.{none_more, noted_when_is, taken_is}
-use Rattle.gj_coords.proofs.Readers.EventCounts.{total, total_below}
+use Rattle.gj_coords.proofs.Readers.EventCounts.{length_below, total, total_below}
 
 -- a value whose events are fewer than 2^64
 abbrev pub IsShort : Tree → Type 0
@@ -38,9 +43,6 @@ elements_short place es close short = let h = total_below place es close in omeg
 
 pub none_of : no_warnings ≡ warnings_of []
 none_of = sym warnings_of_none
-
-pub always : {G A : Type 0} → (g : G) (a : A) → ⊤ → ⊤
-always g a t = t
 
 -- ---- elements that are all of one concern
 
@@ -60,6 +62,17 @@ module _ {G A B : Type 0} (r : Gathering G A B) (meaning : Tree → A) (warned :
 pub from_none : (a b : Warnings) (warnings : List Warning) → a ≡ joined b (warnings_of warnings) → b ≡ no_warnings → a ≡ warnings_of warnings
 from_none a b warnings h k = h ∙ (ap (λ x. joined x (warnings_of warnings)) k ∙ joined_none_first (warnings_of warnings))
 
+-- those of an array, whatever else is gathered
+pub elements_warned : {G A B : Type 0} (r : Gathering G A B) (meaning : Tree → A) (warned : G → Warned) (concern : Concern) →
+    ((g : G) (v : Tree) → IsShort v → all_in (warned (r.added g (meaning v))) ≡ joined (all_in (warned g)) (warnings_of (concern v))) →
+    (place : ℕ) (es : Elements) (close : ℕ) → IsShort (array place es close) → all_in (warned (r.opened place)) ≡ no_warnings →
+    all_in (warned (gathered r meaning (r.opened place) (items es))) ≡ warnings_of (flat_map concern (items es))
+elements_warned r meaning warned concern step place es close short none =
+    from_none _ (all_in (warned (r.opened place))) (flat_map concern (items es))
+    (gathered_warned r meaning warned concern (λ g. ⊤) (λ g a t. t) (λ g v t few. step g v few)
+    (items es) (r.opened place) tt (elements_short place es close short))
+    none
+
 -- ---- a linear ring
 
 -- a sound ring has sound positions
@@ -69,6 +82,20 @@ sound_positions place vs h =
     let behind : is_empty (flat_map position vs ++ unclosed place vs) ≡ true =
     (empty_front (few 4 G14 place vs) (flat_map position vs ++ unclosed place vs) h).1 in
     ap is_empty (empty_front (flat_map position vs) (unclosed place vs) behind).0
+
+-- how its positions run, and what they warn of
+pub ring_turned : (v : Tree) → IsShort v → is_empty (ring v) ≡ true → turn_in (ring_answer v).positions.winding ≡ ring_turn (elements_of v)
+ring_turned (array place es close) short sound =
+    let count = elements_short place es close short in
+    let long = length_below (items es) in
+    ring_turns place (items es) (sound_positions place (items es) sound) (omega arith)
+ring_turned _ short sound = cc
+
+pub ring_positions : (v : Tree) → IsShort v → all_in (ring_answer v).positions.warned ≡ warnings_of (each position_warnings v)
+ring_positions (array place es close) short =
+    elements_warned ring_gathering position_answer (λ g. g.positions.warned) position_warnings
+    (λ g v few. ap all_in (added_warned g.positions (position_answer v)) ∙ position_warned g.positions.warned v) place es close short refl
+ring_positions _ short = none_of
 
 abbrev pub ring_warnings : RingRole → Concern
 ring_warnings role v = warned_if (is_empty (ring v) && runs_wrong role (ring_turn (elements_of v))) (place_of v) W2 ++ each position_warnings v

@@ -8,6 +8,7 @@ use Rattle.gj_coords.specs.declared.fault.Fault.{Fault}
 use Rattle.gj_coords.specs.declared.fault.Rule.TheVariants.{G13}
 use Rattle.gj_coords.specs.declared.simple.Simple.{Simple}
 use Rattle.gj_coords.specs.declared.simple.Simple.TheVariants.{Point, MultiPoint, LineString, MultiLineString, Polygon, MultiPolygon}
+use Rattle.gj_coords.specs.declared.watcher.ring.LinearRing.{LinearRing}
 use Rattle.gj_coords.specs.declared.watcher.several.Several.{Several}
 use Rattle.gj_coords.specs.declared.tally.Tally.{Tally}
 use Rattle.gj_coords.specs.declared.walk.level.Level.{Level}
@@ -23,8 +24,9 @@ use Rattle.gj_coords.specs.Internal.PositionsGather.{position_added, ring_gather
 use Rattle.gj_coords.specs.Internal.Findings.{Judgement}
 use Rattle.gj_coords.specs.Internal.ListGather.{several_gathering}
 use Rattle.gj_coords.specs.Internal.GatheredWarnings.{no_warned}
-use Rattle.gj_coords.specs.Internal.LevelGather.{LineSummary, WholeSummary, other, level, third_gathering, second_gathering, first_gathering, some_fault_in}
+use Rattle.gj_coords.specs.Internal.LevelGather.{Line, LineSummary, LevelSummary, WholeSummary, other, level, third_gathering, second_gathering, first_gathering, some_fault_in}
 use Rattle.gj_coords.specs.Internal.LevelGather.{fault_as}
+use Rattle.gj_coords.specs.Internal.SixReaders.{ring_answer}
 use Rattle.gj_coords.specs.Internal.CoordinatesKept.{third_answer, second_answer, first_answer}
 use Rattle.gj_coords.specs.Internal.ElementCountLaws.{gathered_count}
 use Rattle.gj_coords.specs.Internal.PositionLaws.{position_fault, position_head}
@@ -46,13 +48,10 @@ role : {G H A B C D E : Type 0} (r : Gathering G A B) (q : Gathering H C D) (p :
     ((place : ℕ) → p (r.opened place) ≡ q.opened place) → ((g : G) → out (r.closed g) ≡ read (q.closed (p g))) →
     ((e : Event) → out (r.otherwise e) ≡ read (q.otherwise e)) →
     (v : Tree) → out (given r x v) ≡ read (given q y v)
-role r q p f x y out read step item opened closed otherwise (constant which place) = otherwise _
-role r q p f x y out read step item opened closed otherwise (number place literal end) = otherwise _
-role r q p f x y out read step item opened closed otherwise (string place content end) = otherwise _
-role r q p f x y out read step item opened closed otherwise (object place ms close) = otherwise _
 role r q p f x y out read step item opened closed otherwise (array place es close) =
     closed (gathered r x (r.opened place) (items es)) ∙
     ap (λ h. read (q.closed h)) (project r q p f x y step item (items es) (r.opened place) ∙ ap (λ h. gathered q y h (items es)) (opened place))
+role r q p f x y out read step item opened closed otherwise _ = otherwise _
 
 none_needed : (n : ℕ) → nat_lt n 0 ≡ false
 none_needed n = grind (arith, nat_tests)
@@ -75,11 +74,14 @@ pub third_position : (v : Tree) → (third_answer v).position ≡ position_answe
 third_position = role third_gathering numbers_gathering (λ g. g.numbers) (λ a. a.head) position_answer head (λ b. b.position) (λ d. d)
     (λ g a. refl) position_head (λ p. refl) (λ g. refl) (λ e. refl)
 
+pub third_as_ring : {E : Type 0} (out : LineSummary → E) (read : LinearRing → E) →
+    ((g : Line) → out (third_gathering.closed g) ≡ read (ring_gathering.closed (record { positions = g.positions; tally = g.numbers.tally }))) →
+    ((e : Event) → out (third_gathering.otherwise e) ≡ read (ring_gathering.otherwise e)) → (v : Tree) → out (third_answer v) ≡ read (ring_answer v)
+third_as_ring out read = role third_gathering ring_gathering (λ g. record { positions = g.positions; tally = g.numbers.tally }) (λ a. a)
+    position_answer position_answer out read (λ g a. refl) (λ v. refl) (λ p. refl)
+
 pub third_ring : (v : Tree) → (third_answer v).ring ≡ least (ring v)
-third_ring v =
-    role third_gathering ring_gathering (λ g. record { positions = g.positions; tally = g.numbers.tally }) (λ a. a) position_answer position_answer
-    (λ b. b.ring) (λ d. d.fault)
-    (λ g a. refl) (λ v. refl) (λ p. refl) (λ g. refl) (λ e. refl) v ∙ ring_least v
+third_ring v = third_as_ring (λ b. b.ring) (λ d. d.fault) (λ g. refl) (λ e. refl) v ∙ ring_least v
 
 -- ---- the second level
 
@@ -101,11 +103,14 @@ second_line v =
     third_answer position_answer (λ b. b.line) (λ d. d.fault) line_step third_position (λ p. refl) (λ g. refl) (λ e. refl) v ∙
     several_least (by_fault (λ a. a.fault)) 2 (omega arith) position_answer position position_fault v
 
+pub second_as_ring : {E : Type 0} (out : LevelSummary → E) (read : LinearRing → E) →
+    ((g : Level) → out (second_gathering.closed g) ≡ read (ring_gathering.closed (record { positions = g.positions; tally = g.numbers.tally }))) →
+    ((e : Event) → out (second_gathering.otherwise e) ≡ read (ring_gathering.otherwise e)) → (v : Tree) → out (second_answer v) ≡ read (ring_answer v)
+second_as_ring out read = role second_gathering ring_gathering (λ g. record { positions = g.positions; tally = g.numbers.tally }) (λ a. a.position)
+    third_answer position_answer out read (λ g a. refl) third_position (λ p. refl)
+
 pub second_ring : (v : Tree) → (second_answer v).ring ≡ least (ring v)
-second_ring v =
-    role second_gathering ring_gathering (λ g. record { positions = g.positions; tally = g.numbers.tally }) (λ a. a.position) third_answer position_answer
-    (λ b. b.ring) (λ d. d.fault)
-    (λ g a. refl) third_position (λ p. refl) (λ g. refl) (λ e. refl) v ∙ ring_least v
+second_ring v = second_as_ring (λ b. b.ring) (λ d. d.fault) (λ g. refl) (λ e. refl) v ∙ ring_least v
 
 -- a list of what some role of the elements is
 list_role : {G A B : Type 0} (r : Gathering G A B) (p : G → Several 0) (x : Tree → A) (out : B → Option Fault) (fault_of : A → Option Fault) (shape : Shape) →

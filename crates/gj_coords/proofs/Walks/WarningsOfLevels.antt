@@ -1,8 +1,7 @@
 -- Each role of each level of a value has the warnings of its concern.
 use Rattle.std.specs.List.{flat_map}
-use Rattle.std.specs.Prelude.{⊤}
-use Rattle.std.proofs.Common.{◌≡◌, ℕ, [], ◌∷◌, true, false, refl, sym, ap, ◌∙◌, arith, if◌then◌else◌}
-use Rattle.gj_json.specs.Tree.{Tree, constant, number, string, array, object, Elements, end_of_array, element}
+use Rattle.std.proofs.Common.{◌≡◌, ℕ, [], ◌∷◌, true, false, refl, sym, ap, ◌∙◌, if◌then◌else◌}
+use Rattle.gj_json.specs.Tree.{Tree, array, Elements, end_of_array, element}
 use Rattle.gj_coords.specs.declared.walk.outermost.Outermost.{Outermost}
 use Rattle.gj_coords.specs.declared.kind.Kind.TheVariants.{W6}
 use Rattle.gj_coords.specs.declared.watcher.position.Position.{Position}
@@ -21,18 +20,16 @@ use Rattle.gj_coords.specs.Internal.Gathering.{gathered}
 use Rattle.gj_coords.specs.Internal.KeptWarnings.{warnings_of, no_warnings, joined}
 use Rattle.gj_coords.specs.Internal.GatheredWarnings.{no_warned, all_in, noted_in}
 use Rattle.gj_coords.specs.Internal.PositionGather.{numbers_gathering, position_closed, position_answer, judged_noted}
-use Rattle.gj_coords.specs.Internal.PositionsGather.{position_added, ring_gathering, role_behind}
-use Rattle.gj_coords.specs.Internal.LevelGather.{Line, third_gathering, second_gathering, first_gathering, some_warned_in, warned_as}
+use Rattle.gj_coords.specs.Internal.PositionsGather.{ring_gathering, role_behind}
+use Rattle.gj_coords.specs.Internal.LevelGather.{third_gathering, second_gathering, first_gathering, some_warned_in, warned_as}
 use Rattle.gj_coords.specs.Internal.CoordinatesKept.{third_answer, second_answer, first_answer}
 use Rattle.gj_coords.specs.Internal.PositionLaws.{position_head}
 use Rattle.gj_coords.specs.Internal.PositionWarnings.{place_head, position_warned}
-use Rattle.gj_coords.specs.Internal.RingWarnings.{added_warned, ring_turns}
 use Rattle.gj_coords.specs.Internal.WarningLaws.{joined_none_first, added_is}
 use Rattle.gj_coords.specs.Internal.GatheredWarningLaws.{taken_is}
-use Rattle.gj_coords.proofs.Readers.EventCounts.{length_below}
-use Rattle.gj_coords.proofs.Readers.WarningsOfElements.{IsShort, elements_short, none_of, always, sound_positions, gathered_warned, from_none, ring_warnings}
-use Rattle.gj_coords.proofs.Readers.WarningsOfElements.{ring_warned, gathered_rings}
-use Rattle.gj_coords.proofs.Walks.FaultsOfLevels.{project, third_position, third_ring, second_position, second_ring, not_empty}
+use Rattle.gj_coords.proofs.Readers.WarningsOfElements.{IsShort, elements_short, elements_warned, none_of, from_none, ring_warnings}
+use Rattle.gj_coords.proofs.Readers.WarningsOfElements.{ring_turned, ring_positions, ring_warned, gathered_rings}
+use Rattle.gj_coords.proofs.Walks.FaultsOfLevels.{project, third_position, third_as_ring, third_ring, second_position, second_as_ring, second_ring, not_empty}
 
 -- where the answer as a position says it is
 answered_place : (p : Position) (v : Tree) → p ≡ position_answer v → p.head.place ≡ place_of v
@@ -40,65 +37,29 @@ answered_place p v e = ap (λ q. q.head.place) e ∙ (ap (λ h. h.place) (positi
 
 -- ---- the third level
 
-third_step : (g : Line) (v : Tree) → ⊤ → IsShort v →
-    all_in (third_gathering.added g (position_answer v)).positions.warned ≡ joined (all_in g.positions.warned) (warnings_of (position_warnings v))
-third_step g v t short = ap all_in (added_warned g.positions (position_answer v)) ∙ position_warned g.positions.warned v
-
 third_warned : (v : Tree) → IsShort v → all_in (third_answer v).warned ≡ warnings_of (each position_warnings v)
-third_warned (constant which place) short = none_of
-third_warned (number place literal end) short = none_of
-third_warned (string place content end) short = none_of
-third_warned (object place ms close) short = none_of
-third_warned (array place es close) short =
-    from_none _ no_warnings (flat_map position_warnings (items es))
-    (gathered_warned third_gathering position_answer (λ g. g.positions.warned) position_warnings (λ g. ⊤) always third_step
-    (items es) (third_gathering.opened place) tt (elements_short place es close short))
-    refl
+third_warned v short = ap all_in (third_as_ring (λ b. b.warned) (λ d. d.positions.warned) (λ g. refl) (λ e. refl) v) ∙ ring_positions v short
 
 third_turn : (v : Tree) → IsShort v → is_empty (ring v) ≡ true → (third_answer v).turn ≡ ring_turn (elements_of v)
-third_turn (constant which place) short sound = cc
-third_turn (number place literal end) short sound = cc
-third_turn (string place content end) short sound = cc
-third_turn (object place ms close) short sound = cc
 third_turn (array place es close) short sound =
-    let count = elements_short place es close short in
-    let long = length_below (items es) in
     ap (λ (h : RingGather). turn_in h.positions.winding)
     (project third_gathering ring_gathering (λ g. record { positions = g.positions; tally = g.numbers.tally }) (λ a. a) position_answer position_answer
     (λ g a. refl) (λ v. refl) (items es) (third_gathering.opened place)) ∙
-    ring_turns place (items es) (sound_positions place (items es) sound) (omega arith)
+    ring_turned (array place es close) short sound
+third_turn _ short sound = cc
 
 -- ---- the second level
 
-second_step : (g : Level) (v : Tree) → ⊤ → IsShort v →
-    all_in (second_gathering.added g (third_answer v)).positions.warned ≡ joined (all_in g.positions.warned) (warnings_of (position_warnings v))
-second_step g v t short =
-    ap (λ p. all_in (position_added g.positions p).warned) (third_position v) ∙
-    (ap all_in (added_warned g.positions (position_answer v)) ∙ position_warned g.positions.warned v)
-
 second_warned : (v : Tree) → IsShort v → all_in (second_answer v).warned ≡ warnings_of (each position_warnings v)
-second_warned (constant which place) short = none_of
-second_warned (number place literal end) short = none_of
-second_warned (string place content end) short = none_of
-second_warned (object place ms close) short = none_of
-second_warned (array place es close) short =
-    from_none _ no_warnings (flat_map position_warnings (items es))
-    (gathered_warned second_gathering third_answer (λ g. g.positions.warned) position_warnings (λ g. ⊤) always second_step
-    (items es) (second_gathering.opened place) tt (elements_short place es close short))
-    refl
+second_warned v short = ap all_in (second_as_ring (λ b. b.warned) (λ d. d.positions.warned) (λ g. refl) (λ e. refl) v) ∙ ring_positions v short
 
 second_turn : (v : Tree) → IsShort v → is_empty (ring v) ≡ true → (second_answer v).turn ≡ ring_turn (elements_of v)
-second_turn (constant which place) short sound = cc
-second_turn (number place literal end) short sound = cc
-second_turn (string place content end) short sound = cc
-second_turn (object place ms close) short sound = cc
 second_turn (array place es close) short sound =
-    let count = elements_short place es close short in
-    let long = length_below (items es) in
     ap (λ (h : RingGather). turn_in h.positions.winding)
     (project second_gathering ring_gathering (λ g. record { positions = g.positions; tally = g.numbers.tally }) (λ a. a.position) third_answer position_answer
     (λ g a. refl) third_position (items es) (second_gathering.opened place)) ∙
-    ring_turns place (items es) (sound_positions place (items es) sound) (omega arith)
+    ring_turned (array place es close) short sound
+second_turn _ short sound = cc
 
 second_ring_step : (g : Level) (v : Tree) → IsShort v →
     all_in (second_gathering.added g (third_answer v)).rings_warned ≡ joined (all_in g.rings_warned)
@@ -109,24 +70,21 @@ second_ring_step g v short =
     (answered_place a.position v (third_position v)) (third_ring v) (third_turn v short) (third_warned v short)
 
 second_rings_warned : (v : Tree) → IsShort v → all_in (second_answer v).rings_warned ≡ warnings_of (polygon_warnings v)
-second_rings_warned (constant which place) short = none_of
-second_rings_warned (number place literal end) short = none_of
-second_rings_warned (string place content end) short = none_of
-second_rings_warned (object place ms close) short = none_of
 second_rings_warned (array place es close) short =
     gathered_rings second_gathering third_answer (λ g. g.rings_warned) (λ g. g.numbers.tally.count) (λ g a. refl) second_ring_step
     (items es) (second_gathering.opened place) refl refl (elements_short place es close short)
+second_rings_warned _ short = none_of
 
 -- ---- the first level
 
-positions_step : (g : Outermost) (v : Tree) → ⊤ → IsShort v →
+positions_step : (g : Outermost) (v : Tree) → IsShort v →
     all_in (first_gathering.added g (second_answer v)).positions_warned ≡ joined (all_in g.positions_warned) (warnings_of (position_warnings v))
-positions_step g v t short =
+positions_step g v short =
     ap (λ p. all_in (judged_noted p.fault g.positions_warned p)) (second_position v) ∙ position_warned g.positions_warned v
 
-lines_step : (g : Outermost) (v : Tree) → ⊤ → IsShort v →
+lines_step : (g : Outermost) (v : Tree) → IsShort v →
     all_in (first_gathering.added g (second_answer v)).lines_warned ≡ joined (all_in g.lines_warned) (warnings_of (each position_warnings v))
-lines_step g v t short = taken_is g.lines_warned (second_answer v).warned ∙ ap (joined (all_in g.lines_warned)) (second_warned v short)
+lines_step g v short = taken_is g.lines_warned (second_answer v).warned ∙ ap (joined (all_in g.lines_warned)) (second_warned v short)
 
 rings_step : (g : Outermost) (v : Tree) → IsShort v →
     all_in (first_gathering.added g (second_answer v)).rings_warned ≡ joined (all_in g.rings_warned)
@@ -136,18 +94,9 @@ rings_step g v short =
     ring_warned (role_behind g.numbers.tally.count) g.rings_warned a.position.head.place a.ring a.turn a.warned v
     (answered_place a.position v (second_position v)) (second_ring v) (second_turn v short) (second_warned v short)
 
-polygons_step : (g : Outermost) (v : Tree) → ⊤ → IsShort v →
+polygons_step : (g : Outermost) (v : Tree) → IsShort v →
     all_in (first_gathering.added g (second_answer v)).polygons_warned ≡ joined (all_in g.polygons_warned) (warnings_of (polygon_warnings v))
-polygons_step g v t short = taken_is g.polygons_warned (second_answer v).rings_warned ∙ ap (joined (all_in g.polygons_warned)) (second_rings_warned v short)
-
-positions_warned : (place : ℕ) (es : Elements) (close : ℕ) → IsShort (array place es close) →
-    all_in (gathered first_gathering second_answer (first_gathering.opened place) (items es)).positions_warned ≡ warnings_of
-    (flat_map position_warnings (items es))
-positions_warned place es close short =
-    from_none _ no_warnings (flat_map position_warnings (items es))
-    (gathered_warned first_gathering second_answer (λ g. g.positions_warned) position_warnings (λ g. ⊤) always positions_step
-    (items es) (first_gathering.opened place) tt (elements_short place es close short))
-    refl
+polygons_step g v short = taken_is g.polygons_warned (second_answer v).rings_warned ∙ ap (joined (all_in g.polygons_warned)) (second_rings_warned v short)
 
 -- of an array, empty or not
 array_warned : (simple : Simple) (place : ℕ) (es : Elements) (close : ℕ) → IsShort (array place es close) →
@@ -158,21 +107,17 @@ array_warned Point place es close short =
     (project first_gathering numbers_gathering (λ g. g.numbers) (λ a. a.position.head) second_answer head
     (λ g a. refl) (λ v. ap (λ p. p.head) (second_position v) ∙ position_head v) (items es) (first_gathering.opened place)) ∙
     from_none _ no_warnings (position_warnings (array place es close)) (position_warned no_warned (array place es close)) refl
-array_warned MultiPoint place es close short = positions_warned place es close short
-array_warned LineString place es close short = positions_warned place es close short
+array_warned MultiPoint place es close short =
+    elements_warned first_gathering second_answer (λ g. g.positions_warned) position_warnings positions_step place es close short refl
+array_warned LineString place es close short =
+    elements_warned first_gathering second_answer (λ g. g.positions_warned) position_warnings positions_step place es close short refl
 array_warned MultiLineString place es close short =
-    from_none _ no_warnings (flat_map (each position_warnings) (items es))
-    (gathered_warned first_gathering second_answer (λ g. g.lines_warned) (each position_warnings) (λ g. ⊤) always lines_step
-    (items es) (first_gathering.opened place) tt (elements_short place es close short))
-    refl
+    elements_warned first_gathering second_answer (λ g. g.lines_warned) (each position_warnings) lines_step place es close short refl
 array_warned Polygon place es close short =
     gathered_rings first_gathering second_answer (λ g. g.rings_warned) (λ g. g.numbers.tally.count) (λ g a. refl) rings_step
     (items es) (first_gathering.opened place) refl refl (elements_short place es close short)
 array_warned MultiPolygon place es close short =
-    from_none _ no_warnings (flat_map polygon_warnings (items es))
-    (gathered_warned first_gathering second_answer (λ g. g.polygons_warned) polygon_warnings (λ g. ⊤) always polygons_step
-    (items es) (first_gathering.opened place) tt (elements_short place es close short))
-    refl
+    elements_warned first_gathering second_answer (λ g. g.polygons_warned) polygon_warnings polygons_step place es close short refl
 
 -- what is no array has none
 none_for : (simple : Simple) (v : Tree) → is_empty (position v) ≡ false → elements_of v ≡ [] → concern_of simple v ≡ []
@@ -187,12 +132,9 @@ other_warned : (simple : Simple) (v : Tree) → is_empty (position v) ≡ false 
 other_warned simple v broken none = none_of ∙ sym (ap warnings_of (none_for simple v broken none))
 
 pub first_warned : (simple : Simple) (v : Tree) → IsShort v → all_in (warned_as simple (first_answer v)) ≡ warnings_of (coordinates_warnings simple v)
-first_warned simple (constant which place) short = other_warned simple (constant which place) refl refl
-first_warned simple (number place literal end) short = other_warned simple (number place literal end) refl refl
-first_warned simple (string place content end) short = other_warned simple (string place content end) refl refl
-first_warned simple (object place ms close) short = other_warned simple (object place ms close) refl refl
 first_warned simple (array place end_of_array close) short = added_is no_warnings W6 place ∙ joined_none_first _
 first_warned simple (array place (element v more) close) short =
     let g : Outermost = gathered first_gathering second_answer (first_gathering.opened place) (v ∷ items more) in
     ap (λ b. all_in (if b then noted_in no_warned W6 g.numbers.tally.place else some_warned_in simple g)) (not_empty place v (items more)) ∙
     array_warned simple place (element v more) close short
+first_warned simple v short = other_warned simple v refl refl
