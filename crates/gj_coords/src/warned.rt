@@ -140,7 +140,7 @@ impl Warned {
     {
         match &mut self.warnings {
             Some(warnings) => warnings.take(other),
-            None => self.warnings = Some(Warnings::none().join(*other)),
+            None => self.warnings = Some(*other),
         }
     }
 }

@@ -80,8 +80,19 @@ impl Warnings {
         ensures { self.new ≡ joined self.old other.now }
     {
         for kind in &KINDS {
-            let noted = self.both(other, *kind);
-            self.replace(*kind, noted);
+            self.take_kind(other, *kind);
+        }
+    }
+
+    /// Takes those of one kind. Mostly there are none.
+    #[inline(always)]
+    fn take_kind(&mut self, other: &Warnings, kind: Kind)
+        ensures { self.new ≡ replaced self.old kind (joined_noted (kept self.old kind) (kept other.now kind)) }
+    {
+        let more = other.kept(kind);
+        if !more.is_nothing() {
+            let noted = self.kept(kind).join(more);
+            self.replace(kind, noted);
         }
     }
 
@@ -170,14 +181,6 @@ impl Warnings {
             count: self.counts.of(kind),
             first: self.firsts.of(kind),
         }
-    }
-
-    /// What is kept of a kind in both.
-    #[inline]
-    fn both(&self, other: &Warnings, kind: Kind) -> KindWarnings
-        ensures { result ≡ joined_noted (kept self.now kind) (kept other.now kind) }
-    {
-        self.kept(kind).join(other.kept(kind))
     }
 
     /// Writes what is kept of a kind.

@@ -7,7 +7,7 @@ use Rattle.gj_coords.specs.declared.warnings.Warnings.{Warnings}
 use Rattle.gj_coords.specs.Warnings.{Warning, warning_at, same_kind}
 use Rattle.gj_coords.specs.Internal.KeptWarnings.{noted_as, noted_of, nothing_noted, joined_noted, by_kind, kept, warnings_of, no_warnings, joined, added}
 use Rattle.gj_coords.specs.Internal.KeptWarnings.{replaced}
-use Rattle.gj_coords.specs.Internal.ByKind.{each, of_kind, with_value, of_each}
+use Rattle.gj_coords.specs.Internal.ByKind.{each, of_kind, with_value, of_each, one_kind}
 use Rattle.gj_coords.specs.Internal.KeptWarningLaws.{joined_noted_none, joined_noted_assoc, joined_noted_comm, noted_of-append}
 
 -- what is kept by kind
@@ -95,3 +95,14 @@ pub joined_step : (a x : Warnings) (xs ys : List Warning) (total : Warnings) →
 joined_step a x xs ys total h k =
     h ∙ (joined_assoc a x (warnings_of ys)
     ∙ (ap (λ z. joined a (joined z (warnings_of ys))) k ∙ sym (ap (joined a) (warnings_of-append xs ys))))
+
+-- a kind that is replaced by itself changes nothing
+pub replaced_by_itself : (warnings : Warnings) (kind : Kind) → replaced warnings kind (kept warnings kind) ≡ warnings
+unfolding replaced
+replaced_by_itself warnings kind =
+    by_kind_alike (λ other. if same_kind kind other then kept warnings kind else kept warnings other) (kept warnings)
+    (λ other. by_test other (same_kind kind other) refl)
+  where
+    by_test : (other : Kind) (t : Bool) → same_kind kind other ≡ t → (if t then kept warnings kind else kept warnings other) ≡ kept warnings other
+    by_test other true t = ap (kept warnings) (one_kind kind other t)
+    by_test other false t = refl

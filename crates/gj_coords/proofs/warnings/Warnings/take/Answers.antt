@@ -15,9 +15,10 @@ loop-kind-preserved c =
     let value : Kind → KindWarnings = λ kind. joined_noted (kept a kind) (kept c.args.other.now kind) in
     let kind = get_or kinds i W1 in
     let at : index_of kind ≡ i = index_at i c.loop-kind-test.true in
-    let noted : c.both-noted.result ≡ value kind =
-    c.both-noted.ensures ∙ ap (λ n. joined_noted n (kept c.args.other.now kind)) (ap (λ w. kept w kind) c.loop-kind.invariant ∙ not_turned i value a kind at) in
-    c.replace.ensures ∙ (ap (λ w. replaced w kind c.both-noted.result) c.loop-kind.invariant ∙ one_turned i value a kind c.both-noted.result at noted)
+    let noted : joined_noted (kept c.loop-kind.self kind) (kept c.args.other.now kind) ≡ value kind =
+    ap (λ n. joined_noted n (kept c.args.other.now kind)) (ap (λ w. kept w kind) c.loop-kind.invariant ∙ not_turned i value a kind at) in
+    c.take_kind.ensures ∙ (ap (λ w. replaced w kind (joined_noted (kept c.loop-kind.self kind) (kept c.args.other.now kind))) c.loop-kind.invariant
+    ∙ one_turned i value a kind (joined_noted (kept c.loop-kind.self kind) (kept c.args.other.now kind)) at noted)
 
 pub returns : goal.returns
 unfolding joined

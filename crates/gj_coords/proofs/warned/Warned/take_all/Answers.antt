@@ -1,0 +1,13 @@
+use Rattle.std.proofs.Common.{ap, sym, ◌∙◌, Option, Some}
+use Rattle.gj_coords.specs.declared.warned.Warned.{Warned}
+use Rattle.gj_coords.specs.declared.warnings.Warnings.{Warnings}
+use Rattle.gj_coords.specs.Internal.KeptWarnings.{joined}
+use Rattle.gj_coords.specs.Internal.GatheredWarnings.{warnings_in}
+use Rattle.gj_coords.specs.Internal.WarningLaws.{joined_none_first}
+use Rattle.gj_coords.proofs.warned.Warned.take_all.Goals as goal
+
+pub returns-in-None : goal.returns-in-None
+returns-in-None c =
+    let others = c.args.other.now in
+    let holds : Warnings → Warned = λ all. record { warnings = Some all } in
+    sym (ap (λ x. holds (joined (warnings_in x) others)) c.in-None.is ∙ ap holds (joined_none_first others))
