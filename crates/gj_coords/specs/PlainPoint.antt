@@ -7,16 +7,21 @@ use Rattle.gj_json.specs.Tree.{Tree}
 use Rattle.gj_json.specs.Events.{value_events}
 use Rattle.gj_json.specs.Flat.{flat_events}
 use Rattle.gj_coords.specs.declared.simple.Simple.TheVariants.{Point}
+use Rattle.gj_coords.specs.declared.warnings.Warnings.{Warnings}
 use Rattle.gj_coords.specs.Fault.{least}
 use Rattle.gj_coords.specs.Shape.{coordinates_faults}
 use Rattle.gj_coords.specs.Winding.{corner_of}
 use Rattle.gj_coords.specs.Internal.KeptWarnings.{no_warnings}
 use Rattle.gj_coords.specs.Internal.CoordinatesKept.{coordinates_kept}
 
--- as the coordinates of a Point it breaks no rule and deserves no warning
+-- as the coordinates of a Point it breaks no rule and deserves these warnings
+abbrev pub IsPointWith : Warnings → Flat → Type 0
+IsPointWith warnings flat =
+    (value : Tree) → value_events value ≡ flat_events flat → (least (coordinates_faults Point value) ≡ None) × (coordinates_kept Point value ≡ warnings)
+
+-- it deserves none
 abbrev pub IsPlainPoint : Flat → Type 0
-IsPlainPoint flat =
-    (value : Tree) → value_events value ≡ flat_events flat → (least (coordinates_faults Point value) ≡ None) × (coordinates_kept Point value ≡ no_warnings)
+IsPlainPoint = IsPointWith no_warnings
 
 -- a number is written with at most seven decimal places
 abbrev pub IsNumberShort : Numbered → Type 0

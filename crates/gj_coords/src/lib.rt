@@ -34,7 +34,7 @@ pub use bbox::Bbox;
 pub use coordinates::Coordinates;
 pub use fault::{Fault, Rule, lesser_fault};
 pub use kind::{KINDS, Kind};
-pub use plain_point::is_plain_point;
+pub use plain_point::{is_plain_point, point_warned};
 pub use simple::Simple;
 pub use simple_faults::SimpleFaults;
 pub use warned::Warned;

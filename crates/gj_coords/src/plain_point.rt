@@ -1,8 +1,10 @@
 //! A position that comes as one `Flat`, as the coordinates of a Point.
-ghost use Rattle.std.specs.Prelude.{◌↔◌, IsTrue};
-ghost use Rattle.gj_coords.specs.PlainPoint.{IsPlainPoint, IsWrittenPlain};
+ghost use Rattle.std.specs.Prelude.{◌≡◌, ◌↔◌, IsTrue};
+ghost use Rattle.gj_coords.specs.PlainPoint.{IsPlainPoint, IsPointWith, IsWrittenPlain};
+ghost use Rattle.gj_coords.specs.Internal.GatheredWarnings.{all_in};
 
-use crate::flat::plain_corner;
+use crate::flat::{plain_corner, warn_quick};
+use crate::warned::Warned;
 use gj_json::Flat;
 
 /// Whether the way a position is written shows that it breaks no rule and deserves no warning as the coordinates of a Point
@@ -13,4 +15,14 @@ pub fn is_plain_point(flat: &Flat) -> bool
     ensures told { IsTrue result ↔ IsWrittenPlain flat.now }
 {
     plain_corner(flat).is_some()
+}
+
+/// What deserves a warning in a position as the coordinates of a Point, in which it breaks no rule.
+#[inline(always)]
+pub fn point_warned(flat: &Flat) -> Warned
+    ensures { IsPointWith (all_in result) flat.now }
+{
+    let mut warned = Warned::none();
+    warn_quick(flat, &mut warned);
+    warned
 }

@@ -7,6 +7,7 @@ pub mod TextKept
 pub mod OpenMembers
 pub mod GatheredWarnings
 pub mod FrameCalls
+pub mod TakenPoints
 pub mod LabelledEvents
 pub mod EventSteps
 pub mod LostObjects

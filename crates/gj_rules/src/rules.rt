@@ -367,8 +367,8 @@ impl<const FRAMES: usize> EventSink for FramedRules<FRAMES> {
 
     #[inline(always)]
     fn tell_point(&mut self, located: &Located, flat: &Flat, close: u64) {
-        if self.takes_point(flat) {
-            self.name_geometry(located.place);
+        if self.takes_point() {
+            self.take_point(located.place, flat);
         } else {
             self.tell_point_in_turn(located, flat, close);
         }

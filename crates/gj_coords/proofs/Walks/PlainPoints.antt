@@ -1,4 +1,4 @@
--- A value that comes as one plain position breaks no rule as a Point, and deserves no warning.
+-- A value that comes as one position breaks no rule as a Point, and deserves the warnings of the position: a plain one deserves none.
 use Rattle.std.proofs.Common.{◌≡◌, ◌∙◌, ◌<◌, ◌^◌, [], length, Option, Some, None, IfSome, IsTrue, is_some, refl, sym, ap, subst, arith}
 use Rattle.gj_json.specs.declared.flat.Flat.{Flat}
 use Rattle.gj_json.specs.declared.flat.Numbered.{Numbered}
@@ -6,16 +6,17 @@ use Rattle.gj_json.specs.Flat.{flat_events}
 use Rattle.gj_json.specs.Events.{value_events}
 use Rattle.gj_json.specs.Tree.{Tree}
 use Rattle.gj_coords.specs.declared.simple.Simple.TheVariants.{Point}
+use Rattle.gj_coords.specs.declared.warned.Warned.{Warned}
 use Rattle.gj_coords.specs.declared.winding.Corner.{Corner}
 use Rattle.gj_coords.specs.Coordinates.{IsAt}
 use Rattle.gj_coords.specs.Fault.{least}
-use Rattle.gj_coords.specs.PlainPoint.{IsPlainPoint}
+use Rattle.gj_coords.specs.PlainPoint.{IsPlainPoint, IsPointWith}
 use Rattle.gj_coords.specs.Shape.{coordinates_faults}
 use Rattle.gj_coords.specs.Internal.CoordinatesKept.{first_answer, coordinates_kept}
-use Rattle.gj_coords.specs.Internal.FlatPosition.{flat_first, IsPlain}
+use Rattle.gj_coords.specs.Internal.FlatPosition.{flat_first, flat_position, IsPlain}
 use Rattle.gj_coords.specs.Internal.GatheredWarnings.{no_warned, all_in}
-use Rattle.gj_coords.specs.Internal.KeptWarnings.{no_warnings}
 use Rattle.gj_coords.specs.Internal.LevelGather.{level, fault_as, warned_as}
+use Rattle.gj_coords.specs.Internal.PositionGather.{sound_noted}
 use Rattle.gj_coords.specs.Internal.Progress.{waiting, done, progress_machine}
 use Rattle.gj_coords.proofs.Lists.KeptOfShortValues.{countable}
 use Rattle.gj_coords.proofs.Readers.RestsOfValues.{reads_on_answers}
@@ -42,11 +43,14 @@ answer_is f v e =
 no_fault : (f : Flat) (v : Tree) → value_events v ≡ flat_events f → least (coordinates_faults Point v) ≡ None
 no_fault f v e = sym (ap (fault_as Point) (answer_is f v e) ∙ first_least Point v) ∙ sym (flat_fault Point f)
 
-none_kept : (f : Flat) (corner : Corner) (v : Tree) → IsPlain f corner → value_events v ≡ flat_events f → coordinates_kept Point v ≡ no_warnings
+-- its warnings are those of the position
+position_kept : (f : Flat) (v : Tree) → value_events v ≡ flat_events f → coordinates_kept Point v ≡ all_in (sound_noted no_warned (flat_position f))
 unfolding coordinates_kept
-none_kept f corner v plain e =
-    ap (λ a. all_in (warned_as Point a)) (sym (answer_is f v e)) ∙ (ap all_in (sym (flat_warned Point f)) ∙ ap all_in (plain.quiet no_warned))
+position_kept f v e = ap (λ a. all_in (warned_as Point a)) (sym (answer_is f v e)) ∙ ap all_in (sym (flat_warned Point f))
+
+pub point_with : (f : Flat) (warned : Warned) → warned ≡ sound_noted no_warned (flat_position f) → IsPointWith (all_in warned) f
+point_with f warned is = λ v same. (no_fault f v same, position_kept f v same ∙ ap all_in (sym is))
 
 pub plain_point : (f : Flat) (corner : Option Corner) → IfSome corner (λ c. IsPlain f c) → IsTrue (is_some corner) → IsPlainPoint f
 plain_point f None plain e = cc
-plain_point f (Some c) plain e = λ v same. (no_fault f v same, none_kept f c v plain same)
+plain_point f (Some c) plain e = λ v same. (no_fault f v same, position_kept f v same ∙ ap all_in (plain.quiet no_warned))

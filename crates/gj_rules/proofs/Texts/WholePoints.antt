@@ -1,4 +1,4 @@
--- A whole member `geometry` that is a Point with plain coordinates adds its name to the frame around, and nothing else.
+-- A whole member `geometry` that is a Point adds its name to the frame around, and the warnings of its position.
 use Rattle.std.proofs.Common.{◌≡◌, ℕ, ◌+◌, List, [], ◌∷◌, ◌++◌, map, Option, None, refl, sym, ap, subst, ◌∙◌}
 use Rattle.std.proofs.Common.{append_assoc, append-nil}
 use Rattle.std.proofs.lemmas.List.{map-append}
@@ -21,7 +21,7 @@ use Rattle.gj_coords.specs.declared.fault.Fault.{Fault}
 use Rattle.gj_coords.specs.declared.simple.Simple.{Simple}
 use Rattle.gj_coords.specs.declared.warnings.Warnings.{Warnings}
 use Rattle.gj_coords.specs.Fault.{least, lesser}
-use Rattle.gj_coords.specs.PlainPoint.{IsPlainPoint}
+use Rattle.gj_coords.specs.PlainPoint.{IsPointWith}
 use Rattle.gj_coords.specs.Shape.{coordinates_faults}
 use Rattle.gj_coords.specs.Internal.CoordinatesKept.{coordinates_kept}
 use Rattle.gj_coords.specs.Internal.KeptWarnings.{no_warnings, joined}
@@ -31,7 +31,7 @@ use Rattle.gj_rules.specs.declared.role.Role.{Role}
 use Rattle.gj_rules.specs.declared.rules.FramedRules.{FramedRules}
 use Rattle.gj_rules.specs.Rules.{StandsFor}
 use Rattle.gj_rules.specs.Internal.EventSteps.{Core, Feed, State, idle, named_feed, names_step, due_step, passed, step, run, start}
-use Rattle.gj_rules.specs.Internal.FrameCalls.{blank, named, due_after, type_set, filled, taken_in, settled}
+use Rattle.gj_rules.specs.Internal.FrameCalls.{blank, named, due_after, type_set, filled, taken_in, warned, settled}
 use Rattle.gj_rules.specs.Internal.FrameMeaning.{Findings}
 use Rattle.gj_rules.specs.Internal.FrameMeaning.{Frame}
 use Rattle.gj_rules.specs.Internal.FrameMeaning.{MemberSlots}
@@ -42,9 +42,9 @@ use Rattle.gj_rules.specs.Internal.OpenMembers as S
 use Rattle.gj_rules.specs.Internal.MemberRules.{rules_of}
 use Rattle.gj_rules.specs.Internal.OpenMembers.{members_fault}
 use Rattle.gj_rules.specs.Internal.RulesState.{core_of, top_of, Stands}
-use Rattle.gj_rules.specs.Internal.Summaries.{none_found, alike, found_as}
+use Rattle.gj_rules.specs.Internal.Summaries.{alike, found_as}
 use Rattle.gj_rules.proofs.Objects.MemberSlots.{joined-none}
-use Rattle.gj_rules.proofs.Objects.WarningsInTurn.{to_none, with_none}
+use Rattle.gj_rules.proofs.Objects.WarningsInTurn.{to_none}
 use Rattle.gj_rules.proofs.Texts.ValuesByEvents.{Leads, leads_at, st, text_found, lead_text}
 use Rattle.gj_rules.proofs.Texts.OneEventMore.{core, with_feed, holds_names}
 use Rattle.gj_rules.proofs.Texts.OneFlatMore.{split_told, run-append, feeding, run_fed}
@@ -116,7 +116,7 @@ same_value (array p es end) place ns close xs ys e =
     (sym (append_assoc (bare (elements_events es)) (closing end []) xs) ∙ (rest ∙ append_assoc (map number_event ns) (closing close []) ys)) in
     bare_array p es end ∙ (ap (λ (x : Event). x ∷ inner) first ∙ ap (λ (zs : List Event). at place What.OpenArray ∷ zs) h)
 
--- ---- nothing is found in the object
+-- ---- no fault is found in the object
 
 abbrev the_slots : ℕ → ℕ → ℕ → ℕ → MemberSlots
 the_slots place type_at word_at coordinates_at =
@@ -134,20 +134,18 @@ the_frame place type_at word_at coordinates_at =
 abbrev as_found : Option Fault → Warnings → Findings
 as_found fault warned = record { fault = fault; warned = warned }
 
-none_settled : (place type_at word_at coordinates_at : ℕ) (v : Tree) → least (coordinates_faults Simple.Point v) ≡ None
-    → coordinates_kept Simple.Point v ≡ no_warnings → settled (filled Coordinates v (the_frame place type_at word_at coordinates_at)) ≡ none_found
-none_settled place type_at word_at coordinates_at v e w =
+point_settled : (place type_at word_at coordinates_at : ℕ) (v : Tree) (w : Warnings) → least (coordinates_faults Simple.Point v) ≡ None
+    → coordinates_kept Simple.Point v ≡ w → settled (filled Coordinates v (the_frame place type_at word_at coordinates_at)) ≡ as_found None w
+point_settled place type_at word_at coordinates_at v w e k =
     let found : Findings = found_as Simple.Point v in
     ap (λ (x : Option Fault). as_found (lesser x found.fault) (joined no_warnings found.warned))
     (no_member_fault place type_at word_at coordinates_at (alike found))
     ∙ (ap (λ (x : Option Fault). as_found x (joined no_warnings found.warned)) e
-    ∙ ap (λ (x : Warnings). as_found None x) (to_none found.warned ∙ w))
+    ∙ ap (λ (x : Warnings). as_found None x) (to_none found.warned ∙ k))
 
--- nothing that is found changes nothing
-nothing_taken : (f : Frame) → taken_in Geometry none_found f ≡ f
-nothing_taken f =
-    ap (λ (s : MemberSlots). record { slots = s; gathered = gathered Geometry no_warnings f.gathered }) (joined-none Geometry f.slots)
-    ∙ ap (λ (w : Warnings). record f { gathered = record f.gathered { geometry = w } }) (with_none f.gathered.geometry)
+-- no fault changes no slot
+point_taken : (w : Warnings) (f : Frame) → taken_in Geometry (as_found None w) f ≡ warned Geometry w f
+point_taken w f = ap (λ (s : MemberSlots). record { slots = s; gathered = gathered Geometry w f.gathered }) (joined-none Geometry f.slots)
 
 -- ---- one event more
 
@@ -187,13 +185,13 @@ coordinates_named : (x : Told) (p q r t : ℕ) (o : List Frame) (a : Findings) �
 coordinates_named x p q r t o a e =
     ap (λ (y : Event). passed x (names_step y.what y.place (core 0 Names (type_set t Word.Point (named TypeName r (blank Role.Geometry q))) o a))) e
 
-geometry_closed : (x : Told) (p q r t c : ℕ) (v : Tree) (f : Frame) (o : List Frame) (a : Findings) → least (coordinates_faults Simple.Point v) ≡ None
-    → coordinates_kept Simple.Point v ≡ no_warnings → event_of x ≡ at p What.CloseObject
-    → step x (st 0 Names (filled Coordinates v (the_frame q r t c)) (f ∷ o) a) ≡ st 0 Names f o a
-geometry_closed x p q r t c v f o a n w e =
+geometry_closed : (x : Told) (p q r t c : ℕ) (v : Tree) (w : Warnings) (f : Frame) (o : List Frame) (a : Findings)
+    → least (coordinates_faults Simple.Point v) ≡ None → coordinates_kept Simple.Point v ≡ w → event_of x ≡ at p What.CloseObject
+    → step x (st 0 Names (filled Coordinates v (the_frame q r t c)) (f ∷ o) a) ≡ st 0 Names (warned Geometry w f) o a
+geometry_closed x p q r t c v w f o a n k e =
     ap (λ (y : Event). passed x (names_step y.what y.place (core 0 Names (filled Coordinates v (the_frame q r t c)) (f ∷ o) a))) e
-    ∙ (ap (λ (found : Findings). st 0 Names (taken_in Geometry found f) o a) (none_settled q r t c v n w)
-    ∙ ap (λ (g : Frame). st 0 Names g o a) (nothing_taken f))
+    ∙ (ap (λ (found : Findings). st 0 Names (taken_in Geometry found f) o a) (point_settled q r t c v w n k)
+    ∙ ap (λ (g : Frame). st 0 Names g o a) (point_taken w f))
 
 -- ---- the events of the position
 
@@ -276,52 +274,52 @@ head_run x1 x2 x3 x4 x5 located feed f o a d w e1 e2 e3 e4 e5 =
     ∙ coordinates_named x5 located.coordinates located.typed.place located.typed.name_at located.typed.word_at os a e5))))
 
 -- the events from the position on
-tail_run : (frames : ℕ) (x5 : Told) (ys rest : List Told) (located : Located) (flat : Flat) (close : ℕ) (f : Frame) (o : List Frame) (a z : Findings)
-    → IsPlainPoint flat → map event_of ys ≡ flat_events flat ++ at close What.CloseObject ∷ []
+tail_run : (frames : ℕ) (x5 : Told) (ys rest : List Told) (located : Located) (flat : Flat) (w : Warnings) (close : ℕ) (f : Frame) (o : List Frame) (a z : Findings)
+    → IsPointWith w flat → map event_of ys ≡ flat_events flat ++ at close What.CloseObject ∷ []
     → Leads frames (ys ++ rest) (with_feed (core 0 (Due Coordinates) (framed located) (f ∷ o) a) (named_feed x5 Coordinates)) z
-    → run ys (with_feed (core 0 (Due Coordinates) (framed located) (f ∷ o) a) (named_feed x5 Coordinates)) ≡ st 0 Names f o a
-tail_run frames x5 ys rest located flat close f o a z plain e h =
+    → run ys (with_feed (core 0 (Due Coordinates) (framed located) (f ∷ o) a) (named_feed x5 Coordinates)) ≡ st 0 Names (warned Geometry w f) o a
+tail_run frames x5 ys rest located flat w close f o a z deserved e h =
     let before : State = with_feed (core 0 (Due Coordinates) (framed located) (f ∷ o) a) (named_feed x5 Coordinates) in
     let k = split_told ys (flat_events flat) (at close What.CloseObject ∷ []) e in
     let lone = one_told k.1 (at close What.CloseObject) k.4 in
     let leads : Leads frames (k.0 ++ (k.1 ++ rest)) before z =
     subst (λ (ts : List Told). Leads frames ts before z) (ap (λ (ts : List Told). ts ++ rest) k.2 ∙ append_assoc k.0 k.1 rest) h in
     let p = position_run frames x5 k.0 (k.1 ++ rest) flat.place (numbers_of flat) flat.close (framed located) (f ∷ o) a z k.3 leads in
-    let clean = plain p.0 p.1 in
+    let found = deserved p.0 p.1 in
     ap (λ (ts : List Told). run ts before) k.2
     ∙ (run-append k.0 k.1 before
     ∙ (ap (λ (s : State). run k.1 s) p.2
     ∙ (ap (λ (ts : List Told). run ts (st 0 Names (filled Coordinates p.0 (framed located)) (f ∷ o) a)) lone.1
-    ∙ geometry_closed lone.0 close located.typed.place located.typed.name_at located.typed.word_at located.coordinates p.0 f o a clean.0 clean.1 lone.2)))
+    ∙ geometry_closed lone.0 close located.typed.place located.typed.name_at located.typed.word_at located.coordinates p.0 w f o a found.0 found.1 lone.2)))
 
-point_run : (frames : ℕ) (xs rest : List Told) (located : Located) (flat : Flat) (close : ℕ) (feed : Feed) (f : Frame) (o : List Frame) (a z : Findings)
-    → due_after Geometry f ≡ Geometry → located.typed.word ≡ Word.Point → IsPlainPoint flat → map event_of xs ≡ point_events located flat close
+point_run : (frames : ℕ) (xs rest : List Told) (located : Located) (flat : Flat) (w : Warnings) (close : ℕ) (feed : Feed) (f : Frame) (o : List Frame) (a z : Findings)
+    → due_after Geometry f ≡ Geometry → located.typed.word ≡ Word.Point → IsPointWith w flat → map event_of xs ≡ point_events located flat close
     → Leads frames (xs ++ rest) (with_feed (core 0 Names f o a) feed) z
-    → run xs (with_feed (core 0 Names f o a) feed) ≡ st 0 Names (named Geometry located.place f) o a
-point_run frames xs rest located flat close feed f o a z d w plain e h =
+    → run xs (with_feed (core 0 Names f o a) feed) ≡ st 0 Names (warned Geometry w (named Geometry located.place f)) o a
+point_run frames xs rest located flat w close feed f o a z d word deserved e h =
     let b : State = with_feed (core 0 Names f o a) feed in
     let g = split_told xs (located_events located) (flat_events flat ++ at close What.CloseObject ∷ []) e in
     let k = five_told g.0 _ _ _ _ _ g.3 in
     let head : List Told = k.x1 ∷ (k.x2 ∷ (k.x3 ∷ (k.x4 ∷ (k.x5 ∷ [])))) in
     let after : State = with_feed (core 0 (Due Coordinates) (framed located) (named Geometry located.place f ∷ o) a) (named_feed k.x5 Coordinates) in
-    let first : run head b ≡ after = head_run k.x1 k.x2 k.x3 k.x4 k.x5 located feed f o a d w k.e1 k.e2 k.e3 k.e4 k.e5 in
+    let first : run head b ≡ after = head_run k.x1 k.x2 k.x3 k.x4 k.x5 located feed f o a d word k.e1 k.e2 k.e3 k.e4 k.e5 in
     let split : xs ≡ head ++ g.1 = g.2 ∙ ap (λ (ts : List Told). ts ++ g.1) k.all in
     let leads : Leads frames (g.1 ++ rest) (run head b) z =
     leads_at frames head (g.1 ++ rest) b z (subst (λ (ts : List Told). Leads frames (ts ++ rest) b z) split h) in
     ap (λ (ts : List Told). run ts b) split
     ∙ (run-append head g.1 b
     ∙ (ap (λ (s : State). run g.1 s) first
-    ∙ tail_run frames k.x5 g.1 rest located flat close (named Geometry located.place f) o a z plain g.4
+    ∙ tail_run frames k.x5 g.1 rest located flat w close (named Geometry located.place f) o a z deserved g.4
     (subst (λ (s : State). Leads frames (g.1 ++ rest) s z) first leads)))
 
 -- ---- a call
 
 -- Before these events the rules are at a name of an object that uses `geometry` and has had none.
-pub told_point : {frames : ℕ} (old new : FramedRules frames) (located : Located) (flat : Flat) (close : ℕ)
-    → old.skipped ≡ 0 → old.mode ≡ Names → due_after Geometry (top_of old) ≡ Geometry → located.typed.word ≡ Word.Point → IsPlainPoint flat
-    → core_of new ≡ record (core_of old) { top = named Geometry located.place (top_of old) }
+pub told_point : {frames : ℕ} (old new : FramedRules frames) (located : Located) (flat : Flat) (w : Warnings) (close : ℕ)
+    → old.skipped ≡ 0 → old.mode ≡ Names → due_after Geometry (top_of old) ≡ Geometry → located.typed.word ≡ Word.Point → IsPointWith w flat
+    → core_of new ≡ record (core_of old) { top = warned Geometry w (named Geometry located.place (top_of old)) }
     → (events : List Event) → StandsFor old events → StandsFor new (events ++ point_events located flat close)
-told_point {frames} old new located flat close skipped mode due word plain c events h = λ text done rest e f d.
+told_point {frames} old new located flat w close skipped mode due word deserved c events h = λ text done rest e f d.
     let k = split_told done events (point_events located flat close) f in
     let split : text_told text ≡ k.0 ++ (k.1 ++ rest) = e ∙ (ap (λ (ts : List Told). ts ++ rest) k.2 ∙ append_assoc k.0 k.1 rest) in
     let stands = h text k.0 (k.1 ++ rest) split k.3 d in
@@ -334,11 +332,11 @@ told_point {frames} old new located flat close skipped mode due word plain c eve
     ap (λ (n : ℕ). core n old.mode (top_of old) o a) skipped ∙ ap (λ (m : Mode). core 0 m (top_of old) o a) mode in
     let was : before ≡ with_feed (core 0 Names (top_of old) o a) before.feed =
     ap (λ (y : Core). with_feed y before.feed) (sym stands.0 ∙ here) in
-    let ran : run k.1 before ≡ st 0 Names (named Geometry located.place (top_of old)) o a =
+    let point : Frame = warned Geometry w (named Geometry located.place (top_of old)) in
+    let ran : run k.1 before ≡ st 0 Names point o a =
     ap (λ (s : State). run k.1 s) was
-    ∙ point_run frames k.1 rest located flat close before.feed (top_of old) o a (text_found text) due word plain k.4
+    ∙ point_run frames k.1 rest located flat w close before.feed (top_of old) o a (text_found text) due word deserved k.4
     (subst (λ (s : State). Leads frames (k.1 ++ rest) s (text_found text)) was leads) in
-    let now : core_of new ≡ core 0 Names (named Geometry located.place (top_of old)) o a =
-    c ∙ ap (λ (y : Core). record y { top = named Geometry located.place (top_of old) }) here in
+    let now : core_of new ≡ core 0 Names point o a = c ∙ ap (λ (y : Core). record y { top = point }) here in
     subst (λ (s : State). Stands new s) (sym (ap (λ (ts : List Told). run ts start) k.2 ∙ (run-append k.0 k.1 start ∙ ran)))
     (now, holds_names new.skipped new.mode new.coordinates new.bbox [] (ap (λ (y : Core). y.mode) now))

@@ -36,7 +36,7 @@ fn expect(rt: &impl Abort, text: &str, expected: Verdict) {
     }
 }
 
-static HEADS: [(&str, Wanted); 24] = [
+static HEADS: [(&str, Wanted); 25] = [
     (
         "{\"type\":\"Feature\",\"properties\":null,\"geometry\":{\"type\":\"Point\",\"coordinates\":[1,2]}}",
         Valid(&[]),
@@ -84,6 +84,11 @@ static HEADS: [(&str, Wanted); 24] = [
     (
         "{\"type\":\"Feature\",\"properties\":{\"a\":[1]},\"geometry\":{\"type\":\"Point\",\"coordinates\":[1.12345678,2]}}",
         Valid(&[(Kind::W4, 83)]),
+    ),
+    // In the second of two features, a third number: its place.
+    (
+        "{\"type\":\"FeatureCollection\",\"features\":[{\"type\":\"Feature\",\"properties\":null,\"geometry\":{\"type\":\"Point\",\"coordinates\":[1,2]}},{\"type\":\"Feature\",\"properties\":null,\"geometry\":{\"type\":\"Point\",\"coordinates\":[1,2,3.12345678]}}]}",
+        Valid(&[(Kind::W4, 207)]),
     ),
     // A longitude beyond 180 degrees: the position.
     (

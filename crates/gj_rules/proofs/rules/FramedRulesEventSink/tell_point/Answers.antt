@@ -1,4 +1,7 @@
--- A plain Point adds the name of its member.
+-- A whole Point adds the name of its member and its warnings.
+use Rattle.std.proofs.Common.{◌∙◌, ap}
+use Rattle.gj_rules.specs.Internal.FrameMeaning.{Frame}
+use Rattle.gj_rules.specs.Internal.RulesState.{core_of}
 use Rattle.gj_rules.proofs.Texts.WholePoints.{told_point}
 use Rattle.gj_rules.proofs.rules.FramedRulesEventSink.tell_point.Goals as goal
 
@@ -6,5 +9,7 @@ pub returns-then-takes_point : goal.returns-then-takes_point
 returns-then-takes_point g c = λ events h.
     let t = c.takes_point.ensures in
     let is = c.if-takes_point.true in
-    told_point c.args.self.now c.name_geometry.new.self c.args.located.now c.args.flat.now c.args.close (t.skipped is) (t.mode is) (t.due is)
-    c.requires.point (t.plain is) c.name_geometry.ensures events h
+    let taken = c.take_point.ensures.frame in
+    told_point c.args.self.now c.take_point.new.self c.args.located.now c.args.flat.now taken.warnings c.args.close (t.skipped is) (t.mode is) (t.due is)
+    c.requires.point taken.deserved
+    (c.take_point.ensures.core ∙ ap (λ (top : Frame). record (core_of c.args.self.now) { top = top }) taken.after_is) events h

@@ -1,0 +1,10 @@
+use Rattle.std.proofs.Common.{◌∙◌, ap}
+use Rattle.gj_coords.specs.Internal.FlatPosition.{flat_position}
+use Rattle.gj_coords.specs.Internal.PositionGather.{sound_noted}
+use Rattle.gj_coords.proofs.Walks.PlainPoints.{point_with}
+use Rattle.gj_coords.proofs.plain_point.point_warned.Goals as goal
+
+pub returns : goal.returns
+returns c =
+    let f = c.args.flat.now in
+    point_with f c.warn_quick.new.warned (c.warn_quick.ensures ∙ ap (λ w. sound_noted w (flat_position f)) c.none-warned.ensures.exact)
