@@ -1,8 +1,8 @@
 //! The beginnings of features and geometries as most writers put them, each recognized by a comparison of words.
 
-ghost use Rattle.std.specs.Prelude.{◌≡◌, ◌+◌, ◌<◌, ◌≤◌, length, take};
+ghost use Rattle.std.specs.Prelude.{◌≡◌, ◌+◌, ◌<◌, ◌≤◌, [], ◌∷◌, length, take};
 ghost use Rattle.std.specs.List.{AllByRecursion};
-ghost use Rattle.gj_json.specs.Bytes.{IsWhite};
+ghost use Rattle.gj_json.specs.Bytes.{IsWhite, space};
 ghost use Rattle.gj_json.specs.Internal.FlatParts.{cut};
 ghost use Rattle.gj_json.specs.Internal.WholeHeads.{IsTyped, IsFollowing, IsLocated, ComesToType, OpensProperties};
 ghost use Rattle.gj_json.specs.declared.heads.TheConstants.{ROOM};
@@ -189,10 +189,13 @@ pub fn following_typed(piece: &[u8]) -> UsualNext
     }
 }
 
-/// The beginning of a member `geometry` of a usual type that the piece starts with, with no white space in it.
+/// The beginning of a member `geometry` whose bracket stands at an index, where the piece comes to the type, with no white space after
+/// the bracket.
 #[inline(always)]
-fn dense_located(piece: &[u8]) -> UsualLocated
+fn dense_located(piece: &[u8], bracket: usize) -> UsualLocated
     requires room { ROOM ≤ length piece.now }
+    requires near { bracket ≤ 12 }
+    requires comes { ComesToType piece.now bracket (bracket + 8) [] }
     ensures within { result.count ≤ length piece.now }
     ensures on { 0 < result.count → result.bracket < result.name_at }
     ensures name { 0 < result.count → result.name_at < result.word_at }
@@ -200,22 +203,21 @@ fn dense_located(piece: &[u8]) -> UsualLocated
     ensures few { result.coordinates ≤ result.count }
     ensures usual { 0 < result.count → IsLocated piece.now result.count result.bracket result.name_at result.word_at result.coordinates result.word }
 {
-    if begins_long(piece, b"\"geometry\":{\"typ", b"e\":             ", 3) {
-        let text = usual_text(&piece[19..]);
-        if text.count == 0 {
-            return NOT_LOCATED;
-        }
-        let at = 19 + text.count;
-        if begins(&piece[at..], b",\"coordinates\": ", 15) {
-            return UsualLocated {
-                count: at + 15,
-                bracket: 11,
-                name_at: 12,
-                word_at: 19,
-                word: text.word,
-                coordinates: at + 1,
-            };
-        }
+    let word_at = bracket + 8;
+    let text = usual_text(&piece[word_at..]);
+    if text.count == 0 {
+        return NOT_LOCATED;
+    }
+    let at = word_at + text.count;
+    if begins(&piece[at..], b",\"coordinates\": ", 15) {
+        return UsualLocated {
+            count: at + 15,
+            bracket,
+            name_at: bracket + 1,
+            word_at,
+            word: text.word,
+            coordinates: at + 1,
+        };
     }
     NOT_LOCATED
 }
@@ -227,7 +229,7 @@ fn spaced_word_at(piece: &[u8]) -> usize
     requires room { ROOM ≤ length piece.now }
     ensures far { 0 < result → 20 < result }
     ensures near { result ≤ 22 }
-    ensures spaced { 0 < result → ComesToType piece.now result }
+    ensures spaced { 0 < result → ComesToType piece.now 12 result (space ∷ []) }
 {
     if begins_long(piece, b"\"geometry\": {\"ty", b"pe\":            ", 5) {
         return 21;
@@ -271,7 +273,7 @@ fn spaced_located(piece: &[u8]) -> UsualLocated
     NOT_LOCATED
 }
 
-/// The beginning of a member `geometry`, with such spaces or without.
+/// The beginning of a member `geometry`, with such spaces or without, or with one after its colon alone.
 #[inline(always)]
 pub fn usual_located(piece: &[u8]) -> UsualLocated
     ensures within { result.count ≤ length piece.now }
@@ -284,11 +286,17 @@ pub fn usual_located(piece: &[u8]) -> UsualLocated
     if piece.len() < ROOM {
         return NOT_LOCATED;
     }
-    let dense = dense_located(piece);
-    if dense.count > 0 {
-        return dense;
+    if begins_long(piece, b"\"geometry\":{\"typ", b"e\":             ", 3) {
+        return dense_located(piece, 11);
     }
-    spaced_located(piece)
+    let spaced = spaced_located(piece);
+    if spaced.count > 0 {
+        return spaced;
+    }
+    if begins_long(piece, b"\"geometry\": {\"ty", b"pe\":            ", 4) {
+        return dense_located(piece, 12);
+    }
+    NOT_LOCATED
 }
 
 /// The beginning of a member `properties` that is an object, with a space after its colon or none: how many bytes, or 0.

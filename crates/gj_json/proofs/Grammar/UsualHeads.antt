@@ -6,7 +6,7 @@ use Rattle.std.specs.List.{AllByRecursion}
 use Rattle.gj_json.specs.Bytes.{IsWhite, open_brace, comma}
 use Rattle.gj_json.specs.declared.names.Word.{Word}
 use Rattle.gj_json.specs.Internal.FlatParts.{cut}
-use Rattle.gj_json.specs.Internal.WholeHeads.{named, before_type, IsLocated, IsTyped}
+use Rattle.gj_json.specs.Internal.WholeHeads.{named, ComesToType, IsLocated, IsTyped}
 use Rattle.gj_json.specs.Internal.WholeTokens.{IsUsualText}
 use Rattle.gj_json.proofs.Pieces.PieceRests.{rest_of}
 
@@ -18,25 +18,28 @@ in_parts : (a b i c d text gap last : List ℕ) → a ≡ b ++ (open_brace ∷ (
     → (a ++ text) ++ d ≡ b ++ ((open_brace ∷ (i ++ (c ++ (text ++ (comma ∷ gap))))) ++ last)
 in_parts a b i c d text gap last e f = rw (e, f) (simp append_assoc)
 
-pub located_by : (inside gap piece : List ℕ) (a n b name_at coordinates : ℕ) (word : Word) → AllByRecursion IsWhite inside → AllByRecursion IsWhite gap
-    → take a piece ≡ before_type inside gap → a ≡ length (before_type inside gap) → IsUsualText (take (length piece - a) (drop a piece)) n word
+pub located_by : (gap piece : List ℕ) (bracket a n b name_at coordinates : ℕ) (word : Word) → ComesToType piece bracket a gap
+    → AllByRecursion IsWhite gap → IsUsualText (take (length piece - a) (drop a piece)) n word
     → n ≤ length (take (length piece - a) (drop a piece)) → take b (drop (a + n) piece) ≡ after_type gap
     → coordinates ≡ a + n + 1 + length gap → a ≡ name_at + length (named (codes "type") gap)
-    → IsLocated piece (a + n + b) (length (named (codes "geometry") gap)) name_at a coordinates word
-located_by inside gap piece a n b name_at coordinates word white_inside white front long usual few rear place name =
+    → IsLocated piece (a + n + b) bracket name_at a coordinates word
+located_by gap piece bracket a n b name_at coordinates word to white usual few rear place name =
+    let inside = to.inside in
     let P : List ℕ → Type 0 = λ xs. IsUsualText xs n word in
     let u : IsUsualText (drop a piece) n word = subst P (rest_of piece a) usual in
     let text = take n (drop a piece) in
     let w : length text ≡ n = length-take-le n (drop a piece) (omega (arith, few, ap length (rest_of piece a))) in
-    let first = named (codes "geometry") gap in
+    let first = named (codes "geometry") to.before in
     let last = named (codes "type") gap in
     let object = open_brace ∷ (inside ++ (last ++ (text ++ (comma ∷ gap)))) in
     let split : take (a + n + b) piece ≡ (take a piece ++ text) ++ take b (drop (a + n) piece) =
     take-add (a + n) b piece ∙ ap (λ xs. xs ++ take b (drop (a + n) piece)) (take-add a n piece) in
     record {
+      before = to.before;
       inside = inside;
       gap = gap;
-      white_inside = white_inside;
+      white_before = to.white_before;
+      white_inside = to.white_inside;
       white = white;
       object_bytes = object;
       begins = record {
@@ -45,16 +48,24 @@ located_by inside gap piece a n b name_at coordinates word white_inside white fr
         is_quoted = u.quoted;
         known_as = u.known_as;
         spelled = refl;
-        name_place = omega (arith, name, long, length-append first (open_brace ∷ (inside ++ last)), length-append inside last);
+        name_place = omega (
+          arith,
+          name,
+          to.long,
+          to.bracket_place,
+          length-append first (open_brace ∷ (inside ++ last)),
+          length-append inside last,
+        );
         word_place = name;
       };
       spelled = split
-          ∙ in_parts (take a piece) first inside last (take b (drop (a + n) piece)) text gap (named (codes "coordinates") gap) front rear;
-      bracket_place = refl;
+          ∙ in_parts (take a piece) first inside last (take b (drop (a + n) piece)) text gap (named (codes "coordinates") gap) to.spelled rear;
+      bracket_place = to.bracket_place;
       coordinates_place = omega (
         arith,
         place,
-        long,
+        to.long,
+        to.bracket_place,
         w,
         length-append first (open_brace ∷ (inside ++ last)),
         length-append inside last,

@@ -166,23 +166,24 @@ module _ (limits : Allowed) where
   coordinates_known = refl
 
   -- a member `geometry` up to its coordinates
-  abbrev located_told : List ℕ → List ℕ → List ℕ → Word → ℕ → List Event
-  located_told inside gap object_bytes word n =
-      let bracket = n + length (named (codes "geometry") gap) in
+  abbrev located_told : List ℕ → List ℕ → List ℕ → List ℕ → Word → ℕ → List Event
+  located_told before inside gap object_bytes word n =
+      let bracket = n + length (named (codes "geometry") before) in
       event_at n (What.Name Geometry) ∷ (typed_told inside gap word bracket ++ event_at (bracket + length object_bytes) (What.Name Coordinates) ∷ [])
 
-  located_carries : (mode : Mode) (levels : List Level) (bracket name_at word_at : ℕ) (word : Word) (inside gap object_bytes : List ℕ) → names mode ≡ true
-      → length levels + 1 ≤ limits.depth → AllByRecursion IsWhite inside → AllByRecursion IsWhite gap
+  located_carries : (mode : Mode) (levels : List Level) (bracket name_at word_at : ℕ) (word : Word) (before inside gap object_bytes : List ℕ)
+      → names mode ≡ true → length levels + 1 ≤ limits.depth
+      → AllByRecursion IsWhite before → AllByRecursion IsWhite inside → AllByRecursion IsWhite gap
       → BeginsTyped bracket name_at word_at word inside gap object_bytes
       → Carries limits mode levels ValueDue (Object ∷ levels)
-      (named (codes "geometry") gap ++ (object_bytes ++ named (codes "coordinates") gap)) (located_told inside gap object_bytes word)
-  located_carries mode levels bracket name_at word_at word inside gap object_bytes w deep white_inside white h =
+      (named (codes "geometry") before ++ (object_bytes ++ named (codes "coordinates") gap)) (located_told before inside gap object_bytes word)
+  located_carries mode levels bracket name_at word_at word before inside gap object_bytes w deep white_before white_inside white h =
       let all = Object ∷ levels in
-      let first = named (codes "geometry") gap in
+      let first = named (codes "geometry") before in
       let last = named (codes "coordinates") gap in
       let whole = both mode ValueDue ValueDue levels levels all first (object_bytes ++ last) (λ n. event_at n (What.Name (known_of (codes "geometry"))) ∷ [])
       (λ n. typed_told inside gap word n ++ event_at (n + length object_bytes) (What.Name (known_of (codes "coordinates"))) ∷ [])
-      (name_carries mode levels (codes "geometry") gap w geometry_quoted white)
+      (name_carries mode levels (codes "geometry") before w geometry_quoted white_before)
       (both ValueDue NameDue ValueDue levels all all object_bytes last (typed_told inside gap word)
       (λ n. event_at n (What.Name (known_of (codes "coordinates"))) ∷ [])
       (typed_carries ValueDue levels bracket name_at word_at word inside gap object_bytes refl deep white_inside white h)
@@ -365,10 +366,10 @@ following_taken {before} {after} old new piece next around live done room w leve
 -- the beginning of a member `geometry`, as it is found and reported
 found_told : (limits : Allowed) (start : ℕ) (piece : List ℕ) (usual : UsualLocated) (located : Located) (h : IsFound piece usual)
     → IsLocatedAt start usual located
-    → located_events located ≡ located_told limits h.located.inside h.located.gap h.located.object_bytes usual.word start
+    → located_events located ≡ located_told limits h.located.before h.located.inside h.located.gap h.located.object_bytes usual.word start
 found_told limits start piece usual located h i =
     let l = h.located in
-    let first = named (codes "geometry") l.gap in
+    let first = named (codes "geometry") l.before in
     let e : located.typed.place ≡ start + length first = omega (arith, i.bracket, l.bracket_place) in
     let d : located.typed.name_at ≡ start + length first + 1 + length l.inside = omega (arith, i.name_at, l.bracket_place, l.begins.name_place) in
     let f : located.typed.word_at ≡ start + length first + 1 + length l.inside + length (named (codes "type") l.gap) =
@@ -380,14 +381,14 @@ found_moved : (limits : Allowed) (mode : Mode) (levels : List Level) (start offs
     → names mode ≡ true → length levels < limits.depth → offset + length piece ≤ limits.bytes
     → StandsWell limits mode levels start offset bytes
     → Moved limits ValueDue (Object ∷ levels) offset (offset + usual.count) bytes (take usual.count piece)
-    (located_told limits h.located.inside h.located.gap h.located.object_bytes usual.word offset)
+    (located_told limits h.located.before h.located.inside h.located.gap h.located.object_bytes usual.word offset)
 found_moved limits mode levels start offset bytes piece usual h due deep room k =
     let l = h.located in
     let long : length (take usual.count piece) ≡ usual.count = length-take-le usual.count piece h.within in
-    let told = located_told limits l.inside l.gap l.object_bytes usual.word in
+    let told = located_told limits l.before l.inside l.gap l.object_bytes usual.word in
     let carries =
-    located_carries limits mode levels usual.bracket usual.name_at usual.word_at usual.word l.inside l.gap l.object_bytes due
-    (omega (arith, deep)) l.white_inside l.white l.begins in
+    located_carries limits mode levels usual.bracket usual.name_at usual.word_at usual.word l.before l.inside l.gap l.object_bytes due
+    (omega (arith, deep)) l.white_before l.white_inside l.white l.begins in
     let C : List ℕ → Type 0 = λ xs. Carries limits mode levels ValueDue (Object ∷ levels) xs told in
     let whole : C (take usual.count piece) = subst C (sym l.spelled) carries in
     let P : ℕ → Type 0 = λ n. Moved limits ValueDue (Object ∷ levels) offset (offset + n) bytes (take usual.count piece) (told offset) in
@@ -401,7 +402,7 @@ pub found_taken : {before after : List Event → Type 0} (old new : Reader) (pie
 found_taken {before} {after} old new piece usual located live due room deep h i p heard =
     let levels = levels_in old.levels in
     let long : length (take usual.count piece) ≡ usual.count = length-take-le usual.count piece h.within in
-    let told = located_told old.limits h.located.inside h.located.gap h.located.object_bytes usual.word old.offset in
+    let told = located_told old.limits h.located.before h.located.inside h.located.gap h.located.object_bytes usual.word old.offset in
     let P : ℕ → Type 0 = λ n. Lands n ValueDue (Object ∷ levels) old new in
     let M : ℕ → List ℕ → Type 0 = λ n bytes. Moved old.limits ValueDue (Object ∷ levels) old.offset (old.offset + n) bytes (take usual.count piece) told in
     let Q : List Event → Type 0 = λ es. (events : List Event) → before events → after (events ++ es) in
@@ -440,7 +441,7 @@ point_taken {before} {after} old new piece usual located flat end live due room 
     let same : take (end + 1) piece ≡ given =
     take_more piece end 0 w ∙ ap (λ b. take end piece ++ b ∷ []) f.bracket ∙ ap (λ zs. zs ++ last) middle ∙ in_three xs ys gap last in
     let long : length given ≡ end + 1 = ap length (sym same) ∙ length-take-le (end + 1) piece (omega arith) in
-    let told = located_told limits h.located.inside h.located.gap h.located.object_bytes usual.word old.offset in
+    let told = located_told limits h.located.before h.located.inside h.located.gap h.located.object_bytes usual.word old.offset in
     let es : List Event = told ++ (flat_events flat ++ event_at (old.offset + end) What.CloseObject ∷ []) in
     let P : ℕ → Type 0 = λ n. Lands n ValueDone levels old new in
     let Q : List Event → Type 0 = λ ls. (events : List Event) → before events

@@ -1,7 +1,7 @@
 -- The beginnings of objects that are reported at once, as they are read.
 use Rattle.std.specs.Prelude.{◌≡◌, ℕ, ◌+◌, ◌≤◌, ◌<◌, List, [], ◌∷◌, ◌++◌, codes, get_or, length, take, drop}
 use Rattle.std.specs.List.{AllByRecursion}
-use Rattle.gj_json.specs.Bytes.{IsWhite, space, open_brace, close_brace, comma as comma_byte, colon, quote}
+use Rattle.gj_json.specs.Bytes.{IsWhite, open_brace, close_brace, comma as comma_byte, colon, quote}
 use Rattle.gj_json.specs.declared.flat.Flat.{Flat}
 use Rattle.gj_json.specs.declared.head.Located.{Located}
 use Rattle.gj_json.specs.declared.heads.UsualLocated.{UsualLocated}
@@ -47,27 +47,32 @@ pub record IsFollowing (piece : List ℕ) (next : UsualNext) : Type 0 where
   pub white_after : AllByRecursion IsWhite (cut piece (next.close + 2) next.at)
   pub typed : IsTyped (drop next.at piece) next.typed.count next.typed.name_at next.typed.word_at next.typed.word
 
--- a member `geometry` up to its type, with such white space after the bracket and after the colons
-abbrev pub before_type : List ℕ → List ℕ → List ℕ
-before_type inside gap = named (codes "geometry") gap ++ (open_brace ∷ (inside ++ named (codes "type") gap))
+-- a member `geometry` up to its type, with such white space before the bracket, after it, and after the colon of the type
+abbrev pub before_type : List ℕ → List ℕ → List ℕ → List ℕ
+before_type before inside gap = named (codes "geometry") before ++ (open_brace ∷ (inside ++ named (codes "type") gap))
 
--- a piece starts with these bytes, so many, with a space after each colon
-pub record ComesToType (piece : List ℕ) (count : ℕ) : Type 0 where
+-- a piece starts with these bytes, so many, and the bracket stands at an index
+pub record ComesToType (piece : List ℕ) (bracket count : ℕ) (gap : List ℕ) : Type 0 where
+  pub before : List ℕ
   pub inside : List ℕ
+  pub white_before : AllByRecursion IsWhite before
   pub white_inside : AllByRecursion IsWhite inside
-  pub spelled : take count piece ≡ before_type inside (space ∷ [])
-  pub long : count ≡ length (before_type inside (space ∷ []))
+  pub spelled : take count piece ≡ before_type before inside gap
+  pub bracket_place : bracket ≡ length (named (codes "geometry") before)
+  pub long : count ≡ length (before_type before inside gap)
 
 -- a piece starts with a member `geometry` that begins so and goes on by its coordinates
 pub record IsLocated (piece : List ℕ) (count bracket name_at word_at coordinates : ℕ) (word : Word) : Type 0 where
+  pub before : List ℕ
   pub inside : List ℕ
   pub gap : List ℕ
+  pub white_before : AllByRecursion IsWhite before
   pub white_inside : AllByRecursion IsWhite inside
   pub white : AllByRecursion IsWhite gap
   pub object_bytes : List ℕ
   pub begins : BeginsTyped bracket name_at word_at word inside gap object_bytes
-  pub spelled : take count piece ≡ named (codes "geometry") gap ++ (object_bytes ++ named (codes "coordinates") gap)
-  pub bracket_place : bracket ≡ length (named (codes "geometry") gap)
+  pub spelled : take count piece ≡ named (codes "geometry") before ++ (object_bytes ++ named (codes "coordinates") gap)
+  pub bracket_place : bracket ≡ length (named (codes "geometry") before)
   pub coordinates_place : coordinates ≡ bracket + length object_bytes
 
 -- such a beginning was found at the start of a piece

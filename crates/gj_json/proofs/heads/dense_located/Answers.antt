@@ -1,5 +1,5 @@
 -- The beginning of a member, by its bytes.
-use Rattle.std.proofs.Common.{◌≡◌, ◌+◌, [], take, drop, refl, sym, ap, ◌∙◌, arith}
+use Rattle.std.proofs.Common.{◌≡◌, ◌+◌, [], take, drop, sym, ap, ◌∙◌, arith}
 use Rattle.gj_json.proofs.Grammar.UsualHeads.{located_by, after_type}
 use Rattle.gj_json.proofs.Grammar.UsualTokens.{same_bytes}
 use Rattle.gj_json.proofs.Pieces.PieceRests.{rest_of}
@@ -9,7 +9,9 @@ pub returns-then-begins-clause-usual : goal.returns-then-begins-clause-usual
 returns-then-begins-clause-usual c = λ some.
     let piece = c.args.piece.now in
     let text = c.usual_text-text.result in
-    let at = 19 + text.count in
+    let bracket = c.args.bracket in
+    let word_at = bracket + 8 in
+    let at = word_at + text.count in
     let rear : take 15 (drop at piece) ≡ after_type [] = ap (take 15) (sym (rest_of piece at)) ∙ same_bytes _ _ c.if-begins.ensures in
-    located_by [] [] piece 19 text.count 15 12 (at + 1) text.word tt tt (same_bytes _ _ c.if-begins_long.ensures) refl
-    (c.usual_text-text.ensures.usual (omega arith)) c.usual_text-text.ensures.within rear (omega arith) refl
+    located_by [] piece bracket word_at text.count 15 (bracket + 1) (at + 1) text.word c.requires.comes tt
+    (c.usual_text-text.ensures.usual (omega arith)) c.usual_text-text.ensures.within rear (omega arith) (omega arith)

@@ -21,5 +21,5 @@ returns-then-begins-clause-usual c = λ some.
     let rear : take 17 (drop at piece) ≡ after_type (space ∷ []) =
     ap (take 17) (drop-cons piece at 0 (omega (arith, c.requires.room, c.usual_text-text.ensures.short, c.spaced_word_at-word_at.ensures.near)))
     ∙ ap₂ (λ x xs. x ∷ xs) c.if-piece-at-eq44.true name in
-    located_by to.inside (space ∷ []) piece word_at text.count 17 (word_at - 8) (at + 2) text.word to.white_inside (inl refl, tt) to.spelled to.long
+    located_by (space ∷ []) piece 12 word_at text.count 17 (word_at - 8) (at + 2) text.word to (inl refl, tt)
     (c.usual_text-text.ensures.usual (omega arith)) c.usual_text-text.ensures.within rear (omega arith) (omega (arith, far))

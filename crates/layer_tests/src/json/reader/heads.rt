@@ -4,9 +4,9 @@ use super::flats::{expect_same, padded};
 use gj_json::Limits;
 use std::process::Abort;
 
-/// A feature and its members without white space, the same with spaces, a name that is twice there, other orders, and spaces inside
-/// brackets with a feature on each line.
-static TEXTS: [&str; 16] = [
+/// A feature and its members without white space, the same with spaces, a name that is twice there, other orders, spaces inside
+/// brackets with a feature on each line, and geometries without white space in features with spaces.
+static TEXTS: [&str; 18] = [
     "[{\"type\":\"Feature\",\"id\":1},{\"type\":\"Feature\",\"geometry\":{\"type\":\"Point\",\"coordinates\":[1,2]}}]",
     "[{\"type\": \"Feature\", \"geometry\": {\"type\": \"LineString\", \"coordinates\": [[1, 2], [3, 4]]}}]",
     "{\"geometry\":{\"type\":\"Polygon\",\"coordinates\":[[]]},\"geometry\":{\"type\":\"Feature\",\"coordinates\":{}}}",
@@ -23,6 +23,8 @@ static TEXTS: [&str; 16] = [
     "[{ \"a\": { \"b\": 1 } },\n{ \"type\": \"Feature\", \"geometry\": { \"type\": \"LineString\", \"coordinates\": [ [ 1, 2 ] ] } }\n]",
     "[{\"geometry\": {\"type\": \"Point\", \"coordinates\": [1, 2]}}, {\"type\": \"Feature\", \"c\": {\"d\": 1}}]",
     "[{\"d\": {\"e\": 0}}, {\"type\": \"Feature\", \"f\": {\"g\": 1} } ,{ \"type\": \"Feature\", \"h\": {\"i\": 2}}]",
+    "[{\"type\": \"Feature\", \"geometry\": {\"type\":\"Point\",\"coordinates\":[1.5,2.5]}, \"properties\": {\"id\": 1}},{}]",
+    "[{\"geometry\": {\"type\":\"Polygon\",\"coordinates\":[[[0,1]]]}, \"geometry\": {\"type\":\"Feature\",\"coordinates\":{}}}]",
 ];
 
 /// Each byte changed to each of these.

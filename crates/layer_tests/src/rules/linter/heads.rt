@@ -36,7 +36,7 @@ fn expect(rt: &impl Abort, text: &str, expected: Verdict) {
     }
 }
 
-static HEADS: [(&str, Wanted); 25] = [
+static HEADS: [(&str, Wanted); 29] = [
     (
         "{\"type\":\"Feature\",\"properties\":null,\"geometry\":{\"type\":\"Point\",\"coordinates\":[1,2]}}",
         Valid(&[]),
@@ -159,6 +159,26 @@ static HEADS: [(&str, Wanted); 25] = [
     (
         "{ \"type\": \"FeatureCollection\", \"features\": [\n{ \"type\": \"Feature\", \"properties\": null, \"geometry\": { \"type\": \"Point\", \"coordinates\": [ 1, 2 ] } },\n{ \"type\": \"Feature\", \"properties\": null, \"geometry\": { \"type\": \"Feature\", \"coordinates\": [ 1, 2 ] } }\n] }",
         Broken(Rule::G3, 209),
+    ),
+    // A space after the colon of `geometry`, and none within the geometry.
+    (
+        "{\"type\": \"Feature\", \"geometry\": {\"type\":\"Point\",\"coordinates\":[1.5,2.5]}, \"properties\": {\"id\": 1}}",
+        Valid(&[]),
+    ),
+    // The same with a position of one number: its place.
+    (
+        "{\"type\": \"Feature\", \"geometry\": {\"type\":\"Point\",\"coordinates\":[1.5]}, \"properties\": {\"id\": 1}}",
+        Broken(Rule::G12, 62),
+    ),
+    // The same with a ring that is not closed: its place.
+    (
+        "{\"type\": \"Feature\", \"geometry\": {\"type\":\"Polygon\",\"coordinates\":[[[0,0],[1,0],[1,1],[0,1]]]}, \"properties\": {\"id\": 1}}",
+        Broken(Rule::G15, 65),
+    ),
+    // The same with a Feature, which is no geometry: the place of the type.
+    (
+        "{\"type\": \"Feature\", \"geometry\": {\"type\":\"Feature\",\"coordinates\":[1.5,2.5]}, \"properties\": {\"id\": 1}}",
+        Broken(Rule::G3, 40),
     ),
 ];
 
