@@ -31,6 +31,14 @@ pub trait EventSink {
     fn tell_flat(&mut self, flat: &Flat)
         ensures { (events : List Event) → heard self.old events → heard self.new (events ++ flat_events flat.now) }
     {
+        self.tell_flat_in_turn(flat);
+    }
+
+    /// As `tell_flat`, where an array of numbers is nothing of its own to the sink.
+    #[inline(always)]
+    fn tell_flat_in_turn(&mut self, flat: &Flat)
+        ensures { (events : List Event) → heard self.old events → heard self.new (events ++ flat_events flat.now) }
+    {
         self.tell(Event {
             place: flat.place,
             what: What::OpenArray,

@@ -109,28 +109,7 @@ impl<S: FeatureSink> FeatureRules<S> {
         ensures { (events : List Event) → Stand (S.told self.old.sink) self.old.rules self.old.count events
             → Stand (S.told self.new.sink) self.new.rules self.new.count (events ++ flat_events flat.now) }
     {
-        self.tell(Event {
-            place: flat.place,
-            what: What::OpenArray,
-        });
-        self.tell(Event {
-            place: flat.first.place,
-            what: What::Number(Some(flat.first.value.decimal())),
-        });
-        self.tell(Event {
-            place: flat.second.place,
-            what: What::Number(Some(flat.second.value.decimal())),
-        });
-        if let Some(third) = flat.third {
-            self.tell(Event {
-                place: third.place,
-                what: What::Number(Some(third.value.decimal())),
-            });
-        }
-        self.tell(Event {
-            place: flat.close,
-            what: What::CloseArray,
-        });
+        self.tell_flat_in_turn(flat);
     }
 }
 

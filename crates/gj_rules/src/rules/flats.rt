@@ -8,7 +8,7 @@ ghost use Rattle.gj_json.specs.Flat.{flat_events};
 
 use super::FramedRules;
 use crate::mode::Mode;
-use gj_json::{CutPosition, Event, EventSink, Flat, Known, What};
+use gj_json::{CutPosition, EventSink, Flat, Known};
 
 impl<const FRAMES: usize> FramedRules<FRAMES> {
     ghost use Rattle.gj_rules.specs.Internal.RulesState.{FeedsMany};
@@ -60,27 +60,6 @@ impl<const FRAMES: usize> FramedRules<FRAMES> {
     pub(super) fn tell_each(&mut self, flat: &Flat)
         ensures { (events : List Event) → StandsFor self.old events → StandsFor self.new (events ++ flat_events flat.now) }
     {
-        self.tell(Event {
-            place: flat.place,
-            what: What::OpenArray,
-        });
-        self.tell(Event {
-            place: flat.first.place,
-            what: What::Number(Some(flat.first.value.decimal())),
-        });
-        self.tell(Event {
-            place: flat.second.place,
-            what: What::Number(Some(flat.second.value.decimal())),
-        });
-        if let Some(third) = flat.third {
-            self.tell(Event {
-                place: third.place,
-                what: What::Number(Some(third.value.decimal())),
-            });
-        }
-        self.tell(Event {
-            place: flat.close,
-            what: What::CloseArray,
-        });
+        self.tell_flat_in_turn(flat);
     }
 }

@@ -1,8 +1,8 @@
 -- The events, one after another.
 use Rattle.std.proofs.Common.{List, subst}
 use Rattle.gj_json.specs.declared.event.Event.{Event}
-use Rattle.gj_json.proofs.sink.EventSink.tell_flat.Goals as goal
-use Rattle.gj_json.proofs.sink.EventSink.tell_flat.Goals.{in-Some, in_default}
+use Rattle.gj_json.proofs.sink.EventSink.tell_flat_in_turn.Goals as goal
+use Rattle.gj_json.proofs.sink.EventSink.tell_flat_in_turn.Goals.{in-Some, in_default}
 use Rattle.gj_json.proofs.Events.EventsInTurn.{four, five}
 
 pub returns : goal.returns
