@@ -43,13 +43,13 @@ module _ {M : Type 1} (𝓤 : Ura M) where
   facts (A ∷ B ∷ Fs) = sep 𝓤 (fact 𝓤 A) (facts (B ∷ Fs))
 
 -- a value of a type that one machine value holds
-typed_alone : (τs : List Ty) (v : Val) → Typed τs (v ∷ []) → T (has_ty (lone τs) v) × WT v
+pub typed_alone : (τs : List Ty) (v : Val) → Typed τs (v ∷ []) → T (has_ty (lone τs) v) × WT v
 typed_alone [] v t = absurd t
 typed_alone (τ ∷ []) v t = t.0
 typed_alone (τ ∷ σ ∷ τs) v t = absurd t.1
 
 module _ {M : Type 1} (𝓤 : Ura M) where
-  all_heard : (Fs : List (Type 0)) → ent 𝓤 (facts 𝓤 Fs) (fact 𝓤 (All Fs))
+  pub all_heard : (Fs : List (Type 0)) → ent 𝓤 (facts 𝓤 Fs) (fact 𝓤 (All Fs))
   all_heard [] = fact_i 𝓤 (Unit {0}) (emp 𝓤) tt
   all_heard (A ∷ []) = id⊢ 𝓤 (fact 𝓤 A)
   all_heard (A ∷ B ∷ Fs) = fact_use 𝓤 A (fst∗ 𝓤 (fact 𝓤 A) (facts 𝓤 (B ∷ Fs))) (λ a. fact_use 𝓤 (All (B ∷ Fs))
