@@ -1,34 +1,18 @@
 -- The calls of C that feed a handle a piece of the input, in one walk of their MIR, as `HandleCalls` has it of those that take a handle alone.
-use Rattle.geolint_c.proofs.ExportedCalls.{◌≡◌, ℕ, List, [], ◌∷◌, refl, subst, lit<, w32, w64, MutBor, proved, Ura, full_share, SProp, ent, sep, emp, ex, ex_i}
-use Rattle.geolint_c.proofs.ExportedCalls.{via, mono_r, id⊢, ftrue, flft, flent, named, Val, vint, vptr, WpFn, Model, fact, fact_i, Running, tables, Logic, sem}
-use Rattle.geolint_c.proofs.ExportedCalls.{‵, raw, ◌⊛◌, some, later, prop, at_ret, ◌$◌, ◌∵◌, !, qed, done, move, keep, drop, use0, use1, use2, use3, split, join}
-use Rattle.geolint_c.proofs.ExportedCalls.{fsplit, pick, await, regoal, suffices, group, enter, of_opd, lit, bin, addr, stop, no_more, and_then, first, branches}
-use Rattle.geolint_c.proofs.ExportedCalls.{skips, exec, returns, returns_within, alloc_all, pass_all, free_all, look_at, get, through, sets, lands_as, env}
-use Rattle.geolint_c.proofs.ExportedCalls.{lft_new, lft_end, u32, if_non_null, Body as Inside, yes, shows, Is, uint_Lawful, uint_Makes, uint_vals, Ptr, RawPtr}
-use Rattle.geolint_c.proofs.ExportedCalls.{block_ptr, null_ptr, lies_at, rawptr_vals, rawptr_Tells, Testable, tests_null, MutRef, mut_vals, mem, plain, nothing}
-use Rattle.geolint_c.proofs.ExportedCalls.{owned, heard, peeks, calls_at, lasts, on_entry, triple_of, on_exit, Stays, walk_of, stay_dropped, Goes-dropped}
-use Rattle.geolint_c.proofs.ExportedCalls.{ends_at, framed, lends_ref, ref_back, by_form, SliceRefOf, ShrSlice, shr_slice_vals, shr_slice_Tells, shr_slice_Lawful, u8, Bor, ptr_val, Fml}
+use Rattle.geolint_c.proofs.ExportedCalls.{ℕ, ◌^◌, List, [], ◌∷◌, refl, subst, lit<, w32, w64, Bor, MutBor, proved, Ura, full_share, SProp, ent, sep, emp, ex}
+use Rattle.geolint_c.proofs.ExportedCalls.{ex_i, via, mono_r, id⊢, Fml, ftrue, flft, flent, named, Callee, Fn, local, value_local, ty_ptr, ty_bool, ty_ref}
+use Rattle.geolint_c.proofs.ExportedCalls.{erased, mut, Body, seq, assign, place, rv_opd, copy, op2, ptr_eq, int, cond, return, skip, addr_of, deref, call}
+use Rattle.geolint_c.proofs.ExportedCalls.{Width, Val, vint, vptr, bits, WpFn, Closed, Model, fact, fact_i, Lfts, Shares, AllOutlive, Running, MachineTables}
+use Rattle.geolint_c.proofs.ExportedCalls.{tables, Logic, sem, Goal, Sq, ‵, raw, ◌⊛◌, some, later, prop, at_ret, ◌$◌, ◌∵◌, !, qed, done, move, keep, drop}
+use Rattle.geolint_c.proofs.ExportedCalls.{use0, use1, use2, use3, split, join, fsplit, pick, await, regoal, suffices, group, enter, of_opd, lit, bin, addr}
+use Rattle.geolint_c.proofs.ExportedCalls.{stop, no_more, and_then, first, branches, skips, exec, returns, returns_within, alloc_all, pass_all, free_all}
+use Rattle.geolint_c.proofs.ExportedCalls.{look_at, get, through, sets, lands_as, env, lft_new, lft_end, SliceRefOf, u8, u32, if_non_null, Inside, T, ltb}
+use Rattle.geolint_c.proofs.ExportedCalls.{RattleType, yes, shows, Is, Lawful, Makes, uint_Makes, uint_vals, Ptr, RawPtr, block_ptr, null_ptr, ptr_val}
+use Rattle.geolint_c.proofs.ExportedCalls.{lies_at, rawptr_vals, rawptr_Tells, Testable, tests_null, MutRef, mut_vals, mem, lone, pointee, ShrSlice}
+use Rattle.geolint_c.proofs.ExportedCalls.{shr_slice_Lawful, shr_slice_vals, shr_slice_Tells, plain, mut_ref_to, nothing, owned, heard, peeks, calls_at}
+use Rattle.geolint_c.proofs.ExportedCalls.{lasts, Ended, Clauses, closing, triple_of, Meets, Contract, on_exit, Stays, walk_of, stay_dropped, Goes-dropped}
+use Rattle.geolint_c.proofs.ExportedCalls.{ends_at, framed, lends_ref, ref_back, by_form}
 use Rattle.geolint_c.proofs.HandleCalls.{All, facts, all_heard, typed_alone}
-use Prim.Native.Nat.{◌<◌, ◌^◌}
-use lib.Dec.{T, ltb}
-use base.Logic.{fst∗, snd∗}
-use contract.Monad.{fact_use}
-use contract.Lifetimes.{Lfts, Shares, AllOutlive}
-use contract.Running.{MachineTables}
-use mir.Syntax.{Callee, Fn, Local, local, value_local, ty_int, ty_ptr, ty_bool, ty_ref, erased, mut, Body, seq, assign, place, rv_opd, copy, op2, ptr_eq, int, cond}
-use mir.Syntax.{return, skip, addr_of, deref, call, Ty, Width}
-use mir.Val.{bits}
-use mir.Val.{has_ty, WT}
-use types.Kit.{Sq, Goal}
-use prog.Wp.{Closed}
-use denote.RattleType.{RattleType}
-use denote.Laws.{Lawful, Typed, Makes}
-use denote.Memory.{lone, pointee}
-use denote.Plain.{UInt}
-use denote.Signature.{mut_ref_to}
-use denote.Triple.Clauses.{Ended, Clauses, closing}
-use denote.Triple.Spec.{Meets}
-use denote.Triple.Statement.{Contract}
 
 -- The handle is an R, and the result an Out. At a handle `held` the method tells the facts `told held piece result new`, and then the call's contract is `At`.
 module _ {M : Type 1} (𝓤 : Ura M) (𝓛 : Logic 𝓤) (𝓜 : Model 𝓤 𝓛.H) (𝓡 : Running 𝓤 𝓛.H 𝓜) (R Out : RattleType) (lawful : Lawful 𝓛 Out)

@@ -1,34 +1,17 @@
 -- The calls of C on a handle that take nothing but the pointer, in one walk of their MIR. At null they answer at once. Elsewhere the handle is lent for
 -- a lifetime that is made for the call of its method, and comes back once that is ended.
-use Rattle.geolint_c.proofs.ExportedCalls.{◌≡◌, ℕ, List, [], ◌∷◌, refl, subst, lit<, w32, w64, MutBor, proved, Ura, full_share, SProp, ent, sep, emp, ex, ex_i}
-use Rattle.geolint_c.proofs.ExportedCalls.{via, mono_r, id⊢, ftrue, flft, flent, named, Val, vint, vptr, WpFn, Model, fact, fact_i, Running, tables, Logic, sem}
-use Rattle.geolint_c.proofs.ExportedCalls.{‵, raw, ◌⊛◌, some, later, prop, at_ret, ◌$◌, ◌∵◌, !, qed, done, move, keep, drop, use0, use1, use2, use3, split, join}
-use Rattle.geolint_c.proofs.ExportedCalls.{fsplit, pick, await, regoal, suffices, group, enter, of_opd, lit, bin, addr, stop, no_more, and_then, first, branches}
-use Rattle.geolint_c.proofs.ExportedCalls.{skips, exec, returns, returns_within, alloc_all, pass_all, free_all, look_at, get, through, sets, lands_as, env}
-use Rattle.geolint_c.proofs.ExportedCalls.{lft_new, lft_end, u32, if_non_null, Body as Inside, yes, shows, Is, uint_Lawful, uint_Makes, uint_vals, Ptr, RawPtr}
-use Rattle.geolint_c.proofs.ExportedCalls.{block_ptr, null_ptr, lies_at, rawptr_vals, rawptr_Tells, Testable, tests_null, MutRef, mut_vals, mem, plain, nothing}
-use Rattle.geolint_c.proofs.ExportedCalls.{owned, heard, peeks, calls_at, lasts, on_entry, triple_of, on_exit, Stays, walk_of, stay_dropped, Goes-dropped}
-use Rattle.geolint_c.proofs.ExportedCalls.{ends_at, framed, lends_ref, ref_back, by_form}
-use Prim.Native.Nat.{◌<◌, ◌^◌}
-use lib.Dec.{T, ltb}
-use base.Logic.{fst∗, snd∗}
-use contract.Monad.{fact_use}
-use contract.Lifetimes.{Lfts, Shares, AllOutlive}
-use contract.Running.{MachineTables}
-use mir.Syntax.{Callee, Fn, Local, local, value_local, ty_int, ty_ptr, ty_bool, ty_ref, erased, mut, Body, seq, assign, place, rv_opd, copy, op2, ptr_eq, int, cond}
-use mir.Syntax.{return, skip, addr_of, deref, call, Ty, Width}
-use mir.Val.{bits}
-use mir.Val.{has_ty, WT}
-use types.Kit.{Sq, Goal}
-use prog.Wp.{Closed}
-use denote.RattleType.{RattleType}
-use denote.Laws.{Lawful, Typed, Makes}
-use denote.Memory.{lone, pointee}
-use denote.Plain.{UInt}
-use denote.Signature.{mut_ref_to}
-use denote.Triple.Clauses.{Ended, Clauses, closing}
-use denote.Triple.Spec.{Meets}
-use denote.Triple.Statement.{Contract}
+use Rattle.geolint_c.proofs.ExportedCalls.{ℕ, ◌^◌, List, [], ◌∷◌, refl, subst, lit<, w32, w64, MutBor, proved, Ura, full_share, SProp, ent, sep, emp, ex}
+use Rattle.geolint_c.proofs.ExportedCalls.{ex_i, via, mono_r, id⊢, fst∗, snd∗, ftrue, flft, flent, named, Callee, Fn, local, value_local, ty_ptr, ty_bool}
+use Rattle.geolint_c.proofs.ExportedCalls.{ty_ref, erased, mut, Body, seq, assign, place, rv_opd, copy, op2, ptr_eq, int, cond, return, skip, addr_of, deref}
+use Rattle.geolint_c.proofs.ExportedCalls.{call, Ty, Width, Val, vint, vptr, bits, has_ty, WT, WpFn, Closed, Model, fact, fact_i, fact_use, Lfts, Shares}
+use Rattle.geolint_c.proofs.ExportedCalls.{AllOutlive, Running, MachineTables, tables, Logic, sem, Goal, Sq, ‵, raw, ◌⊛◌, some, later, prop, at_ret, ◌$◌, ◌∵◌}
+use Rattle.geolint_c.proofs.ExportedCalls.{ !, qed, done, move, keep, drop, use0, use1, use2, use3, split, join, fsplit, pick, await, regoal, suffices, group}
+use Rattle.geolint_c.proofs.ExportedCalls.{enter, of_opd, lit, bin, addr, stop, no_more, and_then, first, branches, skips, exec, returns, returns_within}
+use Rattle.geolint_c.proofs.ExportedCalls.{alloc_all, pass_all, free_all, look_at, get, through, sets, lands_as, env, lft_new, lft_end, u32, if_non_null}
+use Rattle.geolint_c.proofs.ExportedCalls.{Inside, T, ltb, RattleType, yes, shows, Is, Lawful, Typed, Makes, uint_Makes, uint_vals, Ptr, RawPtr, block_ptr}
+use Rattle.geolint_c.proofs.ExportedCalls.{null_ptr, lies_at, rawptr_vals, rawptr_Tells, Testable, tests_null, MutRef, mut_vals, mem, lone, pointee, plain}
+use Rattle.geolint_c.proofs.ExportedCalls.{mut_ref_to, nothing, owned, heard, peeks, calls_at, lasts, Ended, Clauses, closing, on_entry, triple_of, Meets}
+use Rattle.geolint_c.proofs.ExportedCalls.{Contract, on_exit, Stays, walk_of, stay_dropped, Goes-dropped, ends_at, framed, lends_ref, ref_back, by_form}
 
 -- facts that a contract states one by one
 abbrev pub All : List (Type 0) → Type 0

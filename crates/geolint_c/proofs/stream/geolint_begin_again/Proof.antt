@@ -5,7 +5,7 @@ use Rattle.geolint_c.proofs.ExportedCalls.{flft, flent, named, Val, vint, vptr, 
 use Rattle.geolint_c.proofs.ExportedCalls.{◌∵◌}
 use Rattle.geolint_c.proofs.ExportedCalls.{qed, done, move, keep, drop, use0, use1, use2, use3, split, join, fsplit, pick, await, regoal, suffices, group}
 use Rattle.geolint_c.proofs.ExportedCalls.{enter, of_opd, lit, bin, addr, stop, no_more, and_then, first, branches, skips, exec, returns, returns_within}
-use Rattle.geolint_c.proofs.ExportedCalls.{alloc_all, pass_all, free_all, look_at, get, through, sets, lands_as, env, lft_new, lft_end, u32, if_non_null, Body}
+use Rattle.geolint_c.proofs.ExportedCalls.{alloc_all, pass_all, free_all, look_at, get, through, sets, lands_as, env, lft_new, lft_end, u32, if_non_null, Inside}
 use Rattle.geolint_c.proofs.ExportedCalls.{yes, shows, Is, uint_Lawful, uint_Makes, Ptr, RawPtr, block_ptr, null_ptr, lies_at, rawptr_vals, rawptr_Tells}
 use Rattle.geolint_c.proofs.ExportedCalls.{Testable, tests_null, MutRef, mut_vals, mem, plain, nothing, owned, heard, peeks, calls_at, lasts, on_entry}
 use Rattle.geolint_c.proofs.ExportedCalls.{triple_of, on_exit, Stays, walk_of, stay_dropped, Goes-dropped, ends_at, framed, lends_ref, ref_back, by_form, w64}
@@ -64,7 +64,7 @@ geolint_begin_again_spec 𝓤 𝓛 𝓜 𝓡 wired =
     sets ! (addr ! (through ! refl (stop !))) refl (tt, tt) $
     lft_new ! tt (λ α. move ! (1 ∷ []) $
     use1 𝓛 (later (some (λ (γ : ℕ). ‵ ((MutRef (named 0) (α ∷ []) R).own_val (record { ref_ptr = (b, o); ghost_name = γ; now = held }) (vptr b o ∷ [])) ⊛ ‵
-    (flent (α ∷ []) (Body (mem R) b o γ)))))
+    (flent (α ∷ []) (Inside (mem R) b o γ)))))
     (lends_ref 𝓛 R (named 0) (α ∷ []) held b o) $ await ! tt $ pick ! (λ γ. split ! $
     -- [the loan; what comes back; the token of α]
     let r : MutBor Handle = record { ref_ptr = (b, o); ghost_name = γ; now = held } in
