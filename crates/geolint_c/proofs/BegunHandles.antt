@@ -175,7 +175,7 @@ module _ {M : Type 1} (𝓤 : Ura M) (𝓛 : Logic 𝓤) (𝓜 : Model 𝓤 𝓛
     pub begins : Meets 𝓛 (limits R).signature (T'.C k) (closing 𝓛 (limits R) made) → Meets 𝓛 (limits u32).signature (T'.C s) (closing 𝓛 (limits u32) rated)
         → Closed 𝓤 𝓛.H T'.C T'.Λ name begins_as → (at_null : R.Denot) → ((d m : ℕ) → At null_ptr d m 4 at_null)
         → Meets 𝓛 (outer 𝓤 𝓛 𝓜 𝓡 R (Unit {0}) room At).signature (T'.C name)
-          (closing 𝓛 (outer 𝓤 𝓛 𝓜 𝓡 R (Unit {0}) room At) (c 𝓤 𝓛 𝓜 𝓡 R (Unit {0}) room At))
+        (closing 𝓛 (outer 𝓤 𝓛 𝓜 𝓡 R (Unit {0}) room At) (c 𝓤 𝓛 𝓜 𝓡 R (Unit {0}) room At))
     begins met status_met closed at_null none =
         whole 𝓤 𝓛 𝓜 𝓡 R (Unit {0}) room At (lone R.mir) rest name closed (λ g. at_null) (λ g. none) (λ κs qs bounds g d m d_low m_low b o may.
         let Y = y 𝓤 𝓛 𝓜 𝓡 R (Unit {0}) room At (lone R.mir) rest κs qs bounds g d m (block_ptr b o) in
