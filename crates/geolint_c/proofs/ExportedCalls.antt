@@ -16,8 +16,8 @@ pub use contract.Monad.{fact, fact_i, fact_use}
 pub use contract.Lifetimes.{Lfts, Shares, AllOutlive}
 pub use contract.Running.{Running, MachineTables, tables}
 pub use types.Logic.{Logic, sem}
-pub use types.Kit.{Item, Goal, Seq, Sq, show, ‵, raw, ◌⊛◌, some, later, prop, at_ret, given, learn, ◌$◌, ◌∵◌, !, qed, by, done, move, keep, drop, use0, use1, use2}
-pub use types.Kit.{use3, split, join, fsplit, fsplit3, fjoin, feq_i, feq_l, pick, await, rewrite, regoal, suffices, frame, group}
+pub use types.Kit.{Item, Goal, Seq, Sq, show, ‵, raw, ◌⊛◌, some, later, prop, at_ret, given, learn, ◌$◌, ◌∵◌, !, qed, by, done, move, keep, drop, use0, use1}
+pub use types.Kit.{use2, use3, split, join, fsplit, fsplit3, fjoin, feq_i, feq_l, pick, await, rewrite, regoal, suffices, frame, group}
 pub use borrow.Table.OneValue.{One, part_in}
 pub use types.Run.{init, enter, of_opd, lit, unit_lit, bin, addr, load, look, store, stop, no_more, and_then, assigns, first, blocks, branches, skips, exec}
 pub use types.Run.{returns, returns_within}

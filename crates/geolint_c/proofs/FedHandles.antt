@@ -17,7 +17,8 @@ use Rattle.geolint_c.proofs.HandleCalls.{All, facts, all_heard, typed_alone}
 -- The handle is an R, and the result an Out. At a handle `held` the method tells the facts `told held piece result new`, and then the call's contract is `At`.
 module _ {M : Type 1} (𝓤 : Ura M) (𝓛 : Logic 𝓤) (𝓜 : Model 𝓤 𝓛.H) (𝓡 : Running 𝓤 𝓛.H 𝓜) (R Out : RattleType) (lawful : Lawful 𝓛 Out)
     (At : Ptr → R.Denot → List ℕ → Out.Denot → R.Denot → Type 0) (told : R.Denot → List ℕ → Out.Denot → R.Denot → List (Type 0))
-    (tells : (b o : ℕ) (held : R.Denot) (piece : List ℕ) (at : Out.Denot) (new : R.Denot) → All (told held piece at new) → At (block_ptr b o) held piece at new) where
+    (tells : (b o : ℕ) (held : R.Denot) (piece : List ℕ) (at : Out.Denot) (new : R.Denot) → All (told held piece at new)
+    → At (block_ptr b o) held piece at new) where
   abbrev 𝓣 : MachineTables 𝓤 𝓛.H 𝓜
   𝓣 = tables 𝓤 𝓛.H 𝓜 𝓡 𝓡.env
 
@@ -63,7 +64,8 @@ module _ {M : Type 1} (𝓤 : Ura M) (𝓛 : Logic 𝓤) (𝓜 : Model 𝓤 𝓛
 
   module _ (k : Callee) (at_null : Body) where
     abbrev rest : Body
-    rest = seq (assign (place 5 []) (addr_of (place 3 (deref (lone R.mir) ∷ [])))) (seq (call k (copy (place 5 []) ∷ copy (place 2 []) ∷ []) (place 0 [])) return)
+    rest = seq (assign (place 5 []) (addr_of (place 3 (deref (lone R.mir) ∷ []))))
+        (seq (call k (copy (place 5 []) ∷ copy (place 2 []) ∷ []) (place 0 [])) return)
 
     abbrev pub function : Fn
     function = record {
@@ -72,8 +74,8 @@ module _ {M : Type 1} (𝓤 : Ura M) (𝓛 : Logic 𝓤) (𝓜 : Model 𝓤 𝓛
       ty_params = [];
       givens = 0;
       params = 2;
-      locals = local (lone Out.mir) value_local ∷ local ty_ptr value_local ∷ local (lone (ShrSlice (named 0) [] u8).mir) value_local ∷ local ty_ptr value_local ∷ local ty_bool value_local
-          ∷ local (ty_ref erased mut (pointee R.written)) value_local ∷ [];
+      locals = local (lone Out.mir) value_local ∷ local ty_ptr value_local ∷ local (lone (ShrSlice (named 0) [] u8).mir) value_local
+          ∷ local ty_ptr value_local ∷ local ty_bool value_local ∷ local (ty_ref erased mut (pointee R.written)) value_local ∷ [];
       body = seq (assign (place 3 []) (rv_opd (copy (place 1 [])))) (seq (assign (place 4 []) (op2 ptr_eq (copy (place 3 [])) (int w64 0)))
           (seq (cond (copy (place 4 [])) (seq at_null return) skip) rest));
     }
@@ -95,10 +97,12 @@ module _ {M : Type 1} (𝓤 : Ura M) (𝓛 : Logic 𝓤) (𝓜 : Model 𝓤 𝓛
       Φ p at new = sep 𝓤 (sem 𝓛 (if_non_null p (lies_at R full_share p new))) (fact 𝓤 (At p held x.now at new))
 
       ends : (p : Ptr) (v : Val) (at : Out.Denot) (new : R.Denot) → ent 𝓤 (sep 𝓤 (X p v at) (Φ p at new)) (W.post (y p) v)
-      ends p v at new = via 𝓤 (sep 𝓤 (X p v at) (ex 𝓤 (Φ p at))) (mono_r 𝓤 (X p v at) (ex_i 𝓤 (Φ p at) new)) (ends_at 𝓛 outer stayed c (y p) v at (tt, (tt, tt)) (tt, (tt, tt)))
+      ends p v at new = via 𝓤 (sep 𝓤 (X p v at) (ex 𝓤 (Φ p at))) (mono_r 𝓤 (X p v at) (ex_i 𝓤 (Φ p at) new))
+          (ends_at 𝓛 outer stayed c (y p) v at (tt, (tt, tt)) (tt, (tt, tt)))
 
       elsewhere : Meets 𝓛 inner.signature (𝓣.C k) (closing 𝓛 inner g) → (b o : ℕ) → Testable (block_ptr b o)
-          → Is (ShrSlice (named 0) κs.0 u8) x (shr_slice_vals x) → Sq 𝓛 (‵ (lies_at R full_share (block_ptr b o) held) ∷ ‵ Piece ∷ ‵ (flft κs.0 qs.0) ∷ []) (Runs (block_ptr b o))
+          → Is (ShrSlice (named 0) κs.0 u8) x (shr_slice_vals x)
+          → Sq 𝓛 (‵ (lies_at R full_share (block_ptr b o) held) ∷ ‵ Piece ∷ ‵ (flft κs.0 qs.0) ∷ []) (Runs (block_ptr b o))
       elsewhere met b o may are =
           let κ = κs.0 in let q = qs.0 in
           enter ! _ _ _ _ _ $ alloc_all ! (λ l. pass_all ! refl ((tt, tt), (((shr_slice_Lawful 𝓛 (named 0) κ u8).typed x _ are).0, tt)) $
@@ -108,8 +112,8 @@ module _ {M : Type 1} (𝓤 : Ura M) (𝓛 : Logic 𝓤) (𝓜 : Model 𝓤 𝓛
           (λ t. skips ! $ exec ! 𝓣.C 𝓣.Λ (env function.locals l) rest (at_ret _ (W.post (y (block_ptr b o)))) $
           sets ! (addr ! (through ! refl (stop !))) refl (tt, tt) $
           lft_new ! tt (λ α. move ! (1 ∷ []) $
-          use1 𝓛 (later (some (λ (γ : ℕ). ‵ ((MutRef (named 0) (α ∷ []) R).own_val (record { ref_ptr = (b, o); ghost_name = γ; now = held }) (vptr b o ∷ [])) ⊛ ‵
-          (flent (α ∷ []) (Inside (mem R) b o γ)))))
+          use1 𝓛 (later (some (λ (γ : ℕ). ‵ ((MutRef (named 0) (α ∷ []) R).own_val (record { ref_ptr = (b, o); ghost_name = γ; now = held }) (vptr b o ∷ []))
+          ⊛ ‵ (flent (α ∷ []) (Inside (mem R) b o γ)))))
           (lends_ref 𝓛 R (named 0) (α ∷ []) held b o) $ await ! tt $ pick ! (λ γ. split ! $
           -- [the loan; what comes back; the token of α; the piece; the token of κ]
           let r : MutBor R.Denot = record { ref_ptr = (b, o); ghost_name = γ; now = held } in
@@ -133,7 +137,8 @@ module _ {M : Type 1} (𝓤 : Ura M) (𝓛 : Logic 𝓤) (𝓜 : Model 𝓤 𝓛
           move ! (2 ∷ 1 ∷ 3 ∷ 4 ∷ 0 ∷ []) $ group ! 3 $ done !)))))))))
 
     whole : (name : Callee) → Closed 𝓤 𝓛.H 𝓣.C 𝓣.Λ name function → Meets 𝓛 inner.signature (𝓣.C k) (closing 𝓛 inner g)
-        → ((κs : Lfts 1) (qs : Shares 1) (bounds : AllOutlive 1 [] κs) (held : R.Denot) (x : Bor (List ℕ)) → Is (ShrSlice (named 0) κs.0 u8) x (shr_slice_vals x)
+        → ((κs : Lfts 1) (qs : Shares 1) (bounds : AllOutlive 1 [] κs) (held : R.Denot) (x : Bor (List ℕ))
+        → Is (ShrSlice (named 0) κs.0 u8) x (shr_slice_vals x)
         → Sq 𝓛 (‵ (flft κs.0 qs.0) ∷ []) (Runs κs qs bounds held x null_ptr))
         → Meets 𝓛 outer.signature (𝓣.C name) (closing 𝓛 outer c)
     whole name closed met none = proved 𝓛 outer stayed c 𝓜 𝓡 (
@@ -155,7 +160,8 @@ module _ {M : Type 1} (𝓤 : Ura M) (𝓛 : Logic 𝓤) (𝓜 : Model 𝓤 𝓛
     pub answers_number : (w : Width) (n : ℕ) → T (ltb n (2 ^ bits w)) → (at : Out.Denot) → Makes 𝓛 Out (Is Out) → Is Out at (vint w n ∷ [])
         → ((held : R.Denot) (piece : List ℕ) → At null_ptr held piece at held) → Closed 𝓤 𝓛.H 𝓣.C 𝓣.Λ name (function k (assign (place 0 []) (rv_opd (int w n))))
         → Meets 𝓛 outer.signature (𝓣.C name) (closing 𝓛 outer c)
-    answers_number w n low at makes is none closed = let null = assign (place 0 []) (rv_opd (int w n)) in whole k null name closed met (λ κs qs bounds held x are.
+    answers_number w n low at makes is none closed = let null = assign (place 0 []) (rv_opd (int w n)) in
+        whole k null name closed met (λ κs qs bounds held x are.
         enter ! _ _ _ _ _ $ alloc_all ! (λ l. pass_all ! refl
         ((tt, record { fits = lit< tt }), (((shr_slice_Lawful 𝓛 (named 0) κs.0 u8).typed x _ are).0, tt)) $
         sets ! (of_opd ! (get ! refl)) refl (tt, record { fits = lit< tt }) $

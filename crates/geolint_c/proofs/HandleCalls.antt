@@ -103,7 +103,8 @@ module _ {M : Type 1} (𝓤 : Ura M) (𝓛 : Logic 𝓤) (𝓜 : Model 𝓤 𝓛
       Φ p at new = sep 𝓤 (sem 𝓛 (if_non_null p (lies_at R full_share p new))) (fact 𝓤 (At p held at new))
 
       ends : (p : Ptr) (v : Val) (at : Out.Denot) (new : R.Denot) → ent 𝓤 (sep 𝓤 (X p v at) (Φ p at new)) (W.post (y p) v)
-      ends p v at new = via 𝓤 (sep 𝓤 (X p v at) (ex 𝓤 (Φ p at))) (mono_r 𝓤 (X p v at) (ex_i 𝓤 (Φ p at) new)) (ends_at 𝓛 outer stayed c (y p) v at (tt, tt) (tt, tt))
+      ends p v at new = via 𝓤 (sep 𝓤 (X p v at) (ex 𝓤 (Φ p at))) (mono_r 𝓤 (X p v at) (ex_i 𝓤 (Φ p at) new))
+          (ends_at 𝓛 outer stayed c (y p) v at (tt, tt) (tt, tt))
 
       elsewhere : Meets 𝓛 inner.signature (𝓣.C k) (closing 𝓛 inner g) → (b o : ℕ) → Testable (block_ptr b o)
           → Sq 𝓛 (‵ (lies_at R full_share (block_ptr b o) held) ∷ []) (Runs (block_ptr b o))
@@ -115,8 +116,8 @@ module _ {M : Type 1} (𝓤 : Ura M) (𝓛 : Logic 𝓤) (𝓜 : Model 𝓤 𝓛
           (λ t. skips ! $ exec ! 𝓣.C 𝓣.Λ (env function.locals l) rest (at_ret _ (W.post (y (block_ptr b o)))) $
           sets ! (addr ! (through ! refl (stop !))) refl (tt, tt) $
           lft_new ! tt (λ α. move ! (1 ∷ []) $
-          use1 𝓛 (later (some (λ (γ : ℕ). ‵ ((MutRef (named 0) (α ∷ []) R).own_val (record { ref_ptr = (b, o); ghost_name = γ; now = held }) (vptr b o ∷ [])) ⊛ ‵
-          (flent (α ∷ []) (Inside (mem R) b o γ)))))
+          use1 𝓛 (later (some (λ (γ : ℕ). ‵ ((MutRef (named 0) (α ∷ []) R).own_val (record { ref_ptr = (b, o); ghost_name = γ; now = held }) (vptr b o ∷ []))
+          ⊛ ‵ (flent (α ∷ []) (Inside (mem R) b o γ)))))
           (lends_ref 𝓛 R (named 0) (α ∷ []) held b o) $ await ! tt $ pick ! (λ γ. split ! $
           -- [the loan; what comes back; the token of α]
           let r : MutBor R.Denot = record { ref_ptr = (b, o); ghost_name = γ; now = held } in
@@ -145,7 +146,8 @@ module _ {M : Type 1} (𝓤 : Ura M) (𝓛 : Logic 𝓤) (𝓜 : Model 𝓤 𝓛
     whole name closed met none = proved 𝓛 outer stayed c 𝓜 𝓡 (Goes-dropped 𝓛 0 (plain (λ _. RawPtr)) yes (λ κs x w. refl), tt) name function closed
         (λ κs. (rawptr_vals, tt)) (λ κs. (rawptr_Tells, tt)) (λ κs qs bounds a held are.
         let p = a.0 in
-        qed 𝓛 (raw (on_entry 𝓛 outer.signature κs qs a (rawptr_vals p, tt)) ∷ raw (fact 𝓤 (Testable p)) ∷ ‵ (if_non_null p (lies_at R full_share p held)) ∷ []) ∵
+        qed 𝓛 (raw (on_entry 𝓛 outer.signature κs qs a (rawptr_vals p, tt)) ∷ raw (fact 𝓤 (Testable p))
+        ∷ ‵ (if_non_null p (lies_at R full_share p held)) ∷ []) ∵
         drop ! $ heard ! _ (λ may.
         by_form ! p (λ p. if_non_null p (lies_at R full_share p held))
         (λ e. drop ! $ regoal ! (Runs κs qs bounds held) e refl $ none κs qs bounds held)

@@ -6,17 +6,14 @@ use Rattle.geolint_c.specs.Handle.{BegunStatus}
 use Rattle.geolint_c.specs.FeatureStream.{BegunAt}
 use Rattle.geolint_c.specs.contracts.features.FeatureHandle.{the_row as R}
 use Rattle.geolint_c.proofs.features.FeatureHandle.TheLaws.{the_row_laws as R_laws}
-use Rattle.geolint_c.specs.contracts.features.FeatureHandle.begun.Key.{name as inner}
 use Rattle.geolint_c.proofs.features.FeatureHandle.begun.Met.{met}
-use Rattle.geolint_c.specs.contracts.handle.begun_status.Key.{name as status}
 use Rattle.geolint_c.proofs.handle.begun_status.Met.{met as status_met}
-use Rattle.geolint_c.specs.contracts.feature_stream.geolint_features_begin.Key.{name}
 use Rattle.geolint_c.proofs.feature_stream.geolint_features_begin.Statement.{statement}
 use Rattle.geolint_c.proofs.feature_stream.geolint_features_begin.Code as code
 
 pub geolint_features_begin_spec : {M : Type 1} → statement M
 geolint_features_begin_spec 𝓤 𝓛 𝓜 𝓡 wired = begins 𝓤 𝓛 𝓜 𝓡 R BegunAt
     (λ d m new. IsBegun d m new ∷ []) BegunStatus (λ b o d m st new it rate. (it, rate))
-    inner status name (R_laws.lawful 𝓛) refl (met 𝓤 𝓛 𝓜 𝓡 (code.calls-geolint_c::features::FeatureHandle::begun 𝓡.env wired))
+    _ _ _ (R_laws.lawful 𝓛) refl (met 𝓤 𝓛 𝓜 𝓡 (code.calls-geolint_c::features::FeatureHandle::begun 𝓡.env wired))
     (status_met 𝓤 𝓛 𝓜 𝓡 (code.calls-geolint_c::handle::begun_status 𝓡.env wired)) (code.unfolded 𝓤 𝓛.H 𝓜 𝓡 wired)
     (record { linter = None; pulled = 0; ended = true }) (λ d m. refl)

@@ -4,19 +4,16 @@ use Rattle.geolint_c.proofs.HandleCalls.{answers_refusal}
 use Rattle.geolint_c.specs.Features.{IsNext}
 use Rattle.geolint_c.specs.FeatureStream.{NextAt}
 use Rattle.geolint_c.specs.contracts.features.FeatureHandle.{the_row as R}
-use Rattle.geolint_c.specs.contracts.features.FeatureHandle.next.Key.{name as inner}
 use Rattle.geolint_c.proofs.features.FeatureHandle.next.Met.{met}
 use Rattle.geolint_c.specs.Finding.{no_finding}
 use Rattle.geolint_c.specs.contracts.finding.Finding.{the_row as RR}
 use Rattle.geolint_c.proofs.finding.Finding.TheLaws.{the_row_laws as RR_laws}
-use Rattle.geolint_c.specs.contracts.finding.no_finding.Key.{name as none}
 use Rattle.geolint_c.proofs.finding.no_finding.Met.{met as no_met}
-use Rattle.geolint_c.specs.contracts.feature_stream.geolint_features_next.Key.{name}
 use Rattle.geolint_c.proofs.feature_stream.geolint_features_next.Statement.{statement}
 use Rattle.geolint_c.proofs.feature_stream.geolint_features_next.Code as code
 
 pub geolint_features_next_spec : {M : Type 1} → statement M
 geolint_features_next_spec 𝓤 𝓛 𝓜 𝓡 wired = answers_refusal 𝓤 𝓛 𝓜 𝓡 R RR (RR_laws.lawful 𝓛) NextAt
     (λ held at new. IsNext held at new ∷ []) (λ b o held at new it. it)
-    inner name (met 𝓤 𝓛 𝓜 𝓡 (code.calls-geolint_c::features::FeatureHandle::next 𝓡.env wired))
-    none (λ s at. at ≡ no_finding s) (no_met 𝓤 𝓛 𝓜 𝓡 (code.calls-geolint_c::finding::no_finding 𝓡.env wired)) (λ held at it. it) (code.unfolded 𝓤 𝓛.H 𝓜 𝓡 wired)
+    _ _ (met 𝓤 𝓛 𝓜 𝓡 (code.calls-geolint_c::features::FeatureHandle::next 𝓡.env wired))
+    _ (λ s at. at ≡ no_finding s) (no_met 𝓤 𝓛 𝓜 𝓡 (code.calls-geolint_c::finding::no_finding 𝓡.env wired)) (λ held at it. it) (code.unfolded 𝓤 𝓛.H 𝓜 𝓡 wired)

@@ -1,14 +1,14 @@
 -- `geolint_locator_step` meets its contract: a walk of its MIR. The handle is lent for a lifetime that is made for the call of
 -- `LocatorHandle::step`, and comes back once it is ended.
-use Rattle.geolint_c.proofs.ExportedCalls.{◌≡◌, !, ℕ, [], ◌∷◌, refl, subst, lit<, w32, MutBor, proved, full_share, sep, emp, ex, ex_i, via, mono_r, id⊢, ftrue}
+use Rattle.geolint_c.proofs.ExportedCalls.{◌≡◌, ℕ, [], ◌∷◌, refl, subst, lit<, w32, MutBor, proved, full_share, sep, emp, ex, ex_i, via, mono_r, id⊢, ftrue}
 use Rattle.geolint_c.proofs.ExportedCalls.{flft, flent, named, Val, vint, vptr, WpFn, fact, fact_i, tables, sem, ‵, raw, ◌⊛◌, some, later, prop, at_ret, ◌$◌}
-use Rattle.geolint_c.proofs.ExportedCalls.{◌∵◌, qed, done, move, keep, drop, use0, use1, use2, use3, split, join, fsplit, pick, await, regoal, suffices, group}
-use Rattle.geolint_c.proofs.ExportedCalls.{enter, of_opd, lit, bin, addr, stop, no_more, and_then, first, branches, skips, exec, returns, returns_within}
-use Rattle.geolint_c.proofs.ExportedCalls.{alloc_all, pass_all, free_all, look_at, get, through, sets, lands_as, env, lft_new, lft_end, u32, if_non_null, Inside}
-use Rattle.geolint_c.proofs.ExportedCalls.{yes, shows, Is, uint_Makes, Ptr, RawPtr, block_ptr, null_ptr, lies_at, rawptr_vals, rawptr_Tells, Testable}
-use Rattle.geolint_c.proofs.ExportedCalls.{tests_null, MutRef, mut_vals, mem, plain, nothing, owned, heard, peeks, calls_at, lasts, on_entry, triple_of}
-use Rattle.geolint_c.proofs.ExportedCalls.{on_exit, Stays, walk_of, stay_dropped, Goes-dropped, ends_at, framed, lends_ref, ref_back, by_form, uint_vals}
-use Rattle.geolint_c.proofs.ExportedCalls.{uint_Tells, ptr_val}
+use Rattle.geolint_c.proofs.ExportedCalls.{◌∵◌, !, qed, done, move, keep, drop, use0, use1, use2, use3, split, join, fsplit, pick, await, regoal, suffices}
+use Rattle.geolint_c.proofs.ExportedCalls.{group, enter, of_opd, lit, bin, addr, stop, no_more, and_then, first, branches, skips, exec, returns}
+use Rattle.geolint_c.proofs.ExportedCalls.{returns_within, alloc_all, pass_all, free_all, look_at, get, through, sets, lands_as, env, lft_new, lft_end, u32}
+use Rattle.geolint_c.proofs.ExportedCalls.{if_non_null, Inside, yes, shows, Is, uint_Makes, uint_vals, uint_Tells, Ptr, RawPtr, block_ptr, null_ptr, ptr_val}
+use Rattle.geolint_c.proofs.ExportedCalls.{lies_at, rawptr_vals, rawptr_Tells, Testable, tests_null, MutRef, mut_vals, mem, plain, nothing, owned, heard}
+use Rattle.geolint_c.proofs.ExportedCalls.{peeks, calls_at, lasts, on_entry, triple_of, on_exit, Stays, walk_of, stay_dropped, Goes-dropped, ends_at, framed}
+use Rattle.geolint_c.proofs.ExportedCalls.{lends_ref, ref_back, by_form}
 use Rattle.geolint_c.specs.declared.locator.LocatorHandle.{LocatorHandle}
 use Rattle.geolint_c.specs.Locator.{IsStep}
 use Rattle.geolint_c.specs.declared.locator.StepText.{StepText}
