@@ -34,7 +34,7 @@ pub trait EventSink {
         self.tell_flat_in_turn(flat);
     }
 
-    /// As `tell_flat`, where an array of numbers is nothing of its own to the sink.
+    /// Reports such an array by its events, one after another: for a sink that has no other use for it.
     #[inline(always)]
     fn tell_flat_in_turn(&mut self, flat: &Flat)
         ensures { (events : List Event) → heard self.old events → heard self.new (events ++ flat_events flat.now) }
