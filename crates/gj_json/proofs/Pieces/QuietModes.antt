@@ -69,7 +69,7 @@ white_is b e = grind (arith, nat_tests)
 class_white : (b : ℕ) → is_white b ≡ true → class_of b ≡ white
 class_white b e = class_is white b (white_is b e) (λ e. cc)
 
-quiet_white : (mode : Mode) → PassesWhite mode → (b : ℕ) → is_white b ≡ true → IsQuiet mode b
+pub quiet_white : (mode : Mode) → PassesWhite mode → (b : ℕ) → is_white b ≡ true → IsQuiet mode b
 quiet_white ValueDue h b e = record { moves = λ turn inner words. rw (class_white b e) refl; on = refl }
 quiet_white ValueDone h b e = record { moves = λ turn inner words. rw (class_white b e) refl; on = refl }
 quiet_white ArrayOpened h b e = record { moves = λ turn inner words. rw (class_white b e) refl; on = refl }

@@ -1,7 +1,7 @@
 -- Tokens within levels that are open: of the events that one completes, the last alone may close a level.
 use Rattle.std.proofs.Common.{◌≡◌, ℕ, zero, suc, ◌+◌, ◌-◌, ◌≤◌, ◌<◌, Bool, true, false, List, [], ◌∷◌, ◌++◌, get_or, length, take, take-add}
 use Rattle.std.proofs.Common.{drop, Option, Some, None, refl, sym, ap, subst, ◌∙◌, arith}
-use Rattle.std.proofs.lemmas.List.{drop-drop, length-append, take_more}
+use Rattle.std.proofs.lemmas.List.{drop-drop, length-append, length-drop, take_more}
 use Rattle.gj_json.specs.Bytes.{quote as quote_byte, comma as comma_byte}
 use Rattle.gj_json.specs.declared.class.Class.TheVariants.{Comma as comma_class}
 use Rattle.gj_json.specs.declared.constant.Constant.{Constant}
@@ -169,6 +169,26 @@ any_then first next last piece at n w f g =
       one = omega (arith, w, g.one);
       named = λ m. omega (arith, w, g.named m);
     }
+
+-- so many bytes that were passed over, and after them what completes nothing
+module _ (old mid new : Reader) (piece : List ℕ) (at n : ℕ) (next : Mode) (live : old.fault ≡ None) (room : old.offset + length piece ≤ old.limits.bytes)
+    (some : at ≤ length piece) (p : Passed at next old mid) (w : n ≤ length (take (length piece - at) (drop at piece)))
+    (s : Skips mid new (take n (take (length piece - at) (drop at piece)))) where
+  mid_live : mid.fault ≡ None
+  mid_live = p.fault ∙ live
+
+  rest_room : mid.offset + length (take (length piece - at) (drop at piece)) ≤ mid.limits.bytes
+  rest_room = omega (arith, room, p.offset, ap (λ l. l.bytes) p.limits, ap length (rest_of piece at), length-drop at piece)
+
+  pub then_skipped : {before after : List Event → Type 0} → FeedsAll before after old mid (take at piece) → FeedsAll before after old new (take (at + n) piece)
+  then_skipped {before} {after} f =
+      piece_all old mid new piece at n f
+      (rest_all mid new piece at n (front_skipped {heard = after} mid new (take (length piece - at) (drop at piece)) n mid_live w rest_room s))
+
+  pub any_skipped : FeedsAny old mid (take at piece) → FeedsAny old new (take (at + n) piece)
+  any_skipped f =
+      any_then old mid new piece at n (omega (arith, ap (λ ls. length (levels_in ls)) p.levels)) f
+      (skips_any mid new (take (length piece - at) (drop at piece)) n mid_live w rest_room s)
 
 pub token_of : (hears : Bool) {before after : List Event → Type 0} (old new : Reader) (given : List ℕ)
     → (hears ≡ true → FeedsAll before after old new given) → (hears ≡ false → FeedsAny old new given) → FeedsToken hears before after old new given

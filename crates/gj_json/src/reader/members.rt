@@ -55,7 +55,7 @@ impl Reader {
     }
 
     /// Takes a name of so many bytes, its colon, and the value that stands at an index, with the byte after it, or the bracket that
-    /// opens it: how many bytes. A usual value is taken with the name.
+    /// opens it: how many bytes. A usual value is taken with the name, and with the space after its comma.
     #[inline(always)]
     fn pass_named(&mut self, piece: &[u8], name: usize, value: usize) -> usize
         requires wide { value + LANES < length piece.now }
@@ -72,7 +72,8 @@ impl Reader {
         let end = value + scalar_run(&piece[value..]);
         if end > value && self.levels.is_in_object() {
             if piece[end] == b',' {
-                return self.skip(end + 1, Mode::NameDue);
+                let taken = self.skip(end + 1, Mode::NameDue);
+                return taken + self.skip_space(&piece[taken..]);
             }
             if piece[end] == b'}' {
                 return self.take_close(Level::Object, end + 1, &mut NoEvents);

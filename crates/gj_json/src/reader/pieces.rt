@@ -2,7 +2,7 @@
 
 ghost use Rattle.std.specs.Prelude.{◌≡◌, ◌+◌, ◌^◌, ◌≤◌, ◌<◌, length, take, IfOk, MatchResult, None};
 ghost use Rattle.gj_json.specs.Internal.Transitions.{IsMode};
-ghost use Rattle.gj_json.specs.declared.mode.Mode.TheVariants.{NumberOn};
+ghost use Rattle.gj_json.specs.declared.mode.Mode.TheVariants.{NameDue, NumberOn};
 
 use super::Reader;
 use crate::fault::JsonFault;
@@ -71,6 +71,23 @@ impl Reader {
             Mode::StringOn(_) | Mode::NameOn(_) | Mode::NumberOn => self.skip_quiet(piece),
             mode => self.skip(quiet_run(mode, piece), mode),
         }
+    }
+
+    /// Takes the space before a name: 1, or 0 where another byte stands at the start of the piece. Python's `json`, PostGIS and GDAL
+    /// put one after each comma.
+    #[inline(always)]
+    pub(super) fn skip_space(&mut self, piece: &[u8]) -> usize
+        requires due { self.old.mode ≡ NameDue }
+        requires room { self.old.offset + length piece.now ≤ self.old.limits.bytes }
+        requires small { self.old.limits.bytes ≤ 2 ^ 60 }
+        ensures within { result ≤ length piece.now }
+        ensures due { self.new.mode ≡ NameDue }
+        ensures skips { Skips self.old self.new (take result piece.now) }
+    {
+        if piece.is_empty() || piece[0] != b' ' {
+            return 0;
+        }
+        self.skip(1, Mode::NameDue)
     }
 
     /// As `skip_quiet`, and at once nothing where the first byte is none of them.

@@ -421,7 +421,8 @@ impl Reader {
         self.end_number::<S, HEARS>(count, Some(value), piece, sink)
     }
 
-    /// Takes the byte after a value, where it is a comma, a closing bracket or white space: 1, or 0.
+    /// Takes the byte after a value, where it is a comma, a closing bracket or white space, and with a comma the space before the
+    /// name after it: how many bytes, or 0.
     #[inline(always)]
     pub(super) fn take_end<S: EventSink>(&mut self, piece: &[u8], sink: &mut S) -> usize
         requires some { 0 < length piece.now }
@@ -436,7 +437,10 @@ impl Reader {
         if piece[0] == b',' {
             return match self.levels.inner() {
                 Some(Level::Array) => self.skip(1, Mode::ValueDue),
-                Some(Level::Object) => self.skip(1, Mode::NameDue),
+                Some(Level::Object) => {
+                    let taken = self.skip(1, Mode::NameDue);
+                    taken + self.skip_space(&piece[taken..])
+                }
                 None => 0,
             };
         }

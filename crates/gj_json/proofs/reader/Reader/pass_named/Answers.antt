@@ -5,18 +5,25 @@ use Rattle.gj_json.specs.declared.mode.Ending.TheVariants.{Item}
 use Rattle.gj_json.specs.declared.mode.Mode.TheVariants.{NameDue}
 use Rattle.gj_json.specs.Internal.OpenLevels.{levels_in, inner_of}
 use Rattle.gj_json.proofs.Pieces.PassedMembers.{name_to, named_goes, named_closes, brace_closes}
-use Rattle.gj_json.proofs.Pieces.TokensInLevels.{any_then, comma_ends}
+use Rattle.gj_json.proofs.Pieces.TokensInLevels.{any_then, any_skipped, comma_ends}
 use Rattle.gj_json.proofs.reader.Reader.pass_named.Goals as goal
 
 pub returns-then-piece-end-eq44-clause-feeds : goal.returns-then-piece-end-eq44-clause-feeds
 returns-then-piece-end-eq44-clause-feeds c =
     let q = c.scalar_run in
     let r = c.requires in
-    let made = comma_ends (inner_of (levels_in c.args.self.now.levels)) (get_or c.args.piece.now (c.args.value + q.result) 0) Object NameDue
+    let reader = c.args.self.now in
+    let piece = c.args.piece.now in
+    let mid = c.skip-taken.new.self in
+    let passed = c.skip-taken.ensures.passed in
+    let space = c.skip_space in
+    let made = comma_ends (inner_of (levels_in reader.levels)) (get_or piece (c.args.value + q.result) 0) Object NameDue
     (c.is_in_object.ensures c.if-is_in_object.true) c.if-piece-end-eq44.true refl in
-    rw (c.skip.ensures.count)
-    (named_goes c.args.self.now c.skip.new.self c.args.piece.now c.args.name c.args.value q.result r.live r.due r.room r.quoted r.colon r.between
-    (omega arith) (q.ensures.scalar (omega arith)) NameDue Item made c.skip.ensures.passed)
+    any_skipped reader mid space.new.self piece c.skip-taken.result space.result NameDue r.live r.room
+    (omega arith) (rw (c.skip-taken.ensures.count) passed) space.ensures.within space.ensures.skips
+    (rw (c.skip-taken.ensures.count)
+    (named_goes reader mid piece c.args.name c.args.value q.result r.live r.due r.room r.quoted r.colon r.between
+    (omega arith) (q.ensures.scalar (omega arith)) NameDue Item made passed))
 
 pub returns-then-piece-end-eq125-clause-feeds : goal.returns-then-piece-end-eq125-clause-feeds
 returns-then-piece-end-eq125-clause-feeds c =
@@ -32,8 +39,8 @@ pub returns-clause-feeds : goal.returns-clause-feeds
 returns-clause-feeds c =
     let v = c.pass_value in
     let r = c.requires in
-    let passed = c.skip-2.ensures.passed in
-    any_then c.args.self.now c.skip-2.new.self v.new.self c.args.piece.now c.args.value v.result
+    let passed = c.skip.ensures.passed in
+    any_then c.args.self.now c.skip.new.self v.new.self c.args.piece.now c.args.value v.result
     (omega (arith, ap (λ ls. length (levels_in ls)) passed.levels))
-    (name_to c.args.self.now c.skip-2.new.self c.args.piece.now c.args.name r.live r.due r.room (omega arith) r.quoted r.colon c.args.value r.between
+    (name_to c.args.self.now c.skip.new.self c.args.piece.now c.args.name r.live r.due r.room (omega arith) r.quoted r.colon c.args.value r.between
     (omega arith) passed) v.ensures.feeds

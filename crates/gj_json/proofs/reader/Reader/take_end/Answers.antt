@@ -1,5 +1,5 @@
 -- The byte after a value.
-use Rattle.std.proofs.Common.{◌≡◌, get_or, refl, sym, ap, ◌∙◌, Some}
+use Rattle.std.proofs.Common.{◌≡◌, get_or, refl, sym, ap, ◌∙◌, Some, arith}
 use Rattle.gj_json.specs.Internal.ByteClasses.{class_of}
 use Rattle.gj_json.specs.Internal.OpenLevels.{levels_in, inner_of}
 use Rattle.gj_json.specs.Internal.Transitions.{after_move}
@@ -9,7 +9,7 @@ use Rattle.gj_json.specs.declared.mode.Ending.TheVariants.{Item}
 use Rattle.gj_json.specs.declared.mode.Mode.TheVariants.{ValueDue, NameDue}
 use Rattle.gj_json.specs.declared.mode.Move.TheVariants.{Go, Close}
 use Rattle.gj_json.proofs.Pieces.TakenTokens.{end_goes, end_closes}
-use Rattle.gj_json.proofs.Pieces.TokensInLevels.{comma_ends, any_goes, any_closes}
+use Rattle.gj_json.proofs.Pieces.TokensInLevels.{comma_ends, any_goes, any_closes, then_skipped, any_skipped}
 use Rattle.gj_json.proofs.reader.Reader.take_end.Goals as goal
 
 pub returns-in-Some-Array-clause-feeds : goal.returns-in-Some-Array-clause-feeds
@@ -32,21 +32,31 @@ returns-in-Some-Array-clause-any g c =
 
 pub returns-in-Some-Object-clause-feeds : goal.returns-in-Some-Object-clause-feeds
 returns-in-Some-Object-clause-feeds g c =
-    let inner : inner_of (levels_in c.args.self.now.levels) ≡ Some Object =
+    let reader = c.args.self.now in
+    let piece = c.args.piece.now in
+    let mid = c.skip-taken.new.self in
+    let passed = c.skip-taken.ensures.passed in
+    let space = c.skip_space in
+    let inner : inner_of (levels_in reader.levels) ≡ Some Object =
     sym c.inner.ensures ∙ c.in-Some-Object.is ∙ ap (λ (x : Level). Some x) c.in-Some-Object.field-0-is in
-    let made = comma_ends (inner_of (levels_in c.args.self.now.levels)) (get_or c.args.piece.now 0 0) Object NameDue inner c.if-piece-eq44.true refl in
-    rw (c.skip-in-Some-Object.ensures.count)
-    (end_goes c.args.self.now c.skip-in-Some-Object.new.self c.args.piece.now NameDue Item c.requires.some c.requires.live c.requires.done c.requires.room made
-    c.skip-in-Some-Object.ensures.passed)
+    let made = comma_ends (inner_of (levels_in reader.levels)) (get_or piece 0 0) Object NameDue inner c.if-piece-eq44.true refl in
+    then_skipped reader mid space.new.self piece c.skip-taken.result space.result NameDue c.requires.live c.requires.room
+    (omega arith) (rw (c.skip-taken.ensures.count) passed) space.ensures.within space.ensures.skips
+    (rw (c.skip-taken.ensures.count) (end_goes reader mid piece NameDue Item c.requires.some c.requires.live c.requires.done c.requires.room made passed))
 
 pub returns-in-Some-Object-clause-any : goal.returns-in-Some-Object-clause-any
 returns-in-Some-Object-clause-any g c =
-    let inner : inner_of (levels_in c.args.self.now.levels) ≡ Some Object =
+    let reader = c.args.self.now in
+    let piece = c.args.piece.now in
+    let mid = c.skip-taken.new.self in
+    let passed = c.skip-taken.ensures.passed in
+    let space = c.skip_space in
+    let inner : inner_of (levels_in reader.levels) ≡ Some Object =
     sym c.inner.ensures ∙ c.in-Some-Object.is ∙ ap (λ (x : Level). Some x) c.in-Some-Object.field-0-is in
-    let made = comma_ends (inner_of (levels_in c.args.self.now.levels)) (get_or c.args.piece.now 0 0) Object NameDue inner c.if-piece-eq44.true refl in
-    rw (c.skip-in-Some-Object.ensures.count)
-    (any_goes c.args.self.now c.skip-in-Some-Object.new.self c.args.piece.now c.requires.some c.requires.live c.requires.done c.requires.room NameDue Item made
-    c.skip-in-Some-Object.ensures.passed)
+    let made = comma_ends (inner_of (levels_in reader.levels)) (get_or piece 0 0) Object NameDue inner c.if-piece-eq44.true refl in
+    any_skipped reader mid space.new.self piece c.skip-taken.result space.result NameDue c.requires.live c.requires.room
+    (omega arith) (rw (c.skip-taken.ensures.count) passed) space.ensures.within space.ensures.skips
+    (rw (c.skip-taken.ensures.count) (any_goes reader mid piece c.requires.some c.requires.live c.requires.done c.requires.room NameDue Item made passed))
 
 pub returns-in-Go-clause-feeds : goal.returns-in-Go-clause-feeds
 returns-in-Go-clause-feeds g c =
