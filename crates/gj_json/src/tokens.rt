@@ -90,18 +90,18 @@ pub fn begins_quoted(piece: &[u8], count: usize) -> bool
     begins_ascii(&piece[1..], count) && piece[1 + count] == b'"'
 }
 
-/// How many bytes the value has that the piece starts with, where it is a string that is whole with the byte after it, a
+/// How many bytes the value has that the piece starts with, where it is a string that is whole with two bytes after it, a
 /// short number with no sign, or a literal name, or 0.
 #[inline(always)]
 pub fn scalar_run(piece: &[u8]) -> usize
     requires room { LANES < length piece.now }
-    ensures within { result < length piece.now }
+    ensures within { result + 1 < length piece.now }
     ensures scalar { 0 < result → IsScalar (take result piece.now) }
 {
     match piece[0] {
         b'"' => {
             let count = quoted_run(piece);
-            if count < piece.len() { count } else { 0 }
+            if count + 1 < piece.len() { count } else { 0 }
         }
         b'0'..=b'9' => unsigned_run(piece),
         b'n' => constant_run(Constant::Null, piece),
