@@ -13,6 +13,7 @@ pub mod TakenFlats
 pub mod TakenTokens
 pub mod NumberRows
 pub mod TakenHeads
+pub mod LatePoints
 pub mod TokensInLevels
 pub mod PassedMembers
 pub mod FlatsInTurn

@@ -19,5 +19,6 @@ pub mod FedReader
 pub mod WholeTokens
 pub mod Scalars
 pub mod WholeHeads
+pub mod LatePoints
 pub mod FlatParts
 pub mod SpelledPositions

@@ -27,6 +27,24 @@ pub struct Located {
     pub coordinates: u64,
 }
 
+/// A member `geometry` that is a whole Point whose coordinates stand before its type, but for its position, as
+/// `"geometry":{"coordinates":[1,2],"type":"Point"}`.
+#[derive(Clone, Copy)]
+pub struct LatePoint {
+    /// The place of the name `geometry`.
+    pub place: u64,
+    /// The place of `{`.
+    pub bracket: u64,
+    /// The place of the name `coordinates`.
+    pub coordinates: u64,
+    /// The place of the name `type`.
+    pub name_at: u64,
+    /// The place of the type.
+    pub word_at: u64,
+    /// The place of `}`.
+    pub close: u64,
+}
+
 /// The beginning of a member `properties` that is an object, as `"properties":{`.
 #[derive(Clone, Copy)]
 pub struct Opened {

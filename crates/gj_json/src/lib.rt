@@ -19,6 +19,7 @@ mod gaps;
 mod head;
 mod heads;
 mod lanes;
+mod late_points;
 pub mod laws;
 mod levels;
 mod limits;
@@ -44,7 +45,7 @@ pub use cut_position::CutPosition;
 pub use event::{Event, What};
 pub use fault::{Cause, JsonFault};
 pub use flat::{Flat, Numbered};
-pub use head::{Head, Located, Opened, Typed};
+pub use head::{Head, LatePoint, Located, Opened, Typed};
 pub use lanes::plain_run;
 pub use laws::{
     allowed_limits, broken_off, bytes_taken, few_events, left_part, longest_front, one_broken,

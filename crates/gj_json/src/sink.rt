@@ -4,7 +4,7 @@ ghost use Rattle.std.specs.Prelude.{◌≡◌, ℕ, ◌≤◌, ◌<◌, ◌∷�
 use crate::cut_position::CutPosition;
 use crate::event::{Event, What};
 use crate::flat::Flat;
-use crate::head::{Head, Located, Typed};
+use crate::head::{Head, LatePoint, Located, Typed};
 use crate::names::{Known, Word};
 use arrayvec::ArrayVec;
 
@@ -17,7 +17,7 @@ pub trait EventSink {
     ghost use Rattle.gj_json.specs.Flat.{flat_events};
     ghost use Rattle.gj_json.specs.declared.flat.Flat.{Flat};
     ghost use Rattle.gj_json.specs.CutPosition.{AreCutPositions, Rise, flats_events};
-    ghost use Rattle.gj_json.specs.Head.{head_events, typed_events, point_events};
+    ghost use Rattle.gj_json.specs.Head.{head_events, typed_events, point_events, late_point_events};
     ghost use Rattle.gj_json.specs.declared.names.Word.{Word};
     ghost use Rattle.gj_json.specs.Ignored.{Leaves};
 
@@ -133,6 +133,45 @@ pub trait EventSink {
         self.tell_flat(flat);
         self.tell(Event {
             place: close,
+            what: What::CloseObject,
+        });
+    }
+
+    /// As `tell_point`, of a Point whose coordinates stand before its type.
+    fn tell_late_point(&mut self, point: &LatePoint, flat: &Flat)
+        ensures { (events : List Event) → heard self.old events → heard self.new (events ++ late_point_events point.now flat.now) }
+    {
+        self.tell_late_point_in_turn(point, flat);
+    }
+
+    /// Reports such a Point by its events, one after another: for a sink that has no other use for it.
+    #[inline(never)]
+    fn tell_late_point_in_turn(&mut self, point: &LatePoint, flat: &Flat)
+        ensures { (events : List Event) → heard self.old events → heard self.new (events ++ late_point_events point.now flat.now) }
+    {
+        self.tell(Event {
+            place: point.place,
+            what: What::Name(Known::Geometry),
+        });
+        self.tell(Event {
+            place: point.bracket,
+            what: What::OpenObject,
+        });
+        self.tell(Event {
+            place: point.coordinates,
+            what: What::Name(Known::Coordinates),
+        });
+        self.tell_flat(flat);
+        self.tell(Event {
+            place: point.name_at,
+            what: What::Name(Known::TypeName),
+        });
+        self.tell(Event {
+            place: point.word_at,
+            what: What::Text(Word::Point),
+        });
+        self.tell(Event {
+            place: point.close,
             what: What::CloseObject,
         });
     }

@@ -10,6 +10,7 @@ pub mod LinterEvents
 pub mod WiderLimits
 pub mod OneFlatMore
 pub mod WholePoints
+pub mod LatePoints
 pub mod PositionsMore
 pub mod PlacesOfFaults
 pub mod PlacesOfWarnings

@@ -7,7 +7,7 @@ mod kinds;
 use crate::feature::{FeatureSink, ForgetfulSink};
 use crate::feature_count::FeatureCount;
 use crate::rules::Rules;
-use gj_json::{CutPosition, Event, EventSink, Flat, Head, Located, What};
+use gj_json::{CutPosition, Event, EventSink, Flat, Head, LatePoint, Located, What};
 
 /// Rules that report what is found in each feature of a text, with the last event of the feature.
 ///
@@ -178,6 +178,15 @@ impl<S: FeatureSink> EventSink for FeatureRules<S> {
             self.rules.tell_point(located, flat, close);
         } else {
             self.tell_point_in_turn(located, flat, close);
+        }
+    }
+
+    #[inline(always)]
+    fn tell_late_point(&mut self, point: &LatePoint, flat: &Flat) {
+        if self.count.is_in_members() {
+            self.rules.tell_late_point(point, flat);
+        } else {
+            self.tell_late_point_in_turn(point, flat);
         }
     }
 

@@ -16,7 +16,9 @@ use crate::mode::Mode;
 use crate::role::Role;
 use gj_coords::laws::kept_warnings;
 use gj_coords::{Bbox, Coordinates, Fault, Warned, Warnings};
-use gj_json::{CutPosition, Event, EventSink, Flat, Head, Known, Located, MOST_LEVELS, What};
+use gj_json::{
+    CutPosition, Event, EventSink, Flat, Head, Known, LatePoint, Located, MOST_LEVELS, What,
+};
 use std::mem::size_of;
 
 /// How many objects with a role can be open in a text within the limits: at most one for each two levels, and one.
@@ -371,6 +373,15 @@ impl<const FRAMES: usize> EventSink for FramedRules<FRAMES> {
             self.take_point(located.place, flat);
         } else {
             self.tell_point_in_turn(located, flat, close);
+        }
+    }
+
+    #[inline(always)]
+    fn tell_late_point(&mut self, point: &LatePoint, flat: &Flat) {
+        if self.takes_point() {
+            self.take_point(point.place, flat);
+        } else {
+            self.tell_late_point_in_turn(point, flat);
         }
     }
 

@@ -46,7 +46,7 @@ use Rattle.gj_json.proofs.Pieces.TakenTokens.{Moved, lands_feeds, done_go, done_
 
 -- ---- bytes that lead from one mode to another, wherever they stand, and what is complete behind them
 
-record Carries (limits : Allowed) (mode : Mode) (levels : List Level) (next : Mode) (after : List Level) (given : List ℕ) (es : ℕ → List Event) : Type 0 where
+pub record Carries (limits : Allowed) (mode : Mode) (levels : List Level) (next : Mode) (after : List Level) (given : List ℕ) (es : ℕ → List Event) : Type 0 where
   pub moved : (start offset : ℕ) (bytes : List ℕ) → StandsWell limits mode levels start offset bytes → offset + length given ≤ limits.bytes
       → Moved limits next after offset (offset + length given) bytes given (es offset)
 
@@ -65,7 +65,7 @@ moved_on limits mid next around after from m to bytes xs ys es fs a b =
     }
 
 module _ (limits : Allowed) where
-  both : (mode mid next : Mode) (levels around after : List Level) (xs ys : List ℕ) (es fs : ℕ → List Event) → Carries limits mode levels mid around xs es
+  pub both : (mode mid next : Mode) (levels around after : List Level) (xs ys : List ℕ) (es fs : ℕ → List Event) → Carries limits mode levels mid around xs es
       → Carries limits mid around next after ys fs → Carries limits mode levels next after (xs ++ ys) (λ n. es n ++ fs (n + length xs))
   both mode mid next levels around after xs ys es fs f g = record {
     moved = λ start offset bytes k room.
@@ -77,13 +77,13 @@ module _ (limits : Allowed) where
         subst P e (moved_on limits mid next around after offset (offset + length xs) _ bytes xs ys (es offset) (fs (offset + length xs)) a b);
   }
 
-  quiet : (mode next : Mode) (levels : List Level) (given : List ℕ) → Leads mode given next → Carries limits mode levels next levels given (λ n. [])
+  pub quiet : (mode next : Mode) (levels : List Level) (given : List ℕ) → Leads mode given next → Carries limits mode levels next levels given (λ n. [])
   quiet mode next levels given leads = record {
     moved = λ start offset bytes k room.
         let g = quiet_run limits levels start given mode next offset bytes k room leads in record { start = start; well = g.0; more = g.1 };
   }
 
-  white_names : (gap : List ℕ) → AllByRecursion IsWhite gap → AllByRecursion (IsQuiet NameDue) gap
+  pub white_names : (gap : List ℕ) → AllByRecursion IsWhite gap → AllByRecursion (IsQuiet NameDue) gap
   white_names [] h = tt
   white_names (x ∷ xs) h = (record { moves = λ turn inner words. rw (class_is white_class x h.0 (λ e. cc)) refl; on = refl }, white_names xs h.1)
 
@@ -92,7 +92,7 @@ module _ (limits : Allowed) where
   white_opened (x ∷ xs) h = (record { moves = λ turn inner words. rw (class_is white_class x h.0 (λ e. cc)) refl; on = refl }, white_opened xs h.1)
 
   -- a name, its colon and white space
-  name_carries : (mode : Mode) (levels : List Level) (content gap : List ℕ) → names mode ≡ true → IsQuoted content (quoted content)
+  pub name_carries : (mode : Mode) (levels : List Level) (content gap : List ℕ) → names mode ≡ true → IsQuoted content (quoted content)
       → AllByRecursion IsWhite gap
       → Carries limits mode levels ValueDue levels (named content gap) (λ n. event_at n (What.Name (known_of content)) ∷ [])
   name_carries mode levels content gap w q white =
@@ -118,10 +118,10 @@ module _ (limits : Allowed) where
       })
       (quiet NameDue NameDue all gap (quiet_leads NameDue gap (white_names gap white))))
 
-  type_quoted : IsQuoted (codes "type") (quoted (codes "type"))
+  pub type_quoted : IsQuoted (codes "type") (quoted (codes "type"))
   type_quoted = record { spelled = refl; reads = plain (codes "type") }
 
-  type_known : known_of (codes "type") ≡ TypeName
+  pub type_known : known_of (codes "type") ≡ TypeName
   unfolding known_of
   type_known = refl
 
@@ -151,17 +151,17 @@ module _ (limits : Allowed) where
       let P : List ℕ → Type 0 = λ xs. Carries limits mode levels NameDue all xs (typed_told inside gap word) in
       subst P (sym h.spelled) (rw (type_known, h.known_as) at whole)
 
-  geometry_quoted : IsQuoted (codes "geometry") (quoted (codes "geometry"))
+  pub geometry_quoted : IsQuoted (codes "geometry") (quoted (codes "geometry"))
   geometry_quoted = record { spelled = refl; reads = plain (codes "geometry") }
 
-  geometry_known : known_of (codes "geometry") ≡ Geometry
+  pub geometry_known : known_of (codes "geometry") ≡ Geometry
   unfolding known_of
   geometry_known = refl
 
-  coordinates_quoted : IsQuoted (codes "coordinates") (quoted (codes "coordinates"))
+  pub coordinates_quoted : IsQuoted (codes "coordinates") (quoted (codes "coordinates"))
   coordinates_quoted = record { spelled = refl; reads = plain (codes "coordinates") }
 
-  coordinates_known : known_of (codes "coordinates") ≡ Coordinates
+  pub coordinates_known : known_of (codes "coordinates") ≡ Coordinates
   unfolding known_of
   coordinates_known = refl
 
@@ -212,7 +212,7 @@ module _ (limits : Allowed) where
       rw (properties_known) at whole
 
   -- the end of an object in an object, with the end of that and the comma after it, and an object that begins by its type
-  close_carries : (levels : List Level) → Carries limits ValueDone (Object ∷ levels) ValueDone levels (close_brace ∷ []) (λ n. event_at n What.CloseObject ∷ [])
+  pub close_carries : (levels : List Level) → Carries limits ValueDone (Object ∷ levels) ValueDone levels (close_brace ∷ []) (λ n. event_at n What.CloseObject ∷ [])
   close_carries levels = record {
     moved = λ start offset bytes k room.
         done_close limits (Object ∷ levels) start offset bytes close_brace k (omega (arith, room)) Object

@@ -19,6 +19,7 @@ use crate::head::{Head, Located, Opened, Typed};
 use crate::heads::{
     UsualLocated, following_typed, gap_end, properties_run, usual_located, usual_typed,
 };
+use crate::late_points::late_point;
 use crate::levels::Level;
 use crate::mode::Mode;
 use crate::names::Word;
@@ -42,7 +43,13 @@ fn may_end_feature(piece: &[u8]) -> bool {
 fn may_be_geometry(piece: &[u8]) -> bool {
     piece.len() > 14
         && piece[1] == b'g'
-        && (piece[12] == b'"' || piece[13] == b'"' || piece[14] == b'"')
+        && (piece[12] == b'"' || piece[13] == b'"' || piece[12] == b'{' && piece[14] == b'"')
+}
+
+/// Whether such bytes look like a geometry that begins by its coordinates.
+#[inline(always)]
+fn may_be_late_point(piece: &[u8]) -> bool {
+    piece.len() > 14 && (piece[13] == b'c' || piece[14] == b'c')
 }
 
 /// Whether a few bytes look like the name `properties` with the bracket of an object after it.
@@ -286,6 +293,30 @@ impl Reader {
         taken + self.take_feature_end(&piece[taken..], sink)
     }
 
+    /// Takes a member `geometry` that is a whole Point whose coordinates stand before its type, with the end of the feature and the
+    /// beginning of the next where they follow: how many bytes. Where there is none, only a name and its colon are taken.
+    #[inline(never)]
+    fn take_late_point<S: EventSink>(&mut self, piece: &[u8], sink: &mut S) -> usize
+        requires some { 0 < length piece.now }
+        requires live { self.old.fault ≡ None }
+        requires due { names self.old.mode ≡ true }
+        requires room { self.old.offset + length piece.now ≤ self.old.limits.bytes }
+        requires small { self.old.limits.bytes ≤ 2 ^ 60 }
+        ensures within { result ≤ length piece.now }
+        ensures feeds { FeedsAll (S.heard sink.old) (S.heard sink.new) self.old self.new (take result piece.now) }
+    {
+        if self.levels.len() + 1 >= self.limits.depth() {
+            return self.take_named(piece, sink);
+        }
+        let mut flat = Flat::blank();
+        let Some(point) = late_point(piece, self.offset, &mut flat) else {
+            return self.take_named(piece, sink);
+        };
+        sink.tell_late_point(&point, &flat);
+        let taken = self.skip((point.close - self.offset) as usize + 1, Mode::ValueDone);
+        taken + self.take_feature_end(&piece[taken..], sink)
+    }
+
     /// Takes a name and its colon, where it is that of a geometry with what comes before its coordinates, or with all of a Point:
     /// how many bytes, or 0.
     #[inline(never)]
@@ -299,6 +330,9 @@ impl Reader {
         ensures feeds { FeedsAll (S.heard sink.old) (S.heard sink.new) self.old self.new (take result piece.now) }
     {
         let usual = usual_located(piece);
+        if usual.count == 0 && may_be_late_point(piece) {
+            return self.take_late_point(piece, sink);
+        }
         if usual.count == 0 || self.levels.len() >= self.limits.depth() {
             return self.take_named(piece, sink);
         }

@@ -6,14 +6,16 @@ use Rattle.std.proofs.lemmas.List.{length-append}
 use Rattle.gj_json.specs.declared.event.Event.{Event}
 use Rattle.gj_json.specs.declared.event.What.{What}
 use Rattle.gj_json.specs.declared.names.Known.TheVariants.{Id, TypeName, Geometry, Coordinates, Properties}
+use Rattle.gj_json.specs.declared.names.Word.{Word}
 use Rattle.gj_json.specs.declared.flat.Flat.{Flat}
 use Rattle.gj_json.specs.declared.flat.Numbered.{Numbered}
 use Rattle.gj_json.specs.Flat.{number_event, numbers_of, flat_events}
 use Rattle.gj_json.specs.CutPosition.{flats_events}
+use Rattle.gj_json.specs.declared.head.LatePoint.{LatePoint}
 use Rattle.gj_json.specs.declared.head.Located.{Located}
 use Rattle.gj_json.specs.declared.head.Opened.{Opened}
 use Rattle.gj_json.specs.declared.head.Typed.{Typed}
-use Rattle.gj_json.specs.Head.{typed_events, located_events, opened_events, point_events}
+use Rattle.gj_json.specs.Head.{typed_events, located_events, opened_events, point_events, late_point_events}
 use Rattle.gj_json.specs.Ignored.{levels_behind, Leaves}
 use Rattle.gj_rules.specs.declared.feature.Feature.{Feature}
 use Rattle.gj_rules.specs.declared.feature_count.FeatureCount.{FeatureCount}
@@ -252,6 +254,33 @@ point_inside Says located flat close c events m h =
     (append_assoc (events ++ located_events located) (flat_events flat) (last ∷ [])
     ∙ append_assoc events (located_events located) (flat_events flat ++ last ∷ []))
     (subst (λ n. FeaturesAre Says (with_levels n c) (((events ++ located_events located) ++ flat_events flat) ++ last ∷ [])) back closed)
+
+in_turn : (xs ys : List Event) (a b c d e f : Event)
+    → ((((((xs ++ a ∷ []) ++ b ∷ []) ++ c ∷ []) ++ ys) ++ d ∷ []) ++ e ∷ []) ++ f ∷ [] ≡ xs ++ (a ∷ b ∷ c ∷ (ys ++ (d ∷ e ∷ f ∷ [])))
+in_turn xs ys a b c d e f = simp append_assoc
+
+-- one whose coordinates stand before its type
+pub late_point_inside : (Says : List Feature → Type 0) (point : LatePoint) (flat : Flat) (c : FeatureCount) (events : List Event) → InMembers c
+    → FeaturesAre Says c events → FeaturesAre Says c (events ++ late_point_events point flat)
+late_point_inside Says point flat c events m h =
+    let name : Event = record { place = point.place; what = What.Name Geometry } in
+    let bracket : Event = record { place = point.bracket; what = What.OpenObject } in
+    let coordinates : Event = record { place = point.coordinates; what = What.Name Coordinates } in
+    let type_name : Event = record { place = point.name_at; what = What.Name TypeName } in
+    let text : Event = record { place = point.word_at; what = What.Text Word.Point } in
+    let last : Event = record { place = point.close; what = What.CloseObject } in
+    let begun = one_passed Says c bracket (events ++ name ∷ []) (rw (m.0, m.1) (opens_quiet c.inner)) (one_passed Says c name events refl h) in
+    let due = one_passed Says (opened c) coordinates ((events ++ name ∷ []) ++ bracket ∷ []) refl begun in
+    let front : List Event = ((events ++ name ∷ []) ++ bracket ∷ []) ++ coordinates ∷ [] in
+    let placed = quiet_flat Says flat (opened c) front (omega arith) due in
+    let named = one_passed Says (opened c) type_name (front ++ flat_events flat) refl placed in
+    let typed = one_passed Says (opened c) text ((front ++ flat_events flat) ++ type_name ∷ []) (rw (m.0, m.1) refl) named in
+    let closed =
+    one_quiet Says (opened c) last (((front ++ flat_events flat) ++ type_name ∷ []) ++ text ∷ []) c.inner (omega arith) typed in
+    let back : levels_behind What.CloseObject (suc c.inner) ≡ c.inner = omega arith in
+    let all : List Event = (((front ++ flat_events flat) ++ type_name ∷ []) ++ text ∷ []) ++ last ∷ [] in
+    subst (λ es. FeaturesAre Says c es) (in_turn events (flat_events flat) name bracket coordinates type_name text last)
+    (subst (λ n. FeaturesAre Says (with_levels n c) all) back closed)
 
 -- an element that is an object begins
 pub typed_element : (Says : List Feature → Type 0) (typed : Typed) (c : FeatureCount) (events : List Event) → c.inner ≡ 0 → c.stage ≡ Stage.List

@@ -51,7 +51,7 @@ use Rattle.gj_rules.proofs.Texts.OneFlatMore.{split_told, run-append, feeding, r
 
 -- ---- the events of an array of numbers are those of a value
 
-abbrev at : ℕ → What → Event
+abbrev pub at : ℕ → What → Event
 at place what = record { place = place; what = what }
 
 abbrev bare : List E.Timed → List Event
@@ -131,7 +131,7 @@ abbrev the_frame : ℕ → ℕ → ℕ → ℕ → Frame
 the_frame place type_at word_at coordinates_at =
     named Coordinates coordinates_at (type_set word_at Word.Point (named TypeName type_at (blank Role.Geometry place)))
 
-abbrev as_found : Option Fault → Warnings → Findings
+abbrev pub as_found : Option Fault → Warnings → Findings
 as_found fault warned = record { fault = fault; warned = warned }
 
 point_settled : (place type_at word_at coordinates_at : ℕ) (v : Tree) (w : Warnings) → least (coordinates_faults Simple.Point v) ≡ None
@@ -144,7 +144,7 @@ point_settled place type_at word_at coordinates_at v w e k =
     ∙ ap (λ (x : Warnings). as_found None x) (to_none found.warned ∙ k))
 
 -- no fault changes no slot
-point_taken : (w : Warnings) (f : Frame) → taken_in Geometry (as_found None w) f ≡ warned Geometry w f
+pub point_taken : (w : Warnings) (f : Frame) → taken_in Geometry (as_found None w) f ≡ warned Geometry w f
 point_taken w f = ap (λ (s : MemberSlots). record { slots = s; gathered = gathered Geometry w f.gathered }) (joined-none Geometry f.slots)
 
 -- ---- one event more
@@ -153,11 +153,11 @@ idle_geometry : (x : Told) → named_feed x Geometry ≡ idle
 idle_geometry (Told.named at place name value) = refl
 idle_geometry (Told.plain at place what) = refl
 
-idle_type : (x : Told) → named_feed x TypeName ≡ idle
+pub idle_type : (x : Told) → named_feed x TypeName ≡ idle
 idle_type (Told.named at place name value) = refl
 idle_type (Told.plain at place what) = refl
 
-geometry_named : (x : Told) (p : ℕ) (feed : Feed) (f : Frame) (o : List Frame) (a : Findings) → due_after Geometry f ≡ Geometry
+pub geometry_named : (x : Told) (p : ℕ) (feed : Feed) (f : Frame) (o : List Frame) (a : Findings) → due_after Geometry f ≡ Geometry
     → event_of x ≡ at p (What.Name Geometry)
     → step x (with_feed (core 0 Names f o a) feed) ≡ st 0 (Due Geometry) (named Geometry p f) o a
 geometry_named x p feed f o a d e =
@@ -165,7 +165,7 @@ geometry_named x p feed f o a d e =
     ∙ (ap (λ (k : Known). passed x (core 0 (Due k) (named Geometry p f) o a)) d
     ∙ ap (λ (y : Feed). with_feed (core 0 (Due Geometry) (named Geometry p f) o a) y) (idle_geometry x))
 
-geometry_opened : (x : Told) (p : ℕ) (f : Frame) (o : List Frame) (a : Findings) → event_of x ≡ at p What.OpenObject
+pub geometry_opened : (x : Told) (p : ℕ) (f : Frame) (o : List Frame) (a : Findings) → event_of x ≡ at p What.OpenObject
     → step x (st 0 (Due Geometry) f o a) ≡ st 0 Names (blank Role.Geometry p) (f ∷ o) a
 geometry_opened x p f o a e = ap (λ (y : Event). passed x (due_step Geometry y.what y.place (core 0 (Due Geometry) f o a))) e
 
@@ -175,7 +175,7 @@ type_named x p q o a e =
     ap (λ (y : Event). passed x (names_step y.what y.place (core 0 Names (blank Role.Geometry q) o a))) e
     ∙ ap (λ (y : Feed). with_feed (core 0 (Due TypeName) (named TypeName p (blank Role.Geometry q)) o a) y) (idle_type x)
 
-type_told : (x : Told) (p : ℕ) (word : Word) (f : Frame) (o : List Frame) (a : Findings) → event_of x ≡ at p (What.Text word)
+pub type_told : (x : Told) (p : ℕ) (word : Word) (f : Frame) (o : List Frame) (a : Findings) → event_of x ≡ at p (What.Text word)
     → step x (st 0 (Due TypeName) f o a) ≡ st 0 Names (type_set p word f) o a
 type_told x p word f o a e = ap (λ (y : Event). passed x (due_step TypeName y.what y.place (core 0 (Due TypeName) f o a))) e
 
@@ -196,7 +196,7 @@ geometry_closed x p q r t c v w f o a n k e =
 -- ---- the events of the position
 
 -- it is the value after the name
-position_run : (frames : ℕ) (n : Told) (ys rest : List Told) (place : ℕ) (ns : List Numbered) (close : ℕ) (f : Frame) (o : List Frame) (a z : Findings)
+pub position_run : (frames : ℕ) (n : Told) (ys rest : List Told) (place : ℕ) (ns : List Numbered) (close : ℕ) (f : Frame) (o : List Frame) (a z : Findings)
     → map event_of ys ≡ numbers_events place ns close
     → Leads frames (ys ++ rest) (with_feed (core 0 (Due Coordinates) f o a) (named_feed n Coordinates)) z
     → (v : Tree) × (value_events v ≡ numbers_events place ns close)
@@ -220,7 +220,7 @@ position_run frames (Told.named b p name v) (y ∷ ys) rest place ns close f o a
 
 -- ---- all of the events
 
-one_told : (xs : List Told) (e : Event) → map event_of xs ≡ e ∷ [] → (x : Told) × (xs ≡ x ∷ []) × (event_of x ≡ e)
+pub one_told : (xs : List Told) (e : Event) → map event_of xs ≡ e ∷ [] → (x : Told) × (xs ≡ x ∷ []) × (event_of x ≡ e)
 one_told [] e h = cc
 one_told (x ∷ []) e h = (x, refl, cc)
 one_told (x ∷ (y ∷ ys)) e h = cc
@@ -314,13 +314,19 @@ point_run frames xs rest located flat w close feed f o a z d word deserved e h =
 
 -- ---- a call
 
--- Before these events the rules are at a name of an object that uses `geometry` and has had none.
-pub told_point : {frames : ℕ} (old new : FramedRules frames) (located : Located) (flat : Flat) (w : Warnings) (close : ℕ)
-    → old.skipped ≡ 0 → old.mode ≡ Names → due_after Geometry (top_of old) ≡ Geometry → located.typed.word ≡ Word.Point → IsPointWith w flat
-    → core_of new ≡ record (core_of old) { top = warned Geometry w (named Geometry located.place (top_of old)) }
-    → (events : List Event) → StandsFor old events → StandsFor new (events ++ point_events located flat close)
-told_point {frames} old new located flat w close skipped mode due word deserved c events h = λ text done rest e f d.
-    let k = split_told done events (point_events located flat close) f in
+-- Events which do this to the frame around, where they come before what is left of a text.
+abbrev pub Runs : ℕ → List Event → ℕ → Warnings → Frame → Type 0
+Runs frames es place w f =
+    (xs rest : List Told) (feed : Feed) (o : List Frame) (a z : Findings) → map event_of xs ≡ es
+    → Leads frames (xs ++ rest) (with_feed (core 0 Names f o a) feed) z
+    → run xs (with_feed (core 0 Names f o a) feed) ≡ st 0 Names (warned Geometry w (named Geometry place f)) o a
+
+-- Before them the rules are at a name.
+pub told_by : {frames : ℕ} (old new : FramedRules frames) (es : List Event) (place : ℕ) (w : Warnings) → old.skipped ≡ 0 → old.mode ≡ Names
+    → Runs frames es place w (top_of old) → core_of new ≡ record (core_of old) { top = warned Geometry w (named Geometry place (top_of old)) }
+    → (events : List Event) → StandsFor old events → StandsFor new (events ++ es)
+told_by {frames} old new es place w skipped mode runs c events h = λ text done rest e f d.
+    let k = split_told done events es f in
     let split : text_told text ≡ k.0 ++ (k.1 ++ rest) = e ∙ (ap (λ (ts : List Told). ts ++ rest) k.2 ∙ append_assoc k.0 k.1 rest) in
     let stands = h text k.0 (k.1 ++ rest) split k.3 d in
     let before : State = run k.0 start in
@@ -332,11 +338,19 @@ told_point {frames} old new located flat w close skipped mode due word deserved 
     ap (λ (n : ℕ). core n old.mode (top_of old) o a) skipped ∙ ap (λ (m : Mode). core 0 m (top_of old) o a) mode in
     let was : before ≡ with_feed (core 0 Names (top_of old) o a) before.feed =
     ap (λ (y : Core). with_feed y before.feed) (sym stands.0 ∙ here) in
-    let point : Frame = warned Geometry w (named Geometry located.place (top_of old)) in
+    let point : Frame = warned Geometry w (named Geometry place (top_of old)) in
     let ran : run k.1 before ≡ st 0 Names point o a =
     ap (λ (s : State). run k.1 s) was
-    ∙ point_run frames k.1 rest located flat w close before.feed (top_of old) o a (text_found text) due word deserved k.4
-    (subst (λ (s : State). Leads frames (k.1 ++ rest) s (text_found text)) was leads) in
+    ∙ runs k.1 rest before.feed o a (text_found text) k.4 (subst (λ (s : State). Leads frames (k.1 ++ rest) s (text_found text)) was leads) in
     let now : core_of new ≡ core 0 Names point o a = c ∙ ap (λ (y : Core). record y { top = point }) here in
     subst (λ (s : State). Stands new s) (sym (ap (λ (ts : List Told). run ts start) k.2 ∙ (run-append k.0 k.1 start ∙ ran)))
     (now, holds_names new.skipped new.mode new.coordinates new.bbox [] (ap (λ (y : Core). y.mode) now))
+
+-- The object uses `geometry` and has had none.
+pub told_point : {frames : ℕ} (old new : FramedRules frames) (located : Located) (flat : Flat) (w : Warnings) (close : ℕ)
+    → old.skipped ≡ 0 → old.mode ≡ Names → due_after Geometry (top_of old) ≡ Geometry → located.typed.word ≡ Word.Point → IsPointWith w flat
+    → core_of new ≡ record (core_of old) { top = warned Geometry w (named Geometry located.place (top_of old)) }
+    → (events : List Event) → StandsFor old events → StandsFor new (events ++ point_events located flat close)
+told_point {frames} old new located flat w close skipped mode due word deserved c =
+    told_by old new (point_events located flat close) located.place w skipped mode
+    (λ xs rest feed o a z. point_run frames xs rest located flat w close feed (top_of old) o a z due word deserved) c

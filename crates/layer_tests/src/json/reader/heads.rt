@@ -5,8 +5,9 @@ use gj_json::Limits;
 use std::process::Abort;
 
 /// A feature and its members without white space, the same with spaces, a name that is twice there, other orders, spaces inside
-/// brackets with a feature on each line, and geometries without white space in features with spaces.
-static TEXTS: [&str; 18] = [
+/// brackets with a feature on each line, geometries without white space in features with spaces, and Points whose coordinates
+/// stand before their type.
+static TEXTS: [&str; 22] = [
     "[{\"type\":\"Feature\",\"id\":1},{\"type\":\"Feature\",\"geometry\":{\"type\":\"Point\",\"coordinates\":[1,2]}}]",
     "[{\"type\": \"Feature\", \"geometry\": {\"type\": \"LineString\", \"coordinates\": [[1, 2], [3, 4]]}}]",
     "{\"geometry\":{\"type\":\"Polygon\",\"coordinates\":[[]]},\"geometry\":{\"type\":\"Feature\",\"coordinates\":{}}}",
@@ -25,6 +26,10 @@ static TEXTS: [&str; 18] = [
     "[{\"d\": {\"e\": 0}}, {\"type\": \"Feature\", \"f\": {\"g\": 1} } ,{ \"type\": \"Feature\", \"h\": {\"i\": 2}}]",
     "[{\"type\": \"Feature\", \"geometry\": {\"type\":\"Point\",\"coordinates\":[1.5,2.5]}, \"properties\": {\"id\": 1}},{}]",
     "[{\"geometry\": {\"type\":\"Polygon\",\"coordinates\":[[[0,1]]]}, \"geometry\": {\"type\":\"Feature\",\"coordinates\":{}}}]",
+    "[{\"geometry\":{\"coordinates\":[1,2],\"type\":\"Point\"},\"id\":1},{\"geometry\":{\"coordinates\":[3.5,4.5,5],\"type\":\"Point\"}}]",
+    "[{\"geometry\": {\"coordinates\": [1, 2], \"type\": \"Point\"}}, {\"type\": \"Feature\", \"geometry\": {\"coordinates\": 0}}]",
+    "{\"geometry\":{\"coordinates\":[1,2],\"type\":\"Pointy\"},\"geometry\": {\"coordinates\": [[1, 2]], \"type\": \"Point\"},\"a\":0}",
+    "[{\"type\":\"Feature\",\"geometry\":{\"coordinates\":[1.5,2.5],\"type\":\"Point\"}},{\"type\":\"Feature\",\"b\":1}]",
 ];
 
 /// Each byte changed to each of these.

@@ -36,7 +36,7 @@ fn expect(rt: &impl Abort, text: &str, expected: Verdict) {
     }
 }
 
-static HEADS: [(&str, Wanted); 29] = [
+static HEADS: [(&str, Wanted); 35] = [
     (
         "{\"type\":\"Feature\",\"properties\":null,\"geometry\":{\"type\":\"Point\",\"coordinates\":[1,2]}}",
         Valid(&[]),
@@ -179,6 +179,36 @@ static HEADS: [(&str, Wanted); 29] = [
     (
         "{\"type\": \"Feature\", \"geometry\": {\"type\":\"Feature\",\"coordinates\":[1.5,2.5]}, \"properties\": {\"id\": 1}}",
         Broken(Rule::G3, 40),
+    ),
+    // A Point whose coordinates stand before its type, without white space.
+    (
+        "{\"geometry\":{\"coordinates\":[1,2],\"type\":\"Point\"},\"properties\":null,\"type\":\"Feature\"}",
+        Valid(&[]),
+    ),
+    // The same with spaces, and a third number of eight places: its place.
+    (
+        "{\"geometry\": {\"coordinates\": [1.5, 2.5, 3.12345678], \"type\": \"Point\"}, \"properties\": null, \"type\": \"Feature\"}",
+        Valid(&[(Kind::W4, 40)]),
+    ),
+    // The second of two such Points.
+    (
+        "{\"geometry\":{\"coordinates\":[1,2],\"type\":\"Point\"},\"geometry\":{\"coordinates\":[3],\"type\":\"Point\"},\"properties\":null,\"type\":\"Feature\"}",
+        Broken(Rule::G10, 49),
+    ),
+    // In the second feature, a longitude beyond 180 degrees: the position.
+    (
+        "{\"type\":\"FeatureCollection\",\"features\":[{\"type\":\"Feature\",\"properties\":null,\"geometry\":{\"coordinates\":[1,2],\"type\":\"Point\"}},{\"type\":\"Feature\",\"properties\":null,\"geometry\":{\"coordinates\":[181,1],\"type\":\"Point\"}}]}",
+        Valid(&[(Kind::W5, 187)]),
+    ),
+    // A position where a Polygon has rings: the number.
+    (
+        "{\"type\":\"Feature\",\"properties\":null,\"geometry\":{\"coordinates\":[1,2],\"type\":\"Polygon\"}}",
+        Broken(Rule::G11, 63),
+    ),
+    // A FeatureCollection has no `geometry`, whichever stands first in it: the place of its name.
+    (
+        "{\"geometry\":{\"coordinates\":[1,2],\"type\":\"Point\"},\"type\":\"FeatureCollection\",\"features\":[]}",
+        Broken(Rule::G9, 1),
     ),
 ];
 

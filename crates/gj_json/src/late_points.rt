@@ -1,0 +1,112 @@
+//! Members `geometry` that are a whole Point whose coordinates stand before its type, as writers with sorted names put them.
+
+ghost use Rattle.std.specs.Prelude.{◌+◌, ◌^◌, ◌<◌, ◌≤◌, length};
+ghost use Rattle.std.specs.Option.{IfSome};
+ghost use Rattle.gj_json.specs.Internal.LatePoints.{BeginsLate, EndsLate, IsLatePoint};
+
+use crate::flat::Flat;
+use crate::flats::read_lone_flat;
+use crate::head::LatePoint;
+use crate::lanes::{begins, begins_long};
+
+/// A shorter piece has no room for the beginning.
+const START_ROOM: usize = 32;
+
+/// A shorter piece has no room for the end with spaces.
+const END_ROOM: usize = 18;
+
+/// The beginning up to the coordinates: how many bytes it has, and where the bracket stands.
+#[derive(Clone, Copy)]
+pub struct LateStart {
+    pub count: usize,
+    pub bracket: usize,
+}
+
+/// The end from the comma after the coordinates on: where the name `type`, the type and the bracket stand.
+#[derive(Clone, Copy)]
+pub struct LateEnd {
+    pub name_at: usize,
+    pub word_at: usize,
+    pub close: usize,
+}
+
+/// The beginning that the piece starts with, with a space before the bracket and after each colon, or none.
+#[inline(always)]
+fn late_start(piece: &[u8]) -> Option<LateStart>
+    ensures within { IfSome result (λ first. first.count ≤ length piece.now) }
+    ensures on { IfSome result (λ first. first.bracket < first.count) }
+    ensures begins { IfSome result (λ first. BeginsLate piece.now first) }
+{
+    if piece.len() < START_ROOM {
+        return None;
+    }
+    if begins_long(piece, b"\"geometry\":{\"coo", b"rdinates\":      ", 10) {
+        return Some(LateStart {
+            count: 26,
+            bracket: 11,
+        });
+    }
+    if begins_long(piece, b"\"geometry\": {\"co", b"ordinates\":     ", 12) {
+        return Some(LateStart {
+            count: 28,
+            bracket: 12,
+        });
+    }
+    None
+}
+
+/// The end that the piece starts with, with a space after the comma and the colon, or none.
+#[inline(always)]
+fn late_end(piece: &[u8]) -> Option<LateEnd>
+    ensures within { IfSome result (λ last. last.close < length piece.now) }
+    ensures name { IfSome result (λ last. last.name_at ≤ last.close) }
+    ensures word { IfSome result (λ last. last.word_at ≤ last.close) }
+    ensures ends { IfSome result (λ last. EndsLate piece.now last) }
+{
+    if piece.len() < END_ROOM {
+        return None;
+    }
+    if begins(piece, b",\"type\":\"Point\"}", 16) {
+        return Some(LateEnd {
+            name_at: 1,
+            word_at: 8,
+            close: 15,
+        });
+    }
+    if piece[0] == b',' && begins(&piece[1..], b" \"type\": \"Point\"", 16) && piece[17] == b'}' {
+        return Some(LateEnd {
+            name_at: 2,
+            word_at: 10,
+            close: 17,
+        });
+    }
+    None
+}
+
+/// Such a member, which the piece starts with, and its position, where the piece begins at the place `start`.
+#[inline(always)]
+pub fn late_point(piece: &[u8], start: u64, flat: &mut Flat) -> Option<LatePoint>
+    requires small { start + length piece.now ≤ 2 ^ 60 }
+    ensures on { IfSome result (λ point. start ≤ point.close) }
+    ensures within { IfSome result (λ point. point.close < start + length piece.now) }
+    ensures late { IfSome result (λ point. IsLatePoint point flat.new start piece.now) }
+{
+    let first = late_start(piece)?;
+    let rest = &piece[first.count..];
+    if rest.is_empty() || rest[0] != b'[' {
+        return None;
+    }
+    let count = read_lone_flat(rest, start + first.count as u64, flat)?;
+    let until = first.count + count;
+    let last = late_end(&piece[until..])?;
+    let bracket = start + first.bracket as u64;
+    let comma = start + until as u64;
+    Some(LatePoint {
+        place: start,
+        bracket,
+        coordinates: bracket + 1,
+        name_at: comma + last.name_at as u64,
+        word_at: comma + last.word_at as u64,
+        close: comma + last.close as u64,
+    })
+}
