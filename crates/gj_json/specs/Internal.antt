@@ -20,5 +20,6 @@ pub mod WholeTokens
 pub mod Scalars
 pub mod WholeHeads
 pub mod LatePoints
+pub mod FirstIds
 pub mod FlatParts
 pub mod SpelledPositions

@@ -202,6 +202,7 @@ impl Reader {
 
 mod again;
 mod bytes;
+mod first_ids;
 mod flats;
 mod heads;
 mod ignored;

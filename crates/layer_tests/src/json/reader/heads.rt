@@ -5,9 +5,9 @@ use gj_json::Limits;
 use std::process::Abort;
 
 /// A feature and its members without white space, the same with spaces, a name that is twice there, other orders, spaces inside
-/// brackets with a feature on each line, geometries without white space in features with spaces, and Points whose coordinates
-/// stand before their type.
-static TEXTS: [&str; 22] = [
+/// brackets with a feature on each line, geometries without white space in features with spaces, Points whose coordinates stand
+/// before their type, and features whose `id` comes first.
+static TEXTS: [&str; 27] = [
     "[{\"type\":\"Feature\",\"id\":1},{\"type\":\"Feature\",\"geometry\":{\"type\":\"Point\",\"coordinates\":[1,2]}}]",
     "[{\"type\": \"Feature\", \"geometry\": {\"type\": \"LineString\", \"coordinates\": [[1, 2], [3, 4]]}}]",
     "{\"geometry\":{\"type\":\"Polygon\",\"coordinates\":[[]]},\"geometry\":{\"type\":\"Feature\",\"coordinates\":{}}}",
@@ -30,6 +30,11 @@ static TEXTS: [&str; 22] = [
     "[{\"geometry\": {\"coordinates\": [1, 2], \"type\": \"Point\"}}, {\"type\": \"Feature\", \"geometry\": {\"coordinates\": 0}}]",
     "{\"geometry\":{\"coordinates\":[1,2],\"type\":\"Pointy\"},\"geometry\": {\"coordinates\": [[1, 2]], \"type\": \"Point\"},\"a\":0}",
     "[{\"type\":\"Feature\",\"geometry\":{\"coordinates\":[1.5,2.5],\"type\":\"Point\"}},{\"type\":\"Feature\",\"b\":1}]",
+    "[{\"id\":\"a\",\"type\":\"Feature\",\"b\":{\"c\":1}},{\"id\":\"d\",\"type\":\"Feature\",\"e\":0}]",
+    "[{\"id\": \"0\", \"type\": \"Feature\", \"b\": {\"c\": 1}}, {\"id\": \"1\", \"type\": \"Feature\", \"e\": 0}]",
+    "[{\"geometry\":{\"type\":\"Point\",\"coordinates\":[1,2]}},\n{\"id\": -1.5, \"type\": \"Feature\"},{\"id\":2}]",
+    "{\"id\":\"Point\",\"a\":[{\"b\":{\"c\":{}}},{\"id\":null,\"type\":\"Feature\"},{\"id\":0,\"type\":\"Feature\",\"d\":1}]}",
+    "[{\"d\":{\"e\":{}}},{\"id\":\"relation/1234567890\",\"type\":\"Feature\",\"id\":\"relation/1234567890\"}]",
 ];
 
 /// Each byte changed to each of these.
