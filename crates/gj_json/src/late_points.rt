@@ -84,7 +84,8 @@ fn late_end(piece: &[u8]) -> Option<LateEnd>
 }
 
 /// Such a member, which the piece starts with, and its position, where the piece begins at the place `start`.
-#[inline(always)]
+// It is one function for all sinks, so that its code does not stand in each of the readers.
+#[inline(never)]
 pub fn late_point(piece: &[u8], start: u64, flat: &mut Flat) -> Option<LatePoint>
     requires small { start + length piece.now ≤ 2 ^ 60 }
     ensures on { IfSome result (λ point. start ≤ point.close) }

@@ -161,7 +161,7 @@ pub trait EventSink {
             place: point.coordinates,
             what: What::Name(Known::Coordinates),
         });
-        self.tell_flat(flat);
+        self.tell_flat_in_turn(flat);
         self.tell(Event {
             place: point.name_at,
             what: What::Name(Known::TypeName),

@@ -32,48 +32,11 @@ pub(super) fn may_be_next_id(piece: &[u8]) -> bool {
 impl Reader {
     ghost use Rattle.gj_json.specs.Internal.FedReader.{FeedsAll};
 
-    /// Takes a number that is the value of an `id`, the byte after it, and white space after that: how many bytes, or 0.
-    #[inline(never)]
-    fn take_id_number<S: EventSink>(&mut self, piece: &[u8], sink: &mut S) -> usize
-        requires live { self.old.fault ≡ None }
-        requires due { self.old.mode ≡ ValueDue }
-        requires room { self.old.offset + length piece.now ≤ self.old.limits.bytes }
-        requires small { self.old.limits.bytes ≤ 2 ^ 60 }
-        ensures within { result ≤ length piece.now }
-        ensures feeds { FeedsAll (S.heard sink.old) (S.heard sink.new) self.old self.new (take result piece.now) }
-    {
-        let count = self.take_number::<S, true>(piece, sink);
-        if count < piece.len() && piece[count] == b' ' {
-            return count + self.take_white(&piece[count..], sink);
-        }
-        count
-    }
-
-    /// Takes a string of plain characters that is the value of an `id`, and the byte after it: how many bytes, or 0.
-    #[inline(never)]
-    fn take_long_id<S: EventSink>(&mut self, piece: &[u8], sink: &mut S) -> usize
-        requires some { 0 < length piece.now }
-        requires begins { get_or piece.now 0 0 ≡ quote }
-        requires live { self.old.fault ≡ None }
-        requires due { self.old.mode ≡ ValueDue }
-        requires room { self.old.offset + length piece.now ≤ self.old.limits.bytes }
-        requires small { self.old.limits.bytes ≤ 2 ^ 60 }
-        ensures within { result ≤ length piece.now }
-        ensures feeds { FeedsAll (S.heard sink.old) (S.heard sink.new) self.old self.new (take result piece.now) }
-    {
-        let text = self.take_plain_text(piece, sink);
-        if text == 0 || text == piece.len() {
-            return text;
-        }
-        text + self.take_end(&piece[text..], sink)
-    }
-
-    /// As `take_long_id`, at once where the string has fewer than sixteen characters and a comma follows, with one byte of white space after
-    /// it or none.
+    /// Takes a string of fewer than sixteen plain characters that is the value of an `id`, and the comma after it, with one byte of white
+    /// space after that or none: how many bytes, or 0.
     #[inline(always)]
     fn take_id_text<S: EventSink>(&mut self, piece: &[u8], sink: &mut S) -> usize
         requires long { LANES + 1 < length piece.now }
-        requires begins { get_or piece.now 0 0 ≡ quote }
         requires live { self.old.fault ≡ None }
         requires due { self.old.mode ≡ ValueDue }
         requires room { self.old.offset + length piece.now ≤ self.old.limits.bytes }
@@ -81,11 +44,11 @@ impl Reader {
         ensures within { result ≤ length piece.now }
         ensures feeds { FeedsAll (S.heard sink.old) (S.heard sink.new) self.old self.new (take result piece.now) }
     {
-        let count = near_quoted_run(piece);
-        if count == 0 {
-            return self.take_long_id(piece, sink);
+        if piece[0] != b'"' {
+            return 0;
         }
-        if piece[count] != b',' || !self.levels.is_in_object() {
+        let count = near_quoted_run(piece);
+        if count == 0 || piece[count] != b',' || !self.levels.is_in_object() {
             return 0;
         }
         sink.tell(Event {
@@ -93,23 +56,6 @@ impl Reader {
             what: What::Text(type_of(&piece[1..count - 1])),
         });
         self.skip(gap_end(piece, count + 1), Mode::NameDue)
-    }
-
-    /// Takes the value of an `id`, and the comma after it: how many bytes, or 0.
-    #[inline(always)]
-    fn take_id_value<S: EventSink>(&mut self, piece: &[u8], sink: &mut S) -> usize
-        requires long { LANES + 1 < length piece.now }
-        requires live { self.old.fault ≡ None }
-        requires due { self.old.mode ≡ ValueDue }
-        requires room { self.old.offset + length piece.now ≤ self.old.limits.bytes }
-        requires small { self.old.limits.bytes ≤ 2 ^ 60 }
-        ensures within { result ≤ length piece.now }
-        ensures feeds { FeedsAll (S.heard sink.old) (S.heard sink.new) self.old self.new (take result piece.now) }
-    {
-        if piece[0] == b'"' {
-            return self.take_id_text(piece, sink);
-        }
-        self.take_id_number(piece, sink)
     }
 
     /// Takes the member by which an object is a feature, with the comma after it: how many bytes, or 0.
@@ -152,8 +98,9 @@ impl Reader {
         }
     }
 
-    /// Takes the name `id` with its value, and the type after it where the object is a feature: how many bytes, or 0.
-    #[inline(always)]
+    /// Takes the name `id` with its value where that is such a string, and the type after it where the object is a feature: how many
+    /// bytes, or 0.
+    #[inline(never)]
     fn take_id<S: EventSink>(&mut self, piece: &[u8], sink: &mut S) -> usize
         requires live { self.old.fault ≡ None }
         requires due { names self.old.mode ≡ true }
@@ -171,7 +118,7 @@ impl Reader {
             what: What::Name(Known::Id),
         });
         self.skip(name, Mode::ValueDue);
-        let id = name + self.take_id_value(&piece[name..], sink);
+        let id = name + self.take_id_text(&piece[name..], sink);
         id + self.take_type_if_due(&piece[id..], sink)
     }
 

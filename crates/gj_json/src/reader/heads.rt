@@ -303,8 +303,8 @@ impl Reader {
         taken + self.take_feature_end(&piece[taken..], sink)
     }
 
-    /// Takes a member `geometry` that is a whole Point whose coordinates stand before its type, with the end of the feature and the
-    /// beginning of the next where they follow: how many bytes. Where there is none, only a name and its colon are taken.
+    /// Takes a member `geometry` that is a whole Point whose coordinates stand before its type: how many bytes, or 0. Where there is
+    /// none, a name of plain characters and its colon are taken.
     #[inline(never)]
     fn take_late_point<S: EventSink>(&mut self, piece: &[u8], sink: &mut S) -> usize
         requires some { 0 < length piece.now }
@@ -316,15 +316,14 @@ impl Reader {
         ensures feeds { FeedsAll (S.heard sink.old) (S.heard sink.new) self.old self.new (take result piece.now) }
     {
         if self.levels.len() + 1 >= self.limits.depth() {
-            return self.take_named(piece, sink);
+            return self.take_plain_name(piece, sink);
         }
         let mut flat = Flat::blank();
         let Some(point) = late_point(piece, self.offset, &mut flat) else {
-            return self.take_named(piece, sink);
+            return self.take_plain_name(piece, sink);
         };
         sink.tell_late_point(&point, &flat);
-        let taken = self.skip((point.close - self.offset) as usize + 1, Mode::ValueDone);
-        taken + self.take_feature_end(&piece[taken..], sink)
+        self.skip((point.close - self.offset) as usize + 1, Mode::ValueDone)
     }
 
     /// Takes a name and its colon, where it is that of a geometry with what comes before its coordinates, or with all of a Point:

@@ -75,7 +75,7 @@ impl Reader {
 
     /// Takes a string of plain characters that is a value: how many bytes, or 0.
     #[inline(never)]
-    pub(super) fn take_plain_text<S: EventSink>(&mut self, piece: &[u8], sink: &mut S) -> usize
+    fn take_plain_text<S: EventSink>(&mut self, piece: &[u8], sink: &mut S) -> usize
         requires some { 0 < length piece.now }
         requires begins { get_or piece.now 0 0 ≡ quote }
         requires live { self.old.fault ≡ None }
@@ -163,7 +163,7 @@ impl Reader {
 
     /// Takes a name of plain characters and its colon, with the white space around that: how many bytes, or 0.
     #[inline(never)]
-    fn take_plain_name<S: EventSink>(&mut self, piece: &[u8], sink: &mut S) -> usize
+    pub(super) fn take_plain_name<S: EventSink>(&mut self, piece: &[u8], sink: &mut S) -> usize
         requires some { 0 < length piece.now }
         requires live { self.old.fault ≡ None }
         requires due { names self.old.mode ≡ true }
@@ -394,11 +394,7 @@ impl Reader {
 
     /// Takes a number and the byte after it, at once where it is an ordinary one: how many bytes, or 0.
     #[inline(always)]
-    pub(super) fn take_number<S: EventSink, const HEARS: bool>(
-        &mut self,
-        piece: &[u8],
-        sink: &mut S,
-    ) -> usize
+    fn take_number<S: EventSink, const HEARS: bool>(&mut self, piece: &[u8], sink: &mut S) -> usize
         requires live { self.old.fault ≡ None }
         requires due { awaits self.old.mode ≡ true }
         requires room { self.old.offset + length piece.now ≤ self.old.limits.bytes }

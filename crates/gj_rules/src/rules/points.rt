@@ -70,7 +70,7 @@ impl<const FRAMES: usize> FramedRules<FRAMES> {
         ensures { (events : List Event) → StandsFor self.old events → StandsFor self.new (events ++ point_events located.now flat.now close) }
     {
         self.tell_located(located);
-        self.tell_flat(flat);
+        self.tell_each(flat);
         self.tell_close_object(close);
     }
 }

@@ -12,7 +12,7 @@ returns-clause-feeds g c =
     let piece = c.args.piece.now in
     let named = c.skip.new.self in
     let name = c.id_run-name.result in
-    let value = c.take_id_value in
+    let value = c.take_id_text in
     let last = c.take_type_if_due in
     piece_all reader value.new.self last.new.self piece (name + value.result) last.result
     (piece_all reader named value.new.self piece name value.result

@@ -13,4 +13,4 @@ pub returns : goal.returns
 returns g c = λ events h.
     let H : List Event → Type 0 = λ es. StandsFor c.tell_close_object.new.self es in
     subst H (by_parts events (located_events c.args.located.now) (flat_events c.args.flat.now) _)
-    (c.tell_close_object.ensures _ (c.tell_flat.ensures _ (c.tell_located.ensures events h)))
+    (c.tell_close_object.ensures _ (c.tell_each.ensures _ (c.tell_located.ensures events h)))
