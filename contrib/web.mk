@@ -58,7 +58,7 @@ web_unused := check|levels|offset|features_offset|records_offset|features_begin_
 $(WEB_BUILD)/geolint.wasm: $(WEB_BUILD)/geolint_64.wasm $(WEB)/plain-loads
 	@$(call needs,wasm-opt,binaryen)
 	wasm-dis --all-features $< | grep -vE '^ *\(export "geolint_($(web_unused))"' | $(WEB)/plain-loads >$(WEB_BUILD)/plain.wat
-	wasm-opt --all-features $(WEB_BUILD)/plain.wat --memory64-lowering -O3 --converge --one-caller-inline-max-function-size 200 -o $@
+	wasm-opt --all-features $(WEB_BUILD)/plain.wat --memory64-lowering -O3 -s 1 --converge --one-caller-inline-max-function-size 200 -o $@
 
 $(WEB_OUT)/index.html: $(WEB_BUILD)/geolint.wasm $(wildcard $(WEB)/*) $(top)/docs/rules.md
 	@$(call needs,terser,terser)

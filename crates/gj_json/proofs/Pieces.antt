@@ -14,7 +14,6 @@ pub mod TakenTokens
 pub mod NumberRows
 pub mod TakenHeads
 pub mod LatePoints
-pub mod TakenIds
 pub mod TokensInLevels
 pub mod PassedMembers
 pub mod FlatsInTurn

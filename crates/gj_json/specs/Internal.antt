@@ -20,6 +20,5 @@ pub mod WholeTokens
 pub mod Scalars
 pub mod WholeHeads
 pub mod LatePoints
-pub mod FirstIds
 pub mod FlatParts
 pub mod SpelledPositions

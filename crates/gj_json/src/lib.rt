@@ -13,7 +13,6 @@ mod content;
 mod cut_position;
 mod event;
 mod fault;
-mod first_ids;
 mod flat;
 mod flats;
 mod gaps;

@@ -202,7 +202,6 @@ impl Reader {
 
 mod again;
 mod bytes;
-mod first_ids;
 mod flats;
 mod heads;
 mod ignored;

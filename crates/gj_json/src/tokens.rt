@@ -70,7 +70,6 @@ pub fn near_quoted_run(piece: &[u8]) -> usize
     ensures few { result ≤ LANES + 1 }
     ensures two { 0 < result → 2 ≤ result }
     ensures quoted { 0 < result → IsString (take result piece.now) }
-    ensures plain { 0 < result → IsQuoted (cut piece.now 1 (result - 1)) (take result piece.now) }
 {
     let count = near_ascii_run(&piece[1..]);
     if count < LANES && piece[1 + count] == b'"' {

@@ -46,15 +46,14 @@ use Rattle.gj_json.proofs.Pieces.TakenTokens.{Moved, lands_feeds, done_go, done_
 
 -- ---- bytes that lead from one mode to another, wherever they stand, and what is complete behind them
 
-pub record Carries (limits : Allowed) (mode : Mode) (levels : List Level) (next : Mode) (after : List Level) (given : List ℕ)
-    (es : ℕ → List Event) : Type 0 where
+pub record Carries (limits : Allowed) (mode : Mode) (levels : List Level) (next : Mode) (after : List Level)
+    (given : List ℕ) (es : ℕ → List Event) : Type 0 where
   pub moved : (start offset : ℕ) (bytes : List ℕ) → StandsWell limits mode levels start offset bytes → offset + length given ≤ limits.bytes
       → Moved limits next after offset (offset + length given) bytes given (es offset)
 
 -- bytes after others
 pub moved_on : (limits : Allowed) (mid next : Mode) (around after : List Level) (from m to : ℕ) (bytes xs ys : List ℕ) (es fs : List Event)
-    → Moved limits mid around from m bytes xs es → Moved limits next after m to (bytes ++ xs) ys fs
-    → Moved limits next after from to bytes (xs ++ ys) (es ++ fs)
+    → Moved limits mid around from m bytes xs es → Moved limits next after m to (bytes ++ xs) ys fs → Moved limits next after from to bytes (xs ++ ys) (es ++ fs)
 moved_on limits mid next around after from m to bytes xs ys es fs a b =
     let Q : List ℕ → Type 0 = λ zs. StandsWell limits next after b.start to zs in
     record {
@@ -103,7 +102,7 @@ module _ (limits : Allowed) where
       (quiet ColonDue ValueDue levels (colon ∷ gap) (ValueDue, colon_by, quiet_leads ValueDue gap (all_quiet gap white)))
 
   -- a string in an object, the comma after it and white space
-  pub text_carries : (levels : List Level) (content given gap : List ℕ) → length levels + 1 ≤ limits.depth → IsQuoted content given → AllByRecursion IsWhite gap
+  text_carries : (levels : List Level) (content given gap : List ℕ) → length levels + 1 ≤ limits.depth → IsQuoted content given → AllByRecursion IsWhite gap
       → Carries limits ValueDue (Object ∷ levels) NameDue (Object ∷ levels) (given ++ (comma ∷ gap)) (λ n. event_at n (What.Text (word_of content)) ∷ [])
   text_carries levels content given gap deep q white =
       let all = Object ∷ levels in
@@ -226,7 +225,7 @@ module _ (limits : Allowed) where
   white_done [] h = tt
   white_done (x ∷ xs) h = (record { moves = λ turn inner words. rw (class_is white_class x h.0 (λ e. cc)) refl; on = refl }, white_done xs h.1)
 
-  pub done_carries : (levels : List Level) (gap : List ℕ) → AllByRecursion IsWhite gap → Carries limits ValueDone levels ValueDone levels gap (λ n. [])
+  done_carries : (levels : List Level) (gap : List ℕ) → AllByRecursion IsWhite gap → Carries limits ValueDone levels ValueDone levels gap (λ n. [])
   done_carries levels gap white = quiet ValueDone ValueDone levels gap (quiet_leads ValueDone gap (white_done gap white))
 
   -- the end of an element that is an object, the comma after it, and an object that begins by its type, with white space between them
@@ -300,7 +299,7 @@ opened_taken {before} {after} old new piece count live due room w deep h p heard
     (subst P (sym long) p) refl (λ bytes k. whole.moved old.start old.offset bytes k (omega (arith, long, room, w))) (subst Q e heard)
 
 -- the bytes of an end and of what comes before and after it
-pub end_bytes : (piece : List ℕ) (close at : ℕ) → close + 2 ≤ at → at ≤ length piece → get_or piece close 0 ≡ close_brace → get_or piece (close + 1) 0 ≡ comma
+end_bytes : (piece : List ℕ) (close at : ℕ) → close + 2 ≤ at → at ≤ length piece → get_or piece close 0 ≡ close_brace → get_or piece (close + 1) 0 ≡ comma
     → take at piece ≡ cut piece 0 close ++ (close_brace ∷ comma ∷ cut piece (close + 2) at)
 end_bytes piece close at w within e f =
     let two : close + 1 + 1 ≡ close + 2 = omega arith in
@@ -312,7 +311,7 @@ end_bytes piece close at w within e f =
     let whole : at ≡ at - 0 = omega arith in
     ap (λ n. take n piece) whole ∙ cut_joins piece 0 close at (omega arith) (omega (arith, w)) ∙ ap (λ xs. cut piece 0 close ++ xs) rest
 
-pub in_four : (xs ys zs : List ℕ) → (xs ++ (close_brace ∷ comma ∷ ys)) ++ zs ≡ xs ++ (close_brace ∷ comma ∷ (ys ++ zs))
+in_four : (xs ys zs : List ℕ) → (xs ++ (close_brace ∷ comma ∷ ys)) ++ zs ≡ xs ++ (close_brace ∷ comma ∷ (ys ++ zs))
 in_four xs ys zs = append_assoc xs (close_brace ∷ comma ∷ ys) zs
 
 pub following_taken : {before after : List Event → Type 0} (old new : Reader) (piece : List ℕ) (next : UsualNext) (around : List Level)

@@ -11,7 +11,6 @@ ghost use Rattle.gj_json.specs.declared.mode.Mode.TheVariants.{ValueDone};
 ghost use Rattle.gj_json.specs.declared.names.Word.{Word};
 
 use super::Reader;
-use super::first_ids::{may_be_id, may_be_next_id};
 use super::flats::begins_array;
 use crate::event::{Event, What};
 use crate::flat::Flat;
@@ -112,7 +111,7 @@ impl Reader {
         self.skip(typed.count, Mode::NameDue)
     }
 
-    /// Takes the beginning of an object. A look at two bytes mostly shows whether it may begin by its type, or by its `id`.
+    /// Takes the beginning of an object. A look at two bytes mostly shows whether it may begin by its type.
     #[inline(always)]
     pub(super) fn take_object<S: EventSink>(&mut self, piece: &[u8], sink: &mut S) -> usize
         requires some { 0 < length piece.now }
@@ -126,9 +125,6 @@ impl Reader {
     {
         if may_be_typed(piece) {
             return self.take_typed(piece, sink);
-        }
-        if may_be_id(piece) {
-            return self.take_identified(piece, sink);
         }
         self.take_open(Level::Object, piece, sink)
     }
@@ -205,13 +201,7 @@ impl Reader {
         ensures feeds { FeedsAll (S.heard sink.old) (S.heard sink.new) self.old self.new (take result piece.now) }
     {
         let next = following_typed(piece);
-        if next.typed.count == 0 {
-            if next.at > 0 && may_be_next_id(piece) {
-                return self.take_next_identified(piece, sink);
-            }
-            return 0;
-        }
-        if !self.levels.is_in_element() {
+        if next.typed.count == 0 || !self.levels.is_in_element() {
             return 0;
         }
         sink.tell(Event {
