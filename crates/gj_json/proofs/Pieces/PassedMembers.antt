@@ -11,7 +11,7 @@ use Rattle.gj_json.specs.declared.levels.Level.{Level}
 use Rattle.gj_json.specs.declared.levels.Level.TheVariants.{Object}
 use Rattle.gj_json.specs.declared.mode.Ending.{Ending}
 use Rattle.gj_json.specs.declared.mode.Mode.{Mode}
-use Rattle.gj_json.specs.declared.mode.Mode.TheVariants.{ValueDone, ValueDue}
+use Rattle.gj_json.specs.declared.mode.Mode.TheVariants.{ValueDone, ValueDue, NameDue}
 use Rattle.gj_json.specs.declared.mode.Move.TheVariants.{Go, Close}
 use Rattle.gj_json.specs.declared.name_lengths.NameLengths.{NameLengths}
 use Rattle.gj_json.specs.declared.reader.Reader.{Reader}
@@ -20,6 +20,7 @@ use Rattle.gj_json.specs.Internal.ByteClasses.{class_of}
 use Rattle.gj_json.specs.Internal.FedReader.{Passed, FeedsAll, FeedsAny}
 use Rattle.gj_json.specs.Internal.FlatParts.{awaits, cut}
 use Rattle.gj_json.specs.Internal.OpenLevels.{levels_in, inner_of, outer_of}
+use Rattle.gj_json.specs.Internal.QuietBytes.{Leads}
 use Rattle.gj_json.specs.Internal.Scalars.{IsScalar, text, digits, literal}
 use Rattle.gj_json.specs.Internal.ToldEvents.{event_at}
 use Rattle.gj_json.specs.Internal.Transitions.{IsMode, after_move}
@@ -27,9 +28,12 @@ use Rattle.gj_json.specs.Internal.WholeTokens.{names, IsString, Lands}
 use Rattle.gj_json.proofs.Grammar.ClassOfBytes.{class_is}
 use Rattle.gj_json.proofs.Grammar.SpelledTokens.{first_colon_cut}
 use Rattle.gj_json.proofs.Pieces.PieceRests.{rest_of}
+use Rattle.gj_json.proofs.Pieces.QuietModes.{quiet_white}
+use Rattle.gj_json.proofs.Pieces.SkippedRuns.{leads_skips}
 use Rattle.gj_json.proofs.Pieces.TakenFlats.{mid_of, to_mid, from_mid}
 use Rattle.gj_json.proofs.Pieces.TakenTokens.{named_taken, text_taken}
-use Rattle.gj_json.proofs.Pieces.TokensInLevels.{from_none, first_byte, any_level, any_constant, any_goes, any_closes, any_then, number_token, ended_token}
+use Rattle.gj_json.proofs.Pieces.TokensInLevels.{from_none, first_byte, any_level, any_constant, any_goes, any_closes, any_then, any_skipped, number_token}
+use Rattle.gj_json.proofs.Pieces.TokensInLevels.{ended_token}
 
 -- ---- what is kept of the lengths of names says nothing of what was given
 
@@ -192,6 +196,37 @@ module _ (old new : Reader) (piece : List ℕ) (n : ℕ) (live : old.fault ≡ N
       | literal which e ↦
           closes (any_constant old mid piece n which live due room (omega arith) (to_mid old n ValueDone done_mode mid_room) e)
     ]
+
+-- ---- the space before a name
+
+module _ (old new : Reader) (piece : List ℕ) (n : ℕ) (live : old.fault ≡ None) (room : old.offset + length piece ≤ old.limits.bytes)
+    (w : n < length piece) (here : get_or piece n 0 ≡ space) (p : Passed (n + 1) NameDue old new) where
+  pub name_mode : IsMode NameDue
+  name_mode = omega arith
+
+  pub before_room : old.offset + n ≤ old.limits.bytes
+  before_room = omega arith
+
+  -- as it is before the space
+  abbrev pub before_space : Reader
+  before_space = mid_of old n NameDue name_mode before_room
+
+  pub to_space : Passed n NameDue old before_space
+  to_space = to_mid old n NameDue name_mode before_room
+
+  pub space_any : FeedsAny old before_space (take n piece) → FeedsAny old new (take (n + 1) piece)
+  space_any f =
+      let rest : List ℕ = take (length piece - n) (drop n piece) in
+      let long : length rest ≡ length piece - n = ap length (rest_of piece n) ∙ length-drop n piece in
+      let z : n + 0 ≡ n = omega arith in
+      let first : get_or rest 0 0 ≡ space =
+      ap (λ xs. get_or xs 0 0) (rest_of piece n) ∙ get_or-drop n piece 0 0 ∙ ap (λ i. get_or piece i 0) z ∙ here in
+      let one : take 1 rest ≡ space ∷ [] = first_byte rest space (omega arith) first in
+      let P : List ℕ → Type 0 = λ xs. Leads NameDue xs NameDue in
+      let leads : Leads NameDue (take 1 rest) NameDue = subst P (sym one) (NameDue, quiet_white NameDue tt space refl, refl) in
+      let q : Passed 1 NameDue before_space new = from_mid old new n 1 (n + 1) NameDue NameDue name_mode before_room refl p in
+      any_skipped old before_space new piece n 1 NameDue live room (omega arith) to_space (omega arith)
+      (leads_skips before_space new (take 1 rest) 1 NameDue (rw one refl) q leads refl refl) f
 
 -- ---- a name, the value after it, and the byte after that
 

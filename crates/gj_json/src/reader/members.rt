@@ -72,8 +72,10 @@ impl Reader {
         let end = value + scalar_run(&piece[value..]);
         if end > value && self.levels.is_in_object() {
             if piece[end] == b',' {
-                let taken = self.skip(end + 1, Mode::NameDue);
-                return taken + self.skip_space(&piece[taken..]);
+                if piece[end + 1] == b' ' {
+                    return self.skip(end + 2, Mode::NameDue);
+                }
+                return self.skip(end + 1, Mode::NameDue);
             }
             if piece[end] == b'}' {
                 return self.take_close(Level::Object, end + 1, &mut NoEvents);

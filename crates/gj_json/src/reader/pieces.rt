@@ -77,32 +77,16 @@ impl Reader {
     /// put one after each comma.
     #[inline(always)]
     pub(super) fn skip_space(&mut self, piece: &[u8]) -> usize
-        requires some { 0 < length piece.now }
         requires due { self.old.mode ≡ NameDue }
         requires room { self.old.offset + length piece.now ≤ self.old.limits.bytes }
         requires small { self.old.limits.bytes ≤ 2 ^ 60 }
         ensures within { result ≤ length piece.now }
         ensures skips { Skips self.old self.new (take result piece.now) }
     {
-        if piece[0] != b' ' {
+        if piece.is_empty() || piece[0] != b' ' {
             return 0;
         }
         self.skip(1, Mode::NameDue)
-    }
-
-    /// As `skip_space`, and nothing where the piece has ended.
-    #[inline(always)]
-    pub(super) fn skip_if_space(&mut self, piece: &[u8]) -> usize
-        requires due { self.old.mode ≡ NameDue }
-        requires room { self.old.offset + length piece.now ≤ self.old.limits.bytes }
-        requires small { self.old.limits.bytes ≤ 2 ^ 60 }
-        ensures within { result ≤ length piece.now }
-        ensures skips { Skips self.old self.new (take result piece.now) }
-    {
-        if piece.is_empty() {
-            return 0;
-        }
-        self.skip_space(piece)
     }
 
     /// As `skip_quiet`, and at once nothing where the first byte is none of them.

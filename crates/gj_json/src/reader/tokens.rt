@@ -439,7 +439,7 @@ impl Reader {
                 Some(Level::Array) => self.skip(1, Mode::ValueDue),
                 Some(Level::Object) => {
                     let taken = self.skip(1, Mode::NameDue);
-                    taken + self.skip_if_space(&piece[taken..])
+                    taken + self.skip_space(&piece[taken..])
                 }
                 None => 0,
             };

@@ -1,29 +1,44 @@
 -- A name, the value after it, and the byte after that.
-use Rattle.std.proofs.Common.{◌+◌, get_or, length, refl, ap, arith}
+use Rattle.std.proofs.Common.{◌≡◌, ℕ, ◌+◌, ◌<◌, get_or, length, take, refl, sym, ap, subst, arith}
+use Rattle.gj_json.specs.Internal.FedReader.{Passed, FeedsAny}
 use Rattle.gj_json.specs.declared.levels.Level.TheVariants.{Object}
 use Rattle.gj_json.specs.declared.mode.Ending.TheVariants.{Item}
 use Rattle.gj_json.specs.declared.mode.Mode.TheVariants.{NameDue}
 use Rattle.gj_json.specs.Internal.OpenLevels.{levels_in, inner_of}
-use Rattle.gj_json.proofs.Pieces.PassedMembers.{name_to, named_goes, named_closes, brace_closes}
-use Rattle.gj_json.proofs.Pieces.TokensInLevels.{any_then, any_skipped, comma_ends}
+use Rattle.gj_json.proofs.Pieces.PassedMembers.{name_to, named_goes, named_closes, brace_closes, before_space, to_space, space_any}
+use Rattle.gj_json.proofs.Pieces.TokensInLevels.{any_then, comma_ends}
 use Rattle.gj_json.proofs.reader.Reader.pass_named.Goals as goal
+
+pub returns-then-piece-end-eq32-clause-feeds : goal.returns-then-piece-end-eq32-clause-feeds
+returns-then-piece-end-eq32-clause-feeds c =
+    let q = c.scalar_run in
+    let r = c.requires in
+    let reader = c.args.self.now in
+    let piece = c.args.piece.now in
+    let new = c.skip.new.self in
+    let at = c.args.value + q.result + 1 in
+    let within : at < length piece = omega arith in
+    let e : at + 1 ≡ c.args.value + q.result + 2 = omega arith in
+    let P : ℕ → Type 0 = λ k. Passed k NameDue reader new in
+    let Q : ℕ → Type 0 = λ k. FeedsAny reader new (take k piece) in
+    let passed : Passed (at + 1) NameDue reader new = subst P (sym e) c.skip.ensures.passed in
+    let made = comma_ends (inner_of (levels_in reader.levels)) (get_or piece (c.args.value + q.result) 0) Object NameDue
+    (c.is_in_object.ensures c.if-is_in_object.true) c.if-piece-end-eq44.true refl in
+    rw (c.skip.ensures.count)
+    (subst Q e (space_any reader new piece at r.live r.room within c.if-piece-end-eq32.true passed
+    (named_goes reader (before_space reader new piece at r.live r.room within c.if-piece-end-eq32.true passed) piece
+    c.args.name c.args.value q.result r.live r.due r.room r.quoted r.colon r.between (omega arith) (q.ensures.scalar (omega arith)) NameDue Item made
+    (to_space reader new piece at r.live r.room within c.if-piece-end-eq32.true passed))))
 
 pub returns-then-piece-end-eq44-clause-feeds : goal.returns-then-piece-end-eq44-clause-feeds
 returns-then-piece-end-eq44-clause-feeds c =
     let q = c.scalar_run in
     let r = c.requires in
-    let reader = c.args.self.now in
-    let piece = c.args.piece.now in
-    let mid = c.skip-taken.new.self in
-    let passed = c.skip-taken.ensures.passed in
-    let space = c.skip_space in
-    let made = comma_ends (inner_of (levels_in reader.levels)) (get_or piece (c.args.value + q.result) 0) Object NameDue
+    let made = comma_ends (inner_of (levels_in c.args.self.now.levels)) (get_or c.args.piece.now (c.args.value + q.result) 0) Object NameDue
     (c.is_in_object.ensures c.if-is_in_object.true) c.if-piece-end-eq44.true refl in
-    any_skipped reader mid space.new.self piece c.skip-taken.result space.result NameDue r.live r.room
-    (omega arith) (rw (c.skip-taken.ensures.count) passed) space.ensures.within space.ensures.skips
-    (rw (c.skip-taken.ensures.count)
-    (named_goes reader mid piece c.args.name c.args.value q.result r.live r.due r.room r.quoted r.colon r.between
-    (omega arith) (q.ensures.scalar (omega arith)) NameDue Item made passed))
+    rw (c.skip-then-piece-end-eq44.ensures.count)
+    (named_goes c.args.self.now c.skip-then-piece-end-eq44.new.self c.args.piece.now c.args.name c.args.value q.result r.live r.due r.room r.quoted r.colon r.between
+    (omega arith) (q.ensures.scalar (omega arith)) NameDue Item made c.skip-then-piece-end-eq44.ensures.passed)
 
 pub returns-then-piece-end-eq125-clause-feeds : goal.returns-then-piece-end-eq125-clause-feeds
 returns-then-piece-end-eq125-clause-feeds c =
@@ -39,8 +54,8 @@ pub returns-clause-feeds : goal.returns-clause-feeds
 returns-clause-feeds c =
     let v = c.pass_value in
     let r = c.requires in
-    let passed = c.skip.ensures.passed in
-    any_then c.args.self.now c.skip.new.self v.new.self c.args.piece.now c.args.value v.result
+    let passed = c.skip-2.ensures.passed in
+    any_then c.args.self.now c.skip-2.new.self v.new.self c.args.piece.now c.args.value v.result
     (omega (arith, ap (λ ls. length (levels_in ls)) passed.levels))
-    (name_to c.args.self.now c.skip.new.self c.args.piece.now c.args.name r.live r.due r.room (omega arith) r.quoted r.colon c.args.value r.between
+    (name_to c.args.self.now c.skip-2.new.self c.args.piece.now c.args.name r.live r.due r.room (omega arith) r.quoted r.colon c.args.value r.between
     (omega arith) passed) v.ensures.feeds

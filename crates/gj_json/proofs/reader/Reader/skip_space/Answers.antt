@@ -1,5 +1,6 @@
 -- A space leaves a name that is due as it is.
-use Rattle.std.proofs.Common.{◌≡◌, ℕ, List, [], ◌∷◌, take, refl, sym, subst}
+use Rattle.std.proofs.Common.{◌≡◌, ℕ, List, [], ◌∷◌, take, refl, sym, subst, arith}
+use Rattle.std.proofs.lemmas.Bool.Decides.{nat_tests}
 use Rattle.gj_json.specs.Bytes.{space}
 use Rattle.gj_json.specs.Internal.QuietBytes.{Leads}
 use Rattle.gj_json.specs.declared.mode.Mode.TheVariants.{NameDue}
@@ -11,7 +12,7 @@ use Rattle.gj_json.proofs.reader.Reader.skip_space.Goals as goal
 pub returns-clause-skips : goal.returns-clause-skips
 returns-clause-skips c =
     let given : take 1 c.args.piece.now ≡ space ∷ [] =
-    first_byte c.args.piece.now space c.requires.some c.if-piece-ne32.false in
+    first_byte c.args.piece.now space (grind (arith, nat_tests, c.if-is_empty.ensures)) c.if-piece-ne32.false in
     let P : List ℕ → Type 0 = λ xs. Leads NameDue xs NameDue in
     let leads : Leads NameDue (take 1 c.args.piece.now) NameDue = subst P (sym given) (NameDue, quiet_white NameDue tt space refl, refl) in
     rw (c.skip.ensures.count)

@@ -36,7 +36,7 @@ returns-in-Some-Object-clause-feeds g c =
     let piece = c.args.piece.now in
     let mid = c.skip-taken.new.self in
     let passed = c.skip-taken.ensures.passed in
-    let space = c.skip_if_space in
+    let space = c.skip_space in
     let inner : inner_of (levels_in reader.levels) ≡ Some Object =
     sym c.inner.ensures ∙ c.in-Some-Object.is ∙ ap (λ (x : Level). Some x) c.in-Some-Object.field-0-is in
     let made = comma_ends (inner_of (levels_in reader.levels)) (get_or piece 0 0) Object NameDue inner c.if-piece-eq44.true refl in
@@ -50,7 +50,7 @@ returns-in-Some-Object-clause-any g c =
     let piece = c.args.piece.now in
     let mid = c.skip-taken.new.self in
     let passed = c.skip-taken.ensures.passed in
-    let space = c.skip_if_space in
+    let space = c.skip_space in
     let inner : inner_of (levels_in reader.levels) ≡ Some Object =
     sym c.inner.ensures ∙ c.in-Some-Object.is ∙ ap (λ (x : Level). Some x) c.in-Some-Object.field-0-is in
     let made = comma_ends (inner_of (levels_in reader.levels)) (get_or piece 0 0) Object NameDue inner c.if-piece-eq44.true refl in
