@@ -37,8 +37,8 @@ returns-then-piece-end-eq44-clause-feeds c =
     let made = comma_ends (inner_of (levels_in c.args.self.now.levels)) (get_or c.args.piece.now (c.args.value + q.result) 0) Object NameDue
     (c.is_in_object.ensures c.if-is_in_object.true) c.if-piece-end-eq44.true refl in
     rw (c.skip-then-piece-end-eq44.ensures.count)
-    (named_goes c.args.self.now c.skip-then-piece-end-eq44.new.self c.args.piece.now c.args.name c.args.value q.result r.live r.due r.room r.quoted r.colon r.between
-    (omega arith) (q.ensures.scalar (omega arith)) NameDue Item made c.skip-then-piece-end-eq44.ensures.passed)
+    (named_goes c.args.self.now c.skip-then-piece-end-eq44.new.self c.args.piece.now c.args.name c.args.value q.result r.live r.due r.room
+    r.quoted r.colon r.between (omega arith) (q.ensures.scalar (omega arith)) NameDue Item made c.skip-then-piece-end-eq44.ensures.passed)
 
 pub returns-then-piece-end-eq125-clause-feeds : goal.returns-then-piece-end-eq125-clause-feeds
 returns-then-piece-end-eq125-clause-feeds c =
