@@ -55,6 +55,7 @@ $(WEB_BUILD)/geolint_64.wasm: $(WEB_BUILD)/libgeolint_c.a
 web_unused := check|levels|offset|features_offset|records_offset|features_begin_again|records_begin_again|hint_around|lines_begin
 # Not every browser has memories with 64-bit addresses, so they are lowered to 32 bits.
 # LLVM has put into their callers the functions that are worth it. More of it by binaryen makes the page 2 kB larger, and not faster.
+# `-s 1` makes the module half a kilobyte smaller as the page holds it.
 $(WEB_BUILD)/geolint.wasm: $(WEB_BUILD)/geolint_64.wasm $(WEB)/plain-loads
 	@$(call needs,wasm-opt,binaryen)
 	wasm-dis --all-features $< | grep -vE '^ *\(export "geolint_($(web_unused))"' | $(WEB)/plain-loads >$(WEB_BUILD)/plain.wat
