@@ -48,9 +48,9 @@ pub fn has_white(piece: &[u8], at: usize, count: usize) -> bool
 }
 
 impl Gap {
-    /// Before the first.
+    /// Before the first. If white space stands there, it is mostly one space.
     pub fn none() -> Gap {
-        Gap { bytes: 0 }
+        Gap { bytes: 1 }
     }
 
     /// The index after the white space at this one. Mostly it has as many bytes as the last time. The end is then known before

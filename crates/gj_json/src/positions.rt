@@ -126,15 +126,9 @@ fn begins_next(piece: &[u8], at: usize, spaced: bool) -> bool
 }
 
 /// The position that the piece starts with, where its array has this form, its numbers have these signs, and a comma and
-/// another array follow. Its first two numbers may be integers if `integers` says so. The piece begins at the place `start`.
+/// another array follow. The piece begins at the place `start`.
 #[inline(always)]
-fn read_position(
-    piece: &[u8],
-    signs: Signs,
-    form: ArrayForm,
-    integers: bool,
-    start: u64,
-) -> Option<CutPosition>
+fn read_position(piece: &[u8], signs: Signs, form: ArrayForm, start: u64) -> Option<CutPosition>
     requires bracket { get_or piece.now 0 0 ≡ open_bracket }
     requires small { start + length piece.now ≤ 2 ^ 60 }
     ensures { IfSome result (λ position. SpellsPosition (near_gap form) position start piece.now) }
@@ -148,7 +142,7 @@ fn read_position(
     let first = 1 + form.inside as usize;
     let pair_form = PairForm {
         spaced: form.after_comma,
-        integers,
+        integers: form.integers,
         after: after_second(form),
     };
     let Some(pair) = read_cut_pair(&piece[first..], signs, pair_form) else {
@@ -179,7 +173,6 @@ fn read_in_form(
     piece: &[u8],
     signs: Signs,
     form: ArrayForm,
-    integers: bool,
     start: u64,
     positions: &mut [CutPosition; MOST_POSITIONS],
 ) -> usize
@@ -193,7 +186,7 @@ fn read_in_form(
     let mut rest = piece;
     while count < MOST_POSITIONS {
         let place = end - rest.len() as u64;
-        let Some(position) = read_position(rest, signs, form, integers, place) else {
+        let Some(position) = read_position(rest, signs, form, place) else {
             return count;
         };
         rest = &rest[position.close_at as usize + 2 + form.after_comma as usize..];
@@ -227,12 +220,34 @@ fn read_signed<const NEGATIVE: bool, const OTHER_NEGATIVE: bool>(
         third: false,
         integers: false,
     };
-    read_in_form(piece, signs, form, false, start, positions)
+    read_in_form(piece, signs, form, start, positions)
 }
 
-/// As `read_in_form`, of arrays with spaces, with a third number or with integers.
+/// As `read_in_form`, of arrays of two numbers with a space after each comma, and one inside each bracket if `INSIDE` says so.
 #[inline(never)]
-fn read_other<const INTEGERS: bool>(
+fn read_spaced<const INSIDE: bool>(
+    piece: &[u8],
+    signs: Signs,
+    start: u64,
+    positions: &mut [CutPosition; MOST_POSITIONS],
+) -> usize
+    requires bracket { get_or piece.now 0 0 ≡ open_bracket }
+    requires small { start + length piece.now ≤ 2 ^ 60 }
+    ensures few { result ≤ 24 }
+    ensures spelled { SpellsPositions 1 (take result positions.new) start piece.now }
+{
+    let form = ArrayForm {
+        inside: INSIDE,
+        after_comma: true,
+        third: false,
+        integers: false,
+    };
+    read_in_form(piece, signs, form, start, positions)
+}
+
+/// As `read_in_form`, of arrays of any other form.
+#[inline(never)]
+fn read_other(
     piece: &[u8],
     signs: Signs,
     form: ArrayForm,
@@ -244,7 +259,7 @@ fn read_other<const INTEGERS: bool>(
     ensures few { result ≤ 24 }
     ensures spelled { SpellsPositions (near_gap form) (take result positions.new) start piece.now }
 {
-    read_in_form(piece, signs, form, INTEGERS, start, positions)
+    read_in_form(piece, signs, form, start, positions)
 }
 
 /// As `read_in_form`, of any such form.
@@ -261,11 +276,14 @@ fn read_near_positions(
     ensures few { result ≤ 24 }
     ensures spelled { SpellsPositions (near_gap form) (take result positions.new) start piece.now }
 {
-    if form.integers {
-        return read_other::<true>(piece, signs, form, start, positions);
+    if form.integers || form.third || form.inside && !form.after_comma {
+        return read_other(piece, signs, form, start, positions);
     }
-    if form.inside || form.after_comma || form.third {
-        return read_other::<false>(piece, signs, form, start, positions);
+    if form.inside {
+        return read_spaced::<true>(piece, signs, start, positions);
+    }
+    if form.after_comma {
+        return read_spaced::<false>(piece, signs, start, positions);
     }
     match (signs.first, signs.second) {
         (false, false) => read_signed::<false, false>(piece, start, positions),

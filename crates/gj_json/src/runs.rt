@@ -14,12 +14,10 @@ pub use crate::lanes::{is_white, white_run};
 use crate::mode::{Mode, StringMove, StringState};
 use crate::strings::next_string;
 
-/// How many bytes at the start of the piece leave the mode as it is, and complete no event.
+/// Whether white space may stand before what comes next.
 #[inline(always)]
-pub fn quiet_run(mode: Mode, piece: &[u8]) -> usize
-    ensures within { result ≤ length piece.now }
-    ensures quiet { AllByRecursion (IsQuiet mode) (take result piece.now) }
-    ensures longest { result ≡ (if awaits_token mode then prefix_len is_white piece.now else 0) }
+pub fn is_between_tokens(mode: Mode) -> bool
+    ensures { result ≡ awaits_token mode }
 {
     match mode {
         Mode::ValueDue
@@ -27,9 +25,22 @@ pub fn quiet_run(mode: Mode, piece: &[u8]) -> usize
         | Mode::ArrayOpened
         | Mode::ObjectOpened
         | Mode::NameDue
-        | Mode::ColonDue => white_run(piece),
-        _ => 0,
+        | Mode::ColonDue => true,
+        _ => false,
     }
+}
+
+/// How many bytes at the start of the piece leave the mode as it is, and complete no event.
+#[inline(always)]
+pub fn quiet_run(mode: Mode, piece: &[u8]) -> usize
+    ensures within { result ≤ length piece.now }
+    ensures quiet { AllByRecursion (IsQuiet mode) (take result piece.now) }
+    ensures longest { result ≡ (if awaits_token mode then prefix_len is_white piece.now else 0) }
+{
+    if is_between_tokens(mode) {
+        return white_run(piece);
+    }
+    0
 }
 
 /// Bytes of a string: how many, and how far the character under way has come after them.

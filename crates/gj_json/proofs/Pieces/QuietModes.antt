@@ -17,7 +17,7 @@ use Rattle.gj_json.proofs.Pieces.PieceRests.{rest_of}
 use Rattle.gj_json.specs.declared.mode.StringState.TheVariants.{Plain}
 use Rattle.gj_json.specs.Internal.ByteClasses.{class_of}
 use Rattle.gj_json.specs.Internal.KeptContent.{IsAscii}
-use Rattle.gj_json.specs.Internal.QuietBytes.{IsQuiet, Leads, Reads, is_unescaped_ascii, is_white}
+use Rattle.gj_json.specs.Internal.QuietBytes.{IsQuiet, Leads, Reads, awaits_token, is_unescaped_ascii, is_white}
 use Rattle.gj_json.proofs.Grammar.ClassOfBytes.{class_is}
 use Rattle.gj_json.proofs.Grammar.SpelledTexts.{plain_on}
 
@@ -66,8 +66,30 @@ plain_ascii (x ∷ xs) h = (omega (arith, h.0.1), plain_ascii xs h.1)
 pub white_is : (b : ℕ) → is_white b ≡ true → IsWhite b
 white_is b e = grind (arith, nat_tests)
 
-class_white : (b : ℕ) → is_white b ≡ true → class_of b ≡ white
+pub class_white : (b : ℕ) → is_white b ≡ true → class_of b ≡ white
 class_white b e = class_is white b (white_is b e) (λ e. cc)
+
+differ : false ≡ true → ⊥
+differ h = cc
+
+-- a mode in which a token is due is one of them, and no number, string or name is under way in it
+pub awaiting : (mode : Mode) → awaits_token mode ≡ true → PassesWhite mode
+awaiting ValueDue h = tt
+awaiting ValueDone h = tt
+awaiting ArrayOpened h = tt
+awaiting ObjectOpened h = tt
+awaiting NameDue h = tt
+awaiting ColonDue h = tt
+awaiting _ h = absurd (differ h)
+
+pub awaits_other : (mode : Mode) → awaits_token mode ≡ true → in_number mode ≡ false
+awaits_other NumberOn h = absurd (differ h)
+awaits_other _ h = refl
+
+pub awaits_no_text : (mode : Mode) → awaits_token mode ≡ true → text_state mode ≡ None
+awaits_no_text (StringOn state) h = absurd (differ h)
+awaits_no_text (NameOn state) h = absurd (differ h)
+awaits_no_text _ h = refl
 
 pub quiet_white : (mode : Mode) → PassesWhite mode → (b : ℕ) → is_white b ≡ true → IsQuiet mode b
 quiet_white ValueDue h b e = record { moves = λ turn inner words. rw (class_white b e) refl; on = refl }

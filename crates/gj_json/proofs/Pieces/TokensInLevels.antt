@@ -24,7 +24,7 @@ use Rattle.gj_json.specs.Internal.FlatParts.{awaits}
 use Rattle.gj_json.specs.Ignored.{Leaves}
 use Rattle.gj_json.specs.Internal.OpenLevels.{levels_in, inner_of, outer_of}
 use Rattle.gj_json.specs.Internal.Transitions.{after_move}
-use Rattle.gj_json.specs.Internal.QuietBytes.{Reads}
+use Rattle.gj_json.specs.Internal.QuietBytes.{Reads, is_white}
 use Rattle.gj_json.specs.Internal.WholeTokens.{IsString, Lands}
 use Rattle.gj_json.specs.Internal.ToldEvents.{event_at, opening_of, closing_of}
 use Rattle.gj_json.proofs.Grammar.ClassOfBytes.{class_is}
@@ -33,7 +33,7 @@ use Rattle.gj_json.proofs.Events.IgnoredEvents.{outer_length, all_by, all_more}
 use Rattle.gj_json.proofs.Machine.ValuePaths.{at}
 use Rattle.gj_number.specs.Exact.{Exact}
 use Rattle.gj_json.proofs.Pieces.PieceRests.{rest_of}
-use Rattle.gj_json.proofs.Pieces.QuietModes.{reads_more}
+use Rattle.gj_json.proofs.Pieces.QuietModes.{class_white, reads_more}
 use Rattle.gj_json.proofs.Pieces.TakenTokens.{constant_taken, end_goes, end_closes, number_then, number_closed}
 use Rattle.gj_number.specs.Grammar.{IsNumber}
 use Rattle.gj_number.specs.Value.{value_of}
@@ -241,6 +241,9 @@ module _ (hears : Bool) (before after : List Event → Type 0) (old new : Reader
 pub comma_ends : (inner : Option Level) (b : ℕ) (level : Level) (next : Mode) → inner ≡ Some level → b ≡ comma_byte
     → after_move (Some level) comma_class ≡ Go next Ending.Item → after_move inner (class_of b) ≡ Go next Ending.Item
 comma_ends inner b level next i w e = rw (i, w, class_is comma_class comma_byte refl (λ e. cc)) e
+
+pub white_goes : (inner : Option Level) (b : ℕ) → is_white b ≡ true → after_move inner (class_of b) ≡ Go ValueDone Ending.Nothing
+white_goes inner b e = rw (class_white b e) refl
 
 pub first_byte : (piece : List ℕ) (b : ℕ) → 0 < length piece → get_or piece 0 0 ≡ b → take 1 piece ≡ b ∷ []
 first_byte [] b w e = absurd (omega arith)

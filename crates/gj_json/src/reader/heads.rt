@@ -31,11 +31,12 @@ fn may_be_typed(piece: &[u8]) -> bool {
     piece.len() > 3 && (piece[2] == b't' || piece[3] == b't')
 }
 
-/// Whether two bytes look like the end of a feature, after the byte that ends its last member, with a space before it or none.
+/// Whether a few bytes look like the end of a feature, after the byte that ends its last member, with a space before it or none.
 #[inline(always)]
 fn may_end_feature(piece: &[u8]) -> bool {
     piece.len() > 2
-        && (piece[1] == b'}' && piece[2] == b',' || piece[1] == b' ' && piece[2] == b'}')
+        && (piece[1] == b'}' && piece[2] == b','
+            || piece[1] == b' ' && piece[2] == b'}' && piece[0] == b'}')
 }
 
 /// Whether a few bytes look like the name of a geometry, with a name after the bracket of its object.

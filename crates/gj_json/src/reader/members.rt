@@ -80,6 +80,10 @@ impl Reader {
             if piece[end] == b'}' {
                 return self.take_close(Level::Object, end + 1, &mut NoEvents);
             }
+            if piece[end] == b' ' {
+                self.skip(end + 1, Mode::ValueDone);
+                return end + 1 + self.take_end(&piece[end + 1..], &mut NoEvents);
+            }
         }
         self.skip(value, Mode::ValueDue);
         value + self.pass_value(&piece[value..])

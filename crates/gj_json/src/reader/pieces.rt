@@ -1,8 +1,9 @@
 //! Bytes in a row, from what the reader keeps.
 
-ghost use Rattle.std.specs.Prelude.{◌≡◌, ◌+◌, ◌^◌, ◌≤◌, ◌<◌, length, take, IfOk, MatchResult, None};
+ghost use Rattle.std.specs.Prelude.{◌≡◌, ◌+◌, ◌^◌, ◌≤◌, ◌<◌, true, length, take, IfOk, MatchResult, None};
+ghost use Rattle.gj_json.specs.Internal.QuietBytes.{awaits_token};
 ghost use Rattle.gj_json.specs.Internal.Transitions.{IsMode};
-ghost use Rattle.gj_json.specs.declared.mode.Mode.TheVariants.{NameDue, NumberOn};
+ghost use Rattle.gj_json.specs.declared.mode.Mode.TheVariants.{NumberOn};
 
 use super::Reader;
 use crate::fault::JsonFault;
@@ -73,11 +74,11 @@ impl Reader {
         }
     }
 
-    /// Takes the space before a name: 1, or 0 where another byte stands at the start of the piece. Python's `json`, PostGIS and GDAL
+    /// Takes the space before a token: 1, or 0 where another byte stands at the start of the piece. Python's `json`, PostGIS and GDAL
     /// put one after each comma.
     #[inline(always)]
     pub(super) fn skip_space(&mut self, piece: &[u8]) -> usize
-        requires due { self.old.mode ≡ NameDue }
+        requires due { awaits_token self.old.mode ≡ true }
         requires room { self.old.offset + length piece.now ≤ self.old.limits.bytes }
         requires small { self.old.limits.bytes ≤ 2 ^ 60 }
         ensures within { result ≤ length piece.now }
@@ -86,7 +87,7 @@ impl Reader {
         if piece.is_empty() || piece[0] != b' ' {
             return 0;
         }
-        self.skip(1, Mode::NameDue)
+        self.skip(1, self.mode)
     }
 
     /// As `skip_quiet`, and at once nothing where the first byte is none of them.

@@ -26,6 +26,7 @@ use crate::mode::{Mode, Move};
 use crate::move_events::{closing, is_on, opening, what_of};
 use crate::moves::{after_value, opened_mode};
 use crate::names::{name_of, type_of};
+use crate::runs::is_between_tokens;
 use crate::sink::EventSink;
 use crate::tokens::{constant_run, plain_quoted_run, quoted_run};
 use crate::usual::{usual_name, usual_text};
@@ -66,6 +67,12 @@ fn is_cut(piece: &[u8]) -> bool {
         }
     }
     true
+}
+
+/// Whether another array begins after the bracket that the piece starts with, or after one space more. No array of numbers begins so.
+#[inline(always)]
+fn begins_nested(piece: &[u8]) -> bool {
+    piece.len() > 2 && (piece[1] == b'[' || piece[1] == b' ' && piece[2] == b'[')
 }
 
 impl Reader {
@@ -463,8 +470,7 @@ impl Reader {
         ensures within { result ≤ length piece.now }
         ensures feeds { FeedsAll (S.heard sink.old) (S.heard sink.new) self.old self.new (take result piece.now) }
     {
-        // No array of numbers begins so.
-        if piece.len() > 1 && piece[1] == b'[' {
+        if begins_nested(piece) {
             return self.take_open(Level::Array, piece, sink);
         }
         let flats = self.take_flats(piece, sink);
@@ -539,6 +545,23 @@ impl Reader {
         }
     }
 
+    /// As `take_white`. Mostly it is one space before a token, as GDAL puts one inside each bracket.
+    #[inline(always)]
+    pub(super) fn take_gap<S: EventSink>(&mut self, piece: &[u8], sink: &mut S) -> usize
+        requires some { 0 < length piece.now }
+        requires live { self.old.fault ≡ None }
+        requires room { self.old.offset + length piece.now ≤ self.old.limits.bytes }
+        requires small { self.old.limits.bytes ≤ 2 ^ 60 }
+        ensures within { result ≤ length piece.now }
+        ensures feeds { FeedsAll (S.heard sink.old) (S.heard sink.new) self.old self.new (take result piece.now) }
+        ensures any { FeedsAny self.old self.new (take result piece.now) }
+    {
+        if piece.len() > 1 && piece[1] > b' ' && piece[0] == b' ' && is_between_tokens(self.mode) {
+            return self.skip_space(piece);
+        }
+        self.take_white(piece, sink)
+    }
+
     /// Takes the beginning of an object, and the whole tokens in it where their events do not matter to the sink: how many bytes,
     /// or 0.
     #[inline(always)]
@@ -590,7 +613,7 @@ impl Reader {
         ensures feeds { FeedsAll (S.heard sink.old) (S.heard sink.new) self.old self.new (take result piece.now) }
     {
         if piece[0] <= b' ' {
-            return self.take_white(piece, sink);
+            return self.take_gap(piece, sink);
         }
         match self.mode {
             Mode::ValueDone => self.take_ends(piece, sink),

@@ -17,7 +17,7 @@ use Rattle.gj_json.proofs.positions.read_position.Goals as goal
 pub invariant_of-result : goal.invariant_of-result
 invariant_of-result c =
     let at = 1 + bool_byte c.args.form.inside in
-    let form : PairForm = record { spaced = c.args.form.after_comma; integers = c.args.integers; after = c.after_second.result } in
+    let form : PairForm = record { spaced = c.args.form.after_comma; integers = c.args.form.integers; after = c.after_second.result } in
     let P : List ℕ → Type 0 = λ xs. StartsWithCutPair xs form c.in-Some.pair in
     let found : P (drop at c.args.piece.now) = subst P (rest_of c.args.piece.now at) c.in-Some.ensures.numbers in
     let ordered = found.ordered in
@@ -35,7 +35,7 @@ returns c =
     let arrays = c.args.form in
     let at = 1 + bool_byte arrays.inside in
     let gap = bool_byte arrays.after_comma in
-    let form : PairForm = record { spaced = arrays.after_comma; integers = c.args.integers; after = c.after_second.result } in
+    let form : PairForm = record { spaced = arrays.after_comma; integers = c.args.form.integers; after = c.after_second.result } in
     let P : List ℕ → Type 0 = λ xs. StartsWithCutPair xs form pair in
     let found : P (drop at piece) = subst P (rest_of piece at) c.in-Some.ensures.numbers in
     let ordered = found.ordered in

@@ -1,12 +1,13 @@
 -- A name, the value after it, and the byte after that.
-use Rattle.std.proofs.Common.{◌≡◌, ℕ, ◌+◌, ◌<◌, get_or, length, take, refl, sym, ap, subst, arith}
+use Rattle.std.proofs.Common.{◌≡◌, ℕ, ◌+◌, ◌<◌, true, get_or, length, take, refl, sym, ap, subst, arith}
 use Rattle.gj_json.specs.Internal.FedReader.{Passed, FeedsAny}
 use Rattle.gj_json.specs.declared.levels.Level.TheVariants.{Object}
-use Rattle.gj_json.specs.declared.mode.Ending.TheVariants.{Item}
-use Rattle.gj_json.specs.declared.mode.Mode.TheVariants.{NameDue}
+use Rattle.gj_json.specs.declared.mode.Ending.TheVariants.{Item, Nothing}
+use Rattle.gj_json.specs.declared.mode.Mode.TheVariants.{NameDue, ValueDone}
+use Rattle.gj_json.specs.Internal.QuietBytes.{is_white}
 use Rattle.gj_json.specs.Internal.OpenLevels.{levels_in, inner_of}
 use Rattle.gj_json.proofs.Pieces.PassedMembers.{name_to, named_goes, named_closes, brace_closes, before_space, to_space, space_any}
-use Rattle.gj_json.proofs.Pieces.TokensInLevels.{any_then, comma_ends}
+use Rattle.gj_json.proofs.Pieces.TokensInLevels.{any_then, comma_ends, white_goes}
 use Rattle.gj_json.proofs.reader.Reader.pass_named.Goals as goal
 
 pub returns-then-piece-end-eq32-clause-feeds : goal.returns-then-piece-end-eq32-clause-feeds
@@ -49,6 +50,21 @@ returns-then-piece-end-eq125-clause-feeds c =
     rw (c.take_close.ensures.count)
     (named_closes c.args.self.now c.take_close.new.self c.args.piece.now c.args.name c.args.value q.result r.live r.due r.room r.quoted r.colon r.between
     (omega arith) (q.ensures.scalar (omega arith)) Object made c.take_close.ensures.lands)
+
+pub returns-then-piece-end-eq32-2-clause-feeds : goal.returns-then-piece-end-eq32-2-clause-feeds
+returns-then-piece-end-eq32-2-clause-feeds c =
+    let q = c.scalar_run in
+    let e = c.take_end in
+    let r = c.requires in
+    let mid = c.skip-then-piece-end-eq32-2.new.self in
+    let passed = c.skip-then-piece-end-eq32-2.ensures.passed in
+    let piece = c.args.piece.now in
+    let at = c.args.value + q.result in
+    let white : is_white (get_or piece at 0) ≡ true = rw (c.if-piece-end-eq32-2.true) refl in
+    let made = white_goes (inner_of (levels_in c.args.self.now.levels)) (get_or piece at 0) white in
+    any_then c.args.self.now mid e.new.self piece (at + 1) e.result (omega (arith, ap (λ ls. length (levels_in ls)) passed.levels))
+    (named_goes c.args.self.now mid piece c.args.name c.args.value q.result r.live r.due r.room r.quoted r.colon r.between (omega arith)
+    (q.ensures.scalar (omega arith)) ValueDone Nothing made passed) e.ensures.any
 
 pub returns-clause-feeds : goal.returns-clause-feeds
 returns-clause-feeds c =
