@@ -80,9 +80,9 @@ impl Reader {
             if piece[end] == b'}' {
                 return self.take_close(Level::Object, end + 1, &mut NoEvents);
             }
-            if piece[end] == b' ' {
+            if piece[end] == b' ' && piece[end + 1] == b'}' {
                 self.skip(end + 1, Mode::ValueDone);
-                return end + 1 + self.take_end(&piece[end + 1..], &mut NoEvents);
+                return end + 1 + self.take_close(Level::Object, 1, &mut NoEvents);
             }
         }
         self.skip(value, Mode::ValueDue);

@@ -1,5 +1,7 @@
 -- A name, the value after it, and the byte after that.
-use Rattle.std.proofs.Common.{◌≡◌, ℕ, ◌+◌, ◌<◌, true, get_or, length, take, refl, sym, ap, subst, arith}
+use Rattle.std.proofs.Common.{◌≡◌, ◌∙◌, ℕ, List, Some, ◌+◌, ◌-◌, ◌<◌, true, get_or, length, take, drop, refl, sym, ap, subst, arith, length-drop}
+use Rattle.std.proofs.lemmas.List.{get_or-drop}
+use Rattle.gj_json.specs.Bytes.{close_brace}
 use Rattle.gj_json.specs.Internal.FedReader.{Passed, FeedsAny}
 use Rattle.gj_json.specs.declared.levels.Level.TheVariants.{Object}
 use Rattle.gj_json.specs.declared.mode.Ending.TheVariants.{Item, Nothing}
@@ -7,7 +9,8 @@ use Rattle.gj_json.specs.declared.mode.Mode.TheVariants.{NameDue, ValueDone}
 use Rattle.gj_json.specs.Internal.QuietBytes.{is_white}
 use Rattle.gj_json.specs.Internal.OpenLevels.{levels_in, inner_of}
 use Rattle.gj_json.proofs.Pieces.PassedMembers.{name_to, named_goes, named_closes, brace_closes, before_space, to_space, space_any}
-use Rattle.gj_json.proofs.Pieces.TokensInLevels.{any_then, comma_ends, white_goes}
+use Rattle.gj_json.proofs.Pieces.PieceRests.{rest_of}
+use Rattle.gj_json.proofs.Pieces.TokensInLevels.{any_closes, any_then, comma_ends, white_goes}
 use Rattle.gj_json.proofs.reader.Reader.pass_named.Goals as goal
 
 pub returns-then-piece-end-eq32-clause-feeds : goal.returns-then-piece-end-eq32-clause-feeds
@@ -51,20 +54,30 @@ returns-then-piece-end-eq125-clause-feeds c =
     (named_closes c.args.self.now c.take_close.new.self c.args.piece.now c.args.name c.args.value q.result r.live r.due r.room r.quoted r.colon r.between
     (omega arith) (q.ensures.scalar (omega arith)) Object made c.take_close.ensures.lands)
 
-pub returns-then-piece-end-eq32-2-clause-feeds : goal.returns-then-piece-end-eq32-2-clause-feeds
-returns-then-piece-end-eq32-2-clause-feeds c =
+pub returns-then-piece-end-eq125-2-clause-feeds : goal.returns-then-piece-end-eq125-2-clause-feeds
+returns-then-piece-end-eq125-2-clause-feeds c =
     let q = c.scalar_run in
-    let e = c.take_end in
     let r = c.requires in
-    let mid = c.skip-then-piece-end-eq32-2.new.self in
-    let passed = c.skip-then-piece-end-eq32-2.ensures.passed in
+    let mid = c.skip-then-piece-end-eq125-2.new.self in
+    let close = c.take_close-then-piece-end-eq125-2 in
+    let passed = c.skip-then-piece-end-eq125-2.ensures.passed in
     let piece = c.args.piece.now in
     let at = c.args.value + q.result in
+    let rest : List ℕ = take (length piece - (at + 1)) (drop (at + 1) piece) in
+    let long : length rest ≡ length piece - (at + 1) = ap length (rest_of piece (at + 1)) ∙ length-drop (at + 1) piece in
+    let z : at + 1 + 0 ≡ at + 1 = omega arith in
+    let first : get_or rest 0 0 ≡ close_brace =
+    ap (λ xs. get_or xs 0 0) (rest_of piece (at + 1)) ∙ get_or-drop (at + 1) piece 0 0 ∙ ap (λ i. get_or piece i 0) z ∙ c.if-piece-end-eq125-2.true in
     let white : is_white (get_or piece at 0) ≡ true = rw (c.if-piece-end-eq32-2.true) refl in
-    let made = white_goes (inner_of (levels_in c.args.self.now.levels)) (get_or piece at 0) white in
-    any_then c.args.self.now mid e.new.self piece (at + 1) e.result (omega (arith, ap (λ ls. length (levels_in ls)) passed.levels))
+    let inner : inner_of (levels_in mid.levels) ≡ Some Object =
+    ap (λ ls. inner_of (levels_in ls)) passed.levels ∙ c.is_in_object.ensures c.if-is_in_object.true in
+    rw (close.ensures.count)
+    (any_then c.args.self.now mid close.new.self piece (at + 1) 1 (omega (arith, ap (λ ls. length (levels_in ls)) passed.levels))
     (named_goes c.args.self.now mid piece c.args.name c.args.value q.result r.live r.due r.room r.quoted r.colon r.between (omega arith)
-    (q.ensures.scalar (omega arith)) ValueDone Nothing made passed) e.ensures.any
+    (q.ensures.scalar (omega arith)) ValueDone Nothing (white_goes (inner_of (levels_in c.args.self.now.levels)) (get_or piece at 0) white) passed)
+    (any_closes mid close.new.self rest (omega arith) (passed.fault ∙ r.live) passed.mode_is
+    (omega (arith, long, passed.offset, ap (λ l. l.bytes) passed.limits))
+    Object (brace_closes (inner_of (levels_in mid.levels)) (get_or rest 0 0) inner first) close.ensures.lands))
 
 pub returns-clause-feeds : goal.returns-clause-feeds
 returns-clause-feeds c =
