@@ -162,10 +162,9 @@ function figureOf(finding) {
 
 /** The chapter of docs/rules.md on a rule, which the page holds once. */
 function chapterOf(rule) {
-  const chapter = document.querySelector(`#rules [data-rule="${rule}"]`);
+  const chapter = document.getElementById(rule);
   if (!chapter) return null;
   const copy = chapter.cloneNode(true);
-  copy.removeAttribute("data-rule");
   for (const it of [copy, ...copy.querySelectorAll("[id]")]) it.removeAttribute("id");
   copy.querySelector("h3")?.remove();
   const text = make("div", "doc", copy);
