@@ -268,8 +268,11 @@ def compare_gdal(counts, program, folder, texts, lines):
             gdal.VSIFCloseL(file)
     said = told(program, [], written(folder, copies) and folder)
     for name, data in copies.items():
-        has_infinite = any(is_infinite(*it) for it in values_of(read(texts[name])[1]))
-        reason = "it writes a number above the greatest double as no number" if has_infinite else None
+        reason = None
+        if any(is_infinite(*it) for it in values_of(read(texts[name])[1])):
+            reason = "it writes a number above the greatest double as no number"
+        elif said[name].get("rule") == "G13" and b"[ ]" in data:
+            reason = "it writes a line without positions"
         counts.row("gdal, writes", data, said[name]["verdict"] == "valid", reason)
 
 
