@@ -54,7 +54,7 @@ pub colon_cut : (piece : List ℕ) (a c : ℕ) → a ≡ prefix_len is_white pie
     → AllByRecursion IsWhite (cut piece (a + 1) c) → Leads ColonDue (take c piece) ValueDue
 colon_cut piece a c white w is on within after =
     let P : ℕ → Type 0 = λ n. Leads ColonDue (take n piece) ColonDue in
-    let before : P a = subst P (sym white) (quiet_leads ColonDue (take (prefix_len is_white piece) piece) (QuietModes.white_run ColonDue tt piece)) in
+    let before : P a = subst P (sym white) (quiet_leads ColonDue (take (prefix_len is_white piece) piece) (QuietModes.white_run ColonDue refl piece)) in
     let behind : Leads ValueDue (cut piece (a + 1) c) ValueDue = quiet_leads ValueDue (cut piece (a + 1) c) (all_quiet (cut piece (a + 1) c) after) in
     rw (byte_cut piece a c (omega (arith, on)) within, is)
     (leads_joined ColonDue ColonDue ValueDue (take a piece) (colon_byte ∷ cut piece (a + 1) c) before (ValueDue, colon_by, behind))

@@ -223,7 +223,7 @@ module _ (old new : Reader) (piece : List ℕ) (n : ℕ) (live : old.fault ≡ N
       ap (λ xs. get_or xs 0 0) (rest_of piece n) ∙ get_or-drop n piece 0 0 ∙ ap (λ i. get_or piece i 0) z ∙ here in
       let one : take 1 rest ≡ space ∷ [] = first_byte rest space (omega arith) first in
       let P : List ℕ → Type 0 = λ xs. Leads NameDue xs NameDue in
-      let leads : Leads NameDue (take 1 rest) NameDue = subst P (sym one) (NameDue, quiet_white NameDue tt space refl, refl) in
+      let leads : Leads NameDue (take 1 rest) NameDue = subst P (sym one) (NameDue, quiet_white NameDue refl space refl, refl) in
       let q : Passed 1 NameDue before_space new = from_mid old new n 1 (n + 1) NameDue NameDue name_mode before_room refl p in
       any_skipped old before_space new piece n 1 NameDue live room (omega arith) to_space (omega arith)
       (leads_skips before_space new (take 1 rest) 1 NameDue (rw one refl) q leads refl refl) f

@@ -21,16 +21,6 @@ use Rattle.gj_json.specs.Internal.QuietBytes.{IsQuiet, Leads, Reads, awaits_toke
 use Rattle.gj_json.proofs.Grammar.ClassOfBytes.{class_is}
 use Rattle.gj_json.proofs.Grammar.SpelledTexts.{plain_on}
 
--- the modes in which such bytes are quiet
-abbrev pub PassesWhite : Mode → Type 0
-PassesWhite ValueDue = Unit {0}
-PassesWhite ValueDone = Unit {0}
-PassesWhite ArrayOpened = Unit {0}
-PassesWhite ObjectOpened = Unit {0}
-PassesWhite NameDue = Unit {0}
-PassesWhite ColonDue = Unit {0}
-PassesWhite _ = ⊥
-
 -- what passes a test, up to the first byte that does not
 pub all_run : (p : ℕ → Bool) (P : ℕ → Type 0) → ((b : ℕ) → p b ≡ true → P b) → (xs : List ℕ) → AllByRecursion P (take (prefix_len p xs) xs)
 all_run p P f [] = tt
@@ -72,16 +62,7 @@ class_white b e = class_is white b (white_is b e) (λ e. cc)
 differ : false ≡ true → ⊥
 differ h = cc
 
--- a mode in which a token is due is one of them, and no number, string or name is under way in it
-pub awaiting : (mode : Mode) → awaits_token mode ≡ true → PassesWhite mode
-awaiting ValueDue h = tt
-awaiting ValueDone h = tt
-awaiting ArrayOpened h = tt
-awaiting ObjectOpened h = tt
-awaiting NameDue h = tt
-awaiting ColonDue h = tt
-awaiting _ h = absurd (differ h)
-
+-- where white space may stand, no number, string or name is under way
 pub awaits_other : (mode : Mode) → awaits_token mode ≡ true → in_number mode ≡ false
 awaits_other NumberOn h = absurd (differ h)
 awaits_other _ h = refl
@@ -91,14 +72,14 @@ awaits_no_text (StringOn state) h = absurd (differ h)
 awaits_no_text (NameOn state) h = absurd (differ h)
 awaits_no_text _ h = refl
 
-pub quiet_white : (mode : Mode) → PassesWhite mode → (b : ℕ) → is_white b ≡ true → IsQuiet mode b
+pub quiet_white : (mode : Mode) → awaits_token mode ≡ true → (b : ℕ) → is_white b ≡ true → IsQuiet mode b
 quiet_white ValueDue h b e = record { moves = λ turn inner words. rw (class_white b e) refl; on = refl }
 quiet_white ValueDone h b e = record { moves = λ turn inner words. rw (class_white b e) refl; on = refl }
 quiet_white ArrayOpened h b e = record { moves = λ turn inner words. rw (class_white b e) refl; on = refl }
 quiet_white ObjectOpened h b e = record { moves = λ turn inner words. rw (class_white b e) refl; on = refl }
 quiet_white NameDue h b e = record { moves = λ turn inner words. rw (class_white b e) refl; on = refl }
 quiet_white ColonDue h b e = record { moves = λ turn inner words. rw (class_white b e) refl; on = refl }
-quiet_white _ h b e = absurd h
+quiet_white _ h b e = absurd (differ h)
 
 pub plain_run : (xs : List ℕ) → Reads Plain (take (prefix_len is_unescaped_ascii xs) xs) (take (prefix_len is_unescaped_ascii xs) xs) Plain
     × AllByRecursion IsAscii (take (prefix_len is_unescaped_ascii xs) xs)
@@ -109,7 +90,7 @@ plain_run xs =
 pub plain_part : (n : ℕ) (xs : List ℕ) → n ≤ prefix_len is_unescaped_ascii xs → Reads Plain (take n xs) (take n xs) Plain
 plain_part n xs h = plain_reads (take n xs) (part_run is_unescaped_ascii IsPlain plain_is n xs h)
 
-pub white_run : (mode : Mode) → PassesWhite mode → (xs : List ℕ) → AllByRecursion (IsQuiet mode) (take (prefix_len is_white xs) xs)
+pub white_run : (mode : Mode) → awaits_token mode ≡ true → (xs : List ℕ) → AllByRecursion (IsQuiet mode) (take (prefix_len is_white xs) xs)
 white_run mode h xs = all_run is_white (IsQuiet mode) (quiet_white mode h) xs
 
 -- ---- one prefix of a piece after another

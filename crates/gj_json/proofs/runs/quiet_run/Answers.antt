@@ -11,4 +11,4 @@ returns-then-is_between_tokens-clause-within c = rw (c.white_run.ensures) (prefi
 pub returns-then-is_between_tokens-clause-quiet : goal.returns-then-is_between_tokens-clause-quiet
 returns-then-is_between_tokens-clause-quiet c =
     let mode = c.args.mode in
-    rw (c.white_run.ensures) (QuietModes.white_run mode (QuietModes.awaiting mode (sym c.if-is_between_tokens.ensures)) c.args.piece.now)
+    rw (c.white_run.ensures) (QuietModes.white_run mode (sym c.if-is_between_tokens.ensures) c.args.piece.now)

@@ -3,7 +3,7 @@ use Rattle.std.proofs.Common.{◌≡◌, ℕ, List, [], ◌∷◌, take, refl, s
 use Rattle.std.proofs.lemmas.Bool.Decides.{nat_tests}
 use Rattle.gj_json.specs.Bytes.{space}
 use Rattle.gj_json.specs.Internal.QuietBytes.{Leads}
-use Rattle.gj_json.proofs.Pieces.QuietModes.{awaiting, awaits_other, awaits_no_text, quiet_white}
+use Rattle.gj_json.proofs.Pieces.QuietModes.{awaits_other, awaits_no_text, quiet_white}
 use Rattle.gj_json.proofs.Pieces.SkippedRuns.{leads_skips}
 use Rattle.gj_json.proofs.Pieces.TokensInLevels.{first_byte}
 use Rattle.gj_json.proofs.reader.Reader.skip_space.Goals as goal
@@ -15,7 +15,7 @@ returns-clause-skips c =
     let given : take 1 c.args.piece.now ≡ space ∷ [] =
     first_byte c.args.piece.now space (grind (arith, nat_tests, c.if-is_empty.ensures)) c.if-piece-ne32.false in
     let P : List ℕ → Type 0 = λ xs. Leads mode xs mode in
-    let leads : Leads mode (take 1 c.args.piece.now) mode = subst P (sym given) (mode, quiet_white mode (awaiting mode due) space refl, refl) in
+    let leads : Leads mode (take 1 c.args.piece.now) mode = subst P (sym given) (mode, quiet_white mode due space refl, refl) in
     rw (c.skip.ensures.count)
     (leads_skips c.args.self.now c.skip.new.self (take 1 c.args.piece.now) 1 mode (rw given refl) c.skip.ensures.passed leads
     (awaits_other mode due) (awaits_no_text mode due))
