@@ -844,8 +844,8 @@ pub fn w8() -> &'static str
     "W8: bbox south above north
 
 In a bounding box of four numbers the second, its south, is greater than the fourth, its north; in one of six, the second
-is greater than the fifth. Values are cut after seven decimal places before they are compared. The place is that of the
-array.
+is greater than the fifth. Values are cut after seven decimal places before they are compared. A number beyond the limits of
+G16 is not compared. The place is that of the array.
 
     $ printf '{\"type\":\"FeatureCollection\",\"bbox\":[9.42,54.8,9.45,54.78],\"features\":[]}' | geolint
     valid
@@ -959,7 +959,7 @@ checks them without an option. The report is about the first text that is not va
 
 This puts an RS before each line, which makes a text sequence of a newline-delimited file:
 
-    sed 's/^/\\x1e/' map.geojson > map.geojsons
+    sed '/^[[:space:]]*$/d; s/^/\\x1e/; $a\\' map.geojson > map.geojsons
 
 This makes one FeatureCollection of the Features of a sequence or of a newline-delimited file:
 
@@ -969,7 +969,7 @@ This makes one FeatureCollection of the Features of a sequence or of a newline-d
 size:
 
     { printf '{\"type\":\"FeatureCollection\",\"features\":['
-      tr -d '\\036' < map.geojson | paste -sd, -
+      tr -d '\\036' < map.geojson | grep '[^[:space:]]' | paste -sd, -
       printf ']}'; } > mended.geojson
 "
 }
@@ -990,7 +990,7 @@ at the end, add them:
 
     {\"type\":\"Point\",\"coordinates\":[9.43,54.79]}
 
-An empty file is truncated at 0. RFC 8259, section 2.
+An empty file is truncated at 0, and with `--seq` valid, with no records. RFC 8259, section 2.
 "
 }
 

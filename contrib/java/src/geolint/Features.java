@@ -10,7 +10,7 @@ import java.util.Objects;
 import java.util.OptionalLong;
 
 /**
- * The features of a text, one at a time, as they are read: a text of any size takes some 300 KB, two thirds of them outside the heap, until this is closed.
+ * The features of a text, one at a time, as they are read: a text of any size takes some 300 KB, four fifths of them outside the heap, until this is closed.
  *
  * <pre>{@code
  * try (Features features = Geolint.features(Files.newInputStream(path))) {
