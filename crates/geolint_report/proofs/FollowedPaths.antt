@@ -10,7 +10,8 @@ use Rattle.gj_json.specs.declared.path.Path.{Path}
 use Rattle.geolint_report.specs.declared.sites.Finder.{Finder}
 use Rattle.geolint_report.specs.declared.sites.Sites.{Sites}
 use Rattle.geolint_report.specs.Sites.{is_separator, has_separator, last_record, text_of, IsPathOf, LeadsTo, ArePaths, PathsBy}
-use Rattle.geolint_report.specs.Internal.SecondReading.{Follows, StandsIn}
+use Rattle.geolint_report.specs.Internal.SecondReading.{Follows}
+use Rattle.geolint_report.specs.Internal.TextPaths.{StandsIn}
 
 module _ (framing : Framing) where
   -- ---- records, byte by byte
@@ -139,7 +140,7 @@ Follows-piece framing finder sites text piece follows =
       kind = follows.kind;
       located = omega (arith, none);
       near = follows.near;
-      stands = λ fewer. subst (λ (ys : List ℕ). StandsIn finder (text ++ ys)) same (follows.stands fewer);
+      stands = λ fewer. subst (λ (ys : List ℕ). StandsIn finder.text_path (text ++ ys)) same (follows.stands fewer);
       paths = ArePaths-longer framing text piece sites.sites (subst (λ (bytes : List ℕ). ArePaths framing bytes sites.sites) (append-nil text) follows.paths);
     }
 

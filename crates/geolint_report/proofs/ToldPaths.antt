@@ -15,7 +15,9 @@ use Rattle.gj_json.specs.Text.{IsTextWithin, IsViableWithin}
 use Rattle.geolint_report.specs.declared.sites.Finder.{Finder}
 use Rattle.geolint_report.specs.declared.sites.Sites.{Sites}
 use Rattle.geolint_report.specs.Sites.{AreRight, ArePaths, text_of, text_limits, CanGoOn, has_begun, IsUnderWay, IsTold, AreTold, ToldBy, NoneFound}
-use Rattle.geolint_report.specs.Internal.SecondReading.{AreWithin, Keeps, KeepsIn, Tells}
+use Rattle.geolint_report.specs.declared.every.text_path.TextPath.{TextPath}
+use Rattle.geolint_report.specs.Internal.SecondReading.{AreWithin, Tells}
+use Rattle.geolint_report.specs.Internal.TextPaths.{Keeps, KeepsIn}
 use Rattle.geolint_report.proofs.FollowedPaths.{take-here}
 use Rattle.geolint_report.proofs.FoundSites.{each-set}
 use Rattle.gj_rules.proofs.Sequences.OpenRecords.{stop_short}
@@ -53,7 +55,7 @@ never-err A limits bytes (Ok done) answers goes = refl
 never-err A limits bytes (Err fault) (refused, lasting) goes = absurd (never-refused fault.cause limits bytes fault.place refused lasting goes)
 
 -- bytes that begin no record
-pub KeepsIn-more : (old new : Finder) (text bytes : List ℕ) → new.framing ≡ old.framing → new.limits ≡ old.limits
+pub KeepsIn-more : (old new : TextPath) (text bytes : List ℕ) → new.framing ≡ old.framing → new.limits ≡ old.limits
     → text_of old.framing (text ++ bytes) ≡ text_of old.framing text ++ bytes → has_begun old.framing (text ++ bytes) ≡ has_begun old.framing text
     → (Keeps (text_limits old.framing old.limits) old (text_of old.framing text)
     → Keeps (text_limits old.framing old.limits) new (text_of old.framing text ++ bytes))
@@ -115,7 +117,7 @@ Tells-piece limits framing finder sites text piece none tells =
     let within = subst (λ (bytes : List ℕ). AreWithin bytes sites.sites) (append-nil text) tells.within in
     record {
       under = tells.under;
-      keeps = λ fewer. subst (λ (ys : List ℕ). KeepsIn finder (text ++ ys)) same (tells.keeps fewer);
+      keeps = λ fewer. subst (λ (ys : List ℕ). KeepsIn finder.text_path (text ++ ys)) same (tells.keeps fewer);
       within = AreWithin-longer text piece sites.sites within;
       told = AreTold-longer limits framing text piece sites.sites within
           (subst (λ (bytes : List ℕ). AreTold limits framing bytes sites.sites) (append-nil text) tells.told);

@@ -2,22 +2,18 @@
 
 ghost use Rattle.std.specs.Prelude.{◌≡◌, drop, Some};
 ghost use Rattle.gj_rules.specs.declared.records.framing.Framing.{Framing};
-ghost use Rattle.geolint_report.specs.Sites.{text_limits};
 
+use crate::every::text_path::TextPath;
 use crate::judge::PIECE;
 use crate::progress::Meter;
 use crate::source::Source;
-use gj_json::{Limits, Locator, Path};
+use gj_json::{Limits, Path};
 use gj_places::{Excerpt, Lines};
 use gj_rules::Framing;
-use memchr::memrchr;
 use std::io;
 
 /// The most places that are sought in one reading.
 pub const MOST_PLACES: usize = 10;
-
-/// The most bytes of a record: no record reaches it.
-const MOST_BYTES: u64 = 1 << 60;
 
 /// Where a place is, as far as it was found.
 #[derive(Clone, Copy)]
@@ -219,7 +215,7 @@ impl Sites {
         self.excerpt.feed_before(front);
         finder.counted = at;
         finder.locate_to(piece, at + 1);
-        self.settle(i, finder.spot(), finder.path());
+        self.settle(i, finder.spot(), finder.text_path.path());
         finder.next = i + 1;
         true
     }
@@ -308,37 +304,14 @@ fn rest_of(bytes: &[u8], begin: usize) -> &[u8]
 /// What the second reading keeps.
 #[derive(Drop)]
 struct Finder {
-    locator: Locator,
+    text_path: TextPath,
     lines: Lines,
-    limits: Limits,
     /// How many bytes were read before the piece under way.
     offset: u64,
     /// How many bytes of the piece are counted, and how many the locator had.
     counted: usize,
     located: usize,
     next: usize,
-    framing: Option<Framing>,
-    is_lost: bool,
-}
-
-/// What a record is read under.
-pub fn record_limits(limits: Limits) -> Limits
-    ensures { (framing : Framing) → result ≡ text_limits (Some framing) limits }
-{
-    match Limits::new(limits.depth(), MOST_BYTES) {
-        Some(limits) => limits,
-        None => limits,
-    }
-}
-
-/// What a text of a file is read under.
-pub fn text_limits(limits: Limits, framing: Option<Framing>) -> Limits
-    ensures { result ≡ text_limits framing limits }
-{
-    match framing {
-        None => limits,
-        Some(_) => record_limits(limits),
-    }
 }
 
 impl Finder {
@@ -347,7 +320,8 @@ impl Finder {
     ghost use Rattle.gj_json.specs.Limits.{Allowed};
     ghost use Rattle.geolint_report.specs.declared.sites.Sites.{Sites};
     ghost use Rattle.geolint_report.specs.Sites.{AreRight, ArePaths, IsPathOf, NoneFound, text_of};
-    ghost use Rattle.geolint_report.specs.Internal.SecondReading.{Reaches, Follows, Tells, IsLocated, Stands, StandsIn, Keeps, KeepsIn};
+    ghost use Rattle.geolint_report.specs.Internal.SecondReading.{Reaches, Follows, Tells, IsLocated};
+    ghost use Rattle.geolint_report.specs.Internal.TextPaths.{StandsIn, KeepsIn};
 
     fn new(limits: Limits, framing: Option<Framing>) -> Finder
         ensures begins { (sites : Sites) → AreRight [] sites.sites → Reaches result sites [] [] }
@@ -356,71 +330,28 @@ impl Finder {
         ensures next { result.next ≡ 0 }
     {
         Finder {
-            locator: Locator::new(text_limits(limits, framing)),
+            text_path: TextPath::new(limits, framing),
             lines: Lines::new(),
-            limits,
             offset: 0,
             counted: 0,
             located: 0,
             next: 0,
-            framing,
-            is_lost: framing == Some(Framing::Sequence),
         }
     }
 
-    /// Gives the locator the bytes of the piece up to an index.
+    /// Follows the path through the bytes of the piece up to an index.
     fn locate_to(&mut self, piece: &[u8], end: usize)
         ensures same { IsLocated self.old self.new }
-        ensures stands { (text : List ℕ) → self.old.located ≤ end → end ≤ length piece.now → StandsIn self.old (text ++ take self.old.located piece.now)
-            → StandsIn self.new (text ++ take end piece.now) }
-        ensures keeps { (text : List ℕ) → self.old.located ≤ end → end ≤ length piece.now → StandsIn self.old (text ++ take self.old.located piece.now)
-            → KeepsIn self.old (text ++ take self.old.located piece.now) → KeepsIn self.new (text ++ take end piece.now) }
+        ensures stands { (text : List ℕ) → self.old.located ≤ end → end ≤ length piece.now
+            → StandsIn self.old.text_path (text ++ take self.old.located piece.now) → StandsIn self.new.text_path (text ++ take end piece.now) }
+        ensures keeps { (text : List ℕ) → self.old.located ≤ end → end ≤ length piece.now
+            → StandsIn self.old.text_path (text ++ take self.old.located piece.now) → KeepsIn self.old.text_path (text ++ take self.old.located piece.now)
+            → KeepsIn self.new.text_path (text ++ take end piece.now) }
         ensures located { self.old.located ≤ end → end ≤ length piece.now → self.new.located ≡ end }
     {
         if self.located < end && end <= piece.len() {
-            self.locate(&piece[self.located..end]);
+            self.text_path.feed(&piece[self.located..end]);
             self.located = end;
-        }
-    }
-
-    fn locate(&mut self, bytes: &[u8])
-        ensures same { IsLocated self.old self.new }
-        ensures stands { (text : List ℕ) → StandsIn self.old text → StandsIn self.new (text ++ bytes.now) }
-        ensures keeps { (text : List ℕ) → StandsIn self.old text → KeepsIn self.old text → KeepsIn self.new (text ++ bytes.now) }
-        ensures located { self.new.located ≡ self.old.located }
-    {
-        match self.framing {
-            Some(framing) => self.locate_in_record(bytes, framing),
-            None => self.locate_in_text(bytes),
-        }
-    }
-
-    /// It reads the last record of the bytes alone: no earlier record has a part in a path that is asked after them.
-    fn locate_in_record(&mut self, bytes: &[u8], framing: Framing)
-        ensures same { IsLocated self.old self.new }
-        ensures stands { (text : List ℕ) → self.old.framing ≡ Some framing → StandsIn self.old text → StandsIn self.new (text ++ bytes.now) }
-        ensures keeps { (text : List ℕ) → self.old.framing ≡ Some framing → StandsIn self.old text → KeepsIn self.old text
-            → KeepsIn self.new (text ++ bytes.now) }
-        ensures located { self.new.located ≡ self.old.located }
-    {
-        match memrchr(framing.separator(), bytes) {
-            Some(last) => {
-                self.locator = Locator::new(record_limits(self.limits));
-                self.is_lost = false;
-                self.locate_in_text(&bytes[last + 1..]);
-            }
-            None => self.locate_in_text(bytes),
-        }
-    }
-
-    fn locate_in_text(&mut self, bytes: &[u8])
-        ensures same { IsLocated self.old self.new }
-        ensures stands { (text : List ℕ) → Stands self.old text → Stands self.new (text ++ bytes.now) }
-        ensures keeps { (limits : Allowed) (text : List ℕ) → Stands self.old text → Keeps limits self.old text → Keeps limits self.new (text ++ bytes.now) }
-        ensures located { self.new.located ≡ self.old.located }
-    {
-        if !self.is_lost && self.locator.feed(bytes).is_err() {
-            self.is_lost = true;
         }
     }
 
@@ -430,17 +361,6 @@ impl Finder {
         Spot {
             line: self.lines.line,
             column: self.lines.column,
-        }
-    }
-
-    fn path(&self) -> Option<Path>
-        ensures told { self.now.is_lost ≡ false → IsSome result }
-        ensures is { (text : List ℕ) → StandsIn self.now text → IfSome result (λ path. IsPathOf (text_of self.now.framing text) path) }
-    {
-        if self.is_lost {
-            None
-        } else {
-            Some(self.locator.path())
         }
     }
 }

@@ -12,8 +12,9 @@ use std::mem::size_of;
 
 /// Takes the events of one value of `coordinates`, and gives its least fault and its warnings for each of the six types.
 ///
-/// Most positions come as one [`Flat`]. From the second of a line or a linear ring on, such a position changes only
-/// what is gathered of these positions, and their count: it takes one step.
+/// Most positions come as one [`Flat`], and from the second of an array on mostly many at once by their cut values
+/// ([`CutPosition`]). In a line or a linear ring such a position changes only what is gathered of these positions, and their
+/// count: it takes one step.
 ///
 /// It holds one fixed record, whatever the value. It counts the levels of the value in 64 bits, and promises nothing
 /// for a value of 2^64 levels or more.
@@ -145,7 +146,7 @@ impl Coordinates {
         self.done()
     }
 
-    /// Takes the events of arrays of two numbers, one after another, which come as their cut values: those of the arrays before
+    /// Takes the events of arrays of two or three numbers, one after another, which come as their cut values: those of the arrays before
     /// the first of which more is asked, and returns how many. It takes none where an array more may change a fault.
     #[inline(never)]
     pub fn take_cuts(&mut self, positions: &[CutPosition]) -> usize

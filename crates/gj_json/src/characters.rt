@@ -166,7 +166,7 @@ const NEAR: usize = 256;
 /// How many of them may be left out at the end, where the run goes on.
 const LEFT_OUT: usize = 18;
 
-/// As `wide_run`, of the bytes near the start of a piece.
+/// As `wide_run`, of the first `NEAR` bytes.
 #[inline(always)]
 fn near_run(piece: &[u8]) -> usize
     requires { 256 < length piece.now }

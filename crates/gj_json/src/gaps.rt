@@ -26,7 +26,7 @@ pub struct Gaps {
     pub bracket: Gap,
 }
 
-/// As `white_end`, seldom called.
+/// As `white_end`, for white space that does not end where it did before: it is seldom called.
 #[inline(never)]
 fn far_white_end(piece: &[u8], at: usize) -> usize
     requires { at ≤ length piece.now }

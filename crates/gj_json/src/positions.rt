@@ -23,7 +23,7 @@ const MOST_PLACES_OF_THIRD: u8 = 7;
 /// and what stands after them up to the next bracket.
 const ROOM: usize = 70;
 
-/// The same with a third number.
+/// How long a piece must be at the least for a position with a third number to be read.
 const ROOM_WITH_THIRD: usize = 104;
 
 /// How long a piece must be at the least for its position of this form to be read.
@@ -245,7 +245,7 @@ fn read_spaced<const INSIDE: bool>(
     read_in_form(piece, signs, form, start, positions)
 }
 
-/// As `read_in_form`, of arrays of any other form.
+/// As `read_in_form`, of arrays with integers or a third number, or with spaces in some of the places alone.
 #[inline(never)]
 fn read_other(
     piece: &[u8],
@@ -262,7 +262,7 @@ fn read_other(
     read_in_form(piece, signs, form, start, positions)
 }
 
-/// As `read_in_form`, of any such form.
+/// As `read_in_form`, in the loop that is made for the form.
 #[inline(always)]
 fn read_near_positions(
     piece: &[u8],

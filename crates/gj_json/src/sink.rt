@@ -93,7 +93,7 @@ pub trait EventSink {
         });
     }
 
-    /// When the beginning of an object is reported at once, it has heard the same as by its events in turn.
+    /// When the beginning of an object or of a member is reported at once, it has heard the same as by its events in turn.
     fn tell_head(&mut self, head: Head)
         ensures { (events : List Event) → heard self.old events → heard self.new (events ++ head_events head) }
     {

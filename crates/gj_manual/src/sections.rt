@@ -845,7 +845,7 @@ pub fn w8() -> &'static str
 
 In a bounding box of four numbers the second, its south, is greater than the fourth, its north; in one of six, the second
 is greater than the fifth. Values are cut after seven decimal places before they are compared. A number beyond the limits of
-G16 is not compared. The place is that of the array.
+G16, or of 10^10 or more, is not compared. The place is that of the array.
 
     $ printf '{\"type\":\"FeatureCollection\",\"bbox\":[9.42,54.8,9.45,54.78],\"features\":[]}' | geolint
     valid

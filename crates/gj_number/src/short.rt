@@ -16,7 +16,7 @@ use crate::tens::ten_to;
 /// A cut number is ten to this power times the value.
 const CUT_PLACES: u8 = 7;
 
-/// The most digits of a cut number after the point.
+/// The most digits of a `Short`, and the most of them after its point.
 const MOST_PLACES: u64 = 18;
 
 /// A number as most are written: at most eighteen digits, and no exponent.

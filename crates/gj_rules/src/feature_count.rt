@@ -199,13 +199,7 @@ impl FeatureCount {
         ensures inner { IsTrue result → self.now.inner ≡ 0 }
         ensures stage { IsTrue result → self.now.stage ≡ Stage.Element }
     {
-        if self.inner > 0 {
-            return false;
-        }
-        match self.stage {
-            Stage::Element => true,
-            _ => false,
-        }
+        self.inner == 0 && self.is_element_open()
     }
 
     /// Whether a value that begins next belongs to an element, and is not that of its first `id`.

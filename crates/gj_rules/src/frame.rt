@@ -78,7 +78,7 @@ impl Frame {
         ensures frame { frame_in self.new ≡ named Known.Crs place (frame_in self.old) }
         ensures due { result ≡ due_after Known.Crs (frame_in self.old) }
     {
-        self.gathered.name(Known::Crs, place);
+        self.gathered.note_crs(place);
         self.slots.name(Known::Crs, place)
     }
 

@@ -67,13 +67,10 @@ impl MemberWarnings {
         }
     }
 
-    /// Takes a name: each `crs` gets a warning (RFC 7946, section 4).
-    pub fn name(&mut self, name: Known, place: u64)
-        ensures { gathered_in self.new ≡ gathered_at name place (gathered_in self.old) }
+    /// Takes a name `crs`, each of which gets a warning (RFC 7946, section 4).
+    pub fn note_crs(&mut self, place: u64)
+        ensures { gathered_in self.new ≡ gathered_at Known.Crs place (gathered_in self.old) }
     {
-        match name {
-            Known::Crs => self.own.note(Kind::W9, place),
-            _ => {}
-        }
+        self.own.note(Kind::W9, place);
     }
 }

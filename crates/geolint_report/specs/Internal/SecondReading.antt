@@ -2,7 +2,6 @@
 use Rattle.std.specs.Prelude.{◌≡◌, ◌<◌, ◌≤◌, ◌+◌, ◌-◌, ◌^◌, ℕ, List, Option, [], length, take, drop, map, get_or, true, false, None, ◌++◌}
 use Rattle.std.specs.Io.Iter.{u64_saturate}
 use Rattle.gj_json.specs.Limits.{Allowed}
-use Rattle.gj_json.specs.Locator as Locator
 use Rattle.gj_places.specs.Counting.{StandsFor}
 use Rattle.gj_places.specs.Keeping.{Keeps as KeepsLine}
 use Rattle.gj_rules.specs.declared.records.framing.Framing.{Framing}
@@ -10,7 +9,8 @@ use Rattle.gj_places.specs.declared.excerpt.Excerpt.{Excerpt}
 use Rattle.geolint_report.specs.declared.sites.Finder.{Finder}
 use Rattle.geolint_report.specs.declared.sites.Site.{Site}
 use Rattle.geolint_report.specs.declared.sites.Sites.{Sites}
-use Rattle.geolint_report.specs.Sites.{AreRight, ArePaths, AreTold, CanGoOn, IsUnderWay, sought, text_limits, text_of}
+use Rattle.geolint_report.specs.Internal.TextPaths.{StandsIn, KeepsIn}
+use Rattle.geolint_report.specs.Sites.{AreRight, ArePaths, AreTold, sought}
 
 -- after a text and some bytes of the next piece
 pub record Reaches (finder : Finder) (sites : Sites) (text piece : List ℕ) : Type 0 where
@@ -19,30 +19,13 @@ pub record Reaches (finder : Finder) (sites : Sites) (text piece : List ℕ) : T
   pub lines : finder.next < sites.count → StandsFor finder.lines (text ++ take finder.counted piece)
   pub right : AreRight (text ++ piece) sites.sites
 
--- until a byte of the text is refused, the locator has these bytes of it
-abbrev pub Stands : Finder → List ℕ → Type 0
-Stands finder front = finder.is_lost ≡ false → Locator.StandsFor finder.locator front × (Locator.refusal_of finder.locator ≡ None)
-
--- it has those of the text that these bytes of the file end in
-abbrev pub StandsIn : Finder → List ℕ → Type 0
-StandsIn finder front = Stands finder (text_of finder.framing front)
-
 -- the locator is after a text and some bytes of the next piece, and each path so far is right
 pub record Follows (framing : Option Framing) (finder : Finder) (sites : Sites) (text piece : List ℕ) : Type 0 where
-  pub kind : finder.framing ≡ framing
+  pub kind : finder.text_path.framing ≡ framing
   pub located : finder.located ≤ length piece
   pub near : finder.located ≤ finder.counted + 1
-  pub stands : finder.next < sites.count → StandsIn finder (text ++ take finder.located piece)
+  pub stands : finder.next < sites.count → StandsIn finder.text_path (text ++ take finder.located piece)
   pub paths : ArePaths framing (text ++ piece) sites.sites
-
--- while a text can go on, the locator is in it, under its limits
-abbrev pub Keeps : Allowed → Finder → List ℕ → Type 0
-Keeps limits finder front = CanGoOn limits front → (finder.is_lost ≡ false) × (Locator.limits_of finder.locator ≡ limits)
-
--- while the text that these bytes of the file end in can go on
-abbrev pub KeepsIn : Finder → List ℕ → Type 0
-KeepsIn finder front =
-    IsUnderWay finder.limits finder.framing front → (finder.is_lost ≡ false) × (Locator.limits_of finder.locator ≡ text_limits finder.framing finder.limits)
 
 -- each place that was found is one of a byte
 abbrev pub AreWithin : List ℕ → List Site → Type 0
@@ -50,8 +33,8 @@ AreWithin bytes sites = (i : ℕ) (other : Site) → i < length sites → (get_o
 
 -- the locator is after a text and some bytes of the next piece, unless a byte was refused, and each path so far is reported
 pub record Tells (limits : Allowed) (framing : Option Framing) (finder : Finder) (sites : Sites) (text piece : List ℕ) : Type 0 where
-  pub under : finder.limits ≡ limits
-  pub keeps : finder.next < sites.count → KeepsIn finder (text ++ take finder.located piece)
+  pub under : finder.text_path.limits ≡ limits
+  pub keeps : finder.next < sites.count → KeepsIn finder.text_path (text ++ take finder.located piece)
   pub within : AreWithin (text ++ piece) sites.sites
   pub told : AreTold limits framing (text ++ piece) sites.sites
 
@@ -61,8 +44,8 @@ pub record IsLocated (old new : Finder) : Type 0 where
   pub offset : new.offset ≡ old.offset
   pub counted : new.counted ≡ old.counted
   pub next : new.next ≡ old.next
-  pub kind : new.framing ≡ old.framing
-  pub limits : new.limits ≡ old.limits
+  pub kind : new.text_path.framing ≡ old.text_path.framing
+  pub limits : new.text_path.limits ≡ old.text_path.limits
 
 -- the places before the next were found, and the others are not among so many bytes from the start
 pub record Seeks (finder : Finder) (sites : Sites) (passed : ℕ) : Type 0 where

@@ -1,9 +1,15 @@
 //! Follows the path in the text that the bytes of a file end in: the whole file, or one of its records.
 
-use crate::sites::{record_limits, text_limits};
+ghost use Rattle.std.specs.Prelude.{◌≡◌, Some};
+ghost use Rattle.gj_rules.specs.declared.records.framing.Framing.{Framing};
+ghost use Rattle.geolint_report.specs.Sites.{text_limits};
+
 use gj_json::{Limits, Locator, Path};
 use gj_rules::Framing;
 use memchr::memrchr;
+
+/// The most bytes of a record: no record reaches it.
+const MOST_BYTES: u64 = 1 << 60;
 
 /// After the first bytes of a file.
 #[derive(Clone, Copy)]
@@ -16,15 +22,38 @@ pub struct TextPath {
     is_lost: bool,
 }
 
+/// What a record is read under.
+fn record_limits(limits: Limits) -> Limits
+    ensures { (framing : Framing) → result ≡ text_limits (Some framing) limits }
+{
+    match Limits::new(limits.depth(), MOST_BYTES) {
+        Some(limits) => limits,
+        None => limits,
+    }
+}
+
+/// What a text of a file is read under.
+fn text_limits(limits: Limits, framing: Option<Framing>) -> Limits
+    ensures { result ≡ text_limits framing limits }
+{
+    match framing {
+        None => limits,
+        Some(_) => record_limits(limits),
+    }
+}
+
 impl TextPath {
-    ghost use Rattle.std.specs.Prelude.{◌≡◌, ◌++◌, [], ℕ, List, IfSome, Some};
-    ghost use Rattle.geolint_report.specs.Internal.TextPaths.{Follows, StandsIn};
+    ghost use Rattle.std.specs.Prelude.{◌≡◌, ◌++◌, [], ℕ, List, IfSome, IsSome, Some, false};
+    ghost use Rattle.gj_json.specs.Limits.{Allowed};
+    ghost use Rattle.geolint_report.specs.Internal.TextPaths.{Follows, StandsIn, Keeps, KeepsIn, IsFed};
     ghost use Rattle.geolint_report.specs.Sites.{IsPathOf, text_of};
 
     /// Before the first byte of a file.
     pub fn new(limits: Limits, framing: Option<Framing>) -> TextPath
         ensures stands { StandsIn result [] }
+        ensures keeps { KeepsIn result [] }
         ensures framing { result.framing ≡ framing }
+        ensures limits { result.limits ≡ limits }
     {
         TextPath {
             locator: Locator::new(text_limits(limits, framing)),
@@ -45,7 +74,8 @@ impl TextPath {
     /// Takes the next bytes.
     pub fn feed(&mut self, bytes: &[u8])
         ensures stands { (front : List ℕ) → StandsIn self.old front → StandsIn self.new (front ++ bytes.now) }
-        ensures framing { self.new.framing ≡ self.old.framing }
+        ensures keeps { (front : List ℕ) → StandsIn self.old front → KeepsIn self.old front → KeepsIn self.new (front ++ bytes.now) }
+        ensures fed { IsFed self.old self.new }
     {
         match self.framing {
             Some(framing) => self.feed_record(bytes, framing),
@@ -56,7 +86,9 @@ impl TextPath {
     /// It reads the last record of the bytes alone: no earlier record has a part in a path that is asked after them.
     fn feed_record(&mut self, bytes: &[u8], framing: Framing)
         ensures stands { (front : List ℕ) → self.old.framing ≡ Some framing → StandsIn self.old front → StandsIn self.new (front ++ bytes.now) }
-        ensures framing { self.new.framing ≡ self.old.framing }
+        ensures keeps { (front : List ℕ) → self.old.framing ≡ Some framing → StandsIn self.old front → KeepsIn self.old front
+            → KeepsIn self.new (front ++ bytes.now) }
+        ensures fed { IsFed self.old self.new }
     {
         match memrchr(framing.separator(), bytes) {
             Some(last) => {
@@ -70,7 +102,8 @@ impl TextPath {
 
     fn feed_text(&mut self, bytes: &[u8])
         ensures follows { (text : List ℕ) → Follows self.old text → Follows self.new (text ++ bytes.now) }
-        ensures framing { self.new.framing ≡ self.old.framing }
+        ensures keeps { (limits : Allowed) (text : List ℕ) → Follows self.old text → Keeps limits self.old text → Keeps limits self.new (text ++ bytes.now) }
+        ensures fed { IsFed self.old self.new }
     {
         if !self.is_lost && self.locator.feed(bytes).is_err() {
             self.is_lost = true;
@@ -79,7 +112,8 @@ impl TextPath {
 
     /// The path of the last byte, where it is known.
     pub fn path(&self) -> Option<Path>
-        ensures { (front : List ℕ) → StandsIn self.now front → IfSome result (λ path. IsPathOf (text_of self.now.framing front) path) }
+        ensures told { self.now.is_lost ≡ false → IsSome result }
+        ensures is { (front : List ℕ) → StandsIn self.now front → IfSome result (λ path. IsPathOf (text_of self.now.framing front) path) }
     {
         if self.is_lost {
             None

@@ -18,20 +18,6 @@ use Rattle.gj_json.proofs.Pieces.PieceRests.{rest_of, more_within}
 use Rattle.gj_json.proofs.Pieces.TakenFlats.{flat_taken, comma_taken}
 use Rattle.gj_json.proofs.Readers.CallsInTurn.{piece_all, piece_left}
 
--- a bracket right after the comma
-pub next_due : (mode : Mode) (rest : List ℕ) (n : ℕ) → mode ≡ ValueDue → 2 ≤ length (take (length rest - n) (drop n rest))
-    → get_or (take (length rest - n) (drop n rest)) 1 0 ≡ open_bracket → IsDueAt mode (take (length rest - (n + 1)) (drop (n + 1) rest))
-next_due mode rest n m some byte =
-    let e : length (take (length rest - n) (drop n rest)) ≡ length (drop n rest) = ap length (rest_of rest n) in
-    let z : n + 1 + 0 ≡ n + 1 = omega arith in
-    let here : get_or rest (n + 1) 0 ≡ open_bracket = sym (get_or-drop n rest 1 0) ∙ ap (λ xs. get_or xs 1 0) (sym (rest_of rest n)) ∙ byte in
-    let P : List ℕ → Type 0 = λ xs. IsDueAt mode xs in
-    subst P (sym (rest_of rest (n + 1))) (record {
-      due = rw m refl;
-      some = omega (arith, e, length-drop n rest, length-drop (n + 1) rest);
-      bracket = get_or-drop (n + 1) rest 0 0 ∙ ap (λ i. get_or rest i 0) z ∙ here;
-    })
-
 module _ {first before : List Event → Type 0} (start old : Reader) (piece rest : List ℕ) (within : length rest ≤ length piece)
     (fed : FeedsAll first before start old (take (length piece - length rest) piece)) where
   pub depth_left : old.levels ≡ start.levels → length (levels_in start.levels) < start.limits.depth → length (levels_in old.levels) < old.limits.depth

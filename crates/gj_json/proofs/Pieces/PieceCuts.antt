@@ -21,12 +21,9 @@ cut_byte piece a c w v =
     let f : suc a ≡ a + 1 = omega arith in
     ap (λ n. take n (drop a piece)) e ∙ ap (λ xs. take (suc (c - (a + 1))) xs) (drop-cons piece a 0 w ∙ ap (λ n. get_or piece a 0 ∷ drop n piece) f)
 
--- none of them, and one
+-- none of them
 pub cut_none : (piece : List ℕ) (a : ℕ) → cut piece a a ≡ []
 cut_none piece a = let e : a - a ≡ 0 = omega arith in ap (λ n. take n (drop a piece)) e
-
-pub cut_one : (piece : List ℕ) (a : ℕ) → a < length piece → cut piece a (a + 1) ≡ get_or piece a 0 ∷ []
-cut_one piece a w = cut_byte piece a (a + 1) w (omega arith) ∙ ap (λ xs. get_or piece a 0 ∷ xs) (cut_none piece (a + 1))
 
 -- a prefix of the rest of a piece
 pub cut_front : (piece : List ℕ) (at n : ℕ) → cut piece at (at + n) ≡ take n (take (length piece - at) (drop at piece))

@@ -166,10 +166,6 @@ pub first_text : (mode next : Mode) (first last : StringState) → GoesOn mode f
 first_text mode next first last (inl m) = let e = m.0 in record { number = rw e refl; text = rw e refl }
 first_text mode next first last (inr m) = let e = m.0 in record { number = rw e refl; text = rw e refl }
 
-pub last_text : (mode next : Mode) (first last : StringState) → GoesOn mode first next last → IsText next last
-last_text mode next first last (inl m) = let e = m.1 in record { number = rw e refl; text = rw e refl }
-last_text mode next first last (inr m) = let e = m.1 in record { number = rw e refl; text = rw e refl }
-
 reads_move : (mode between : Mode) (state : StringState) (turn : NumberTurn) (inner : Option Level) (words : Words) (b c : ℕ) → GoesOn mode state between Plain
     → string_move (string_next state b) ≡ Reads c → move_of mode turn inner words b ≡ Go between Nothing
 reads_move mode between state turn inner words b c (inl m) e = rw (m.0, m.1, e) refl

@@ -130,8 +130,8 @@ impl Reader {
         self.take_open(Level::Object, piece, sink)
     }
 
-    /// Takes the byte after a value, or the end of a feature with the comma after it and the beginning of the next: how many
-    /// bytes, or 0.
+    /// Takes the byte after a value, and where it closes the last member of a feature also the end of the feature, the comma and
+    /// the beginning of the next: how many bytes, or 0.
     #[inline(never)]
     fn take_next_feature<S: EventSink>(&mut self, piece: &[u8], sink: &mut S) -> usize
         requires some { 0 < length piece.now }
@@ -149,7 +149,7 @@ impl Reader {
         taken + self.take_feature_end(&piece[taken..], sink)
     }
 
-    /// Takes the end of an object. A look at two bytes mostly shows whether a feature may end there.
+    /// Takes the byte after a value. A look at two bytes mostly shows whether a feature may end there.
     #[inline(always)]
     pub(super) fn take_ends<S: EventSink>(&mut self, piece: &[u8], sink: &mut S) -> usize
         requires some { 0 < length piece.now }

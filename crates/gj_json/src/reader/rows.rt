@@ -7,6 +7,7 @@ ghost use Rattle.gj_json.specs.Internal.OpenLevels.{levels_in, inner_of};
 ghost use Rattle.gj_json.specs.declared.levels.Level.TheVariants.{Array};
 
 use super::Reader;
+use super::flats::{begins_array, is_due};
 use super::tokens::LONG;
 use crate::event::{Event, What};
 use crate::levels::Level;
@@ -148,13 +149,7 @@ impl Reader {
         ensures begins { IsTrue result → get_or piece.now 0 0 ≡ open_bracket }
         ensures due { IsTrue result → awaits self.now.mode ≡ true }
     {
-        if piece.is_empty() || piece[0] != b'[' {
-            return false;
-        }
-        match self.mode {
-            Mode::ValueDue | Mode::ArrayOpened => true,
-            _ => false,
-        }
+        begins_array(piece) && is_due(self.mode)
     }
 
     /// Takes an array of numbers: how many bytes. Where it is not such as is reported at once, the arrays after it are taken

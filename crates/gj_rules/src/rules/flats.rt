@@ -41,7 +41,7 @@ impl<const FRAMES: usize> FramedRules<FRAMES> {
         }
     }
 
-    /// Arrays of two numbers in the value of `coordinates`, one after another, which come as their cut values: how many of them
+    /// Arrays of two or three numbers in the value of `coordinates`, one after another, which come as their cut values: how many of them
     /// it takes.
     #[inline(always)]
     pub(super) fn feed_positions(&mut self, positions: &[CutPosition]) -> usize

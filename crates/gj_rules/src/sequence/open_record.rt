@@ -1,4 +1,4 @@
-//! The record of a text sequence that is open.
+//! The record of an input that is open.
 ghost use Rattle.std.specs.Prelude.{◌≡◌, ℕ, ◌+◌, ◌<◌, ◌≤◌, ◌^◌, ◌++◌, ◌↔◌, [], List, length, None, IsTrue, false};
 ghost use Rattle.gj_rules.specs.Linter.{StandsFor as LinterStandsFor};
 
@@ -22,7 +22,7 @@ pub struct OpenRecord {
     start: u64,
     /// The place after its last byte.
     end: u64,
-    /// Its last byte, or the separator before it.
+    /// Its last byte, or RS where it has none.
     last: u8,
     ghost wide: { limits.bytes ≡ 2 ^ 60 },
     ghost within: { end ≤ 2 ^ 60 },

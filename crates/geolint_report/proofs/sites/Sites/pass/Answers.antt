@@ -3,7 +3,8 @@ use Rattle.std.proofs.lemmas.List.{take-append-drop, take_all}
 use Rattle.gj_places.specs.Counting.{StandsFor}
 use Rattle.gj_places.specs.Keeping.{Keeps as KeepsLine}
 use Rattle.geolint_report.specs.Sites.{AreRight, ArePaths, AreTold}
-use Rattle.geolint_report.specs.Internal.SecondReading.{AreWithin, StandsIn, KeepsIn, IsAt}
+use Rattle.geolint_report.specs.Internal.SecondReading.{AreWithin, IsAt}
+use Rattle.geolint_report.specs.Internal.TextPaths.{StandsIn, KeepsIn}
 use Rattle.geolint_report.proofs.KeptExcerpts.{IsAt-more}
 use Rattle.geolint_report.proofs.sites.Sites.pass.Goals as goal
 use Rattle.geolint_report.proofs.sites.Sites.pass.Goals.{then-finder-self, else-finder-self}
@@ -57,7 +58,7 @@ returns-clause-follows c = λ framing text follows.
         stands = λ fewer.
             let all : text ++ take (length piece) piece ≡ (text ++ piece) ++ [] =
             ap (λ (ys : List ℕ). text ++ ys) (take_all (length piece) piece (omega arith)) ∙ sym (append-nil (text ++ piece)) in
-            subst (StandsIn w.locate_to.new.self) all (w.locate_to.ensures.stands text follows.located (omega arith) (follows.stands w.if-finder-self.false));
+            subst (StandsIn w.locate_to.new.self.text_path) all (w.locate_to.ensures.stands text follows.located (omega arith) (follows.stands w.if-finder-self.false));
         paths = paths;
       })
     ]
@@ -80,7 +81,7 @@ returns-clause-tells c = λ limits framing text follows tells.
         keeps = λ fewer.
             let all : text ++ take (length piece) piece ≡ (text ++ piece) ++ [] =
             ap (λ (ys : List ℕ). text ++ ys) (take_all (length piece) piece (omega arith)) ∙ sym (append-nil (text ++ piece)) in
-            subst (KeepsIn w.locate_to.new.self) all
+            subst (KeepsIn w.locate_to.new.self.text_path) all
             (w.locate_to.ensures.keeps text follows.located (omega arith) (follows.stands w.if-finder-self.false) (tells.keeps w.if-finder-self.false));
         within = within;
         told = told;

@@ -8,7 +8,8 @@ use Rattle.gj_places.specs.Keeping.{Keeps as KeepsLine}
 use Rattle.gj_places.specs.declared.excerpt.Excerpt.{Excerpt}
 use Rattle.geolint_report.specs.Sites.{IsSpot, LeadsTo, IsPathOf, IsTold, IsUnderWay, text_of}
 use Rattle.geolint_report.proofs.FoundSites.{Spot-is, take-joined}
-use Rattle.geolint_report.specs.Internal.SecondReading.{Settles, StandsIn, KeepsIn}
+use Rattle.geolint_report.specs.Internal.SecondReading.{Settles}
+use Rattle.geolint_report.specs.Internal.TextPaths.{StandsIn, KeepsIn}
 use Rattle.geolint_report.proofs.FollowedPaths.{LeadsTo-here}
 use Rattle.geolint_report.proofs.ToldPaths.{IsTold-here}
 use Rattle.geolint_report.proofs.KeptExcerpts.{Shows-settled}
@@ -57,10 +58,10 @@ returns-clause-follows c = λ framing text reaches follows.
     let within : at < length piece = omega (arith, offset, c.saturating_add-end.ensures, c.if-place-finder.false, c.if-end-place.false) in
     let near_place = follows.near in
     let near : finder.located ≤ at + 1 = omega (arith, near_place, c.if-at-finder.false) in
-    let stands : StandsIn c.locate_to.new.self (text ++ take (at + 1) piece) =
+    let stands : StandsIn c.locate_to.new.self.text_path (text ++ take (at + 1) piece) =
     c.locate_to.ensures.stands text near (omega (arith, within)) (follows.stands c.if-i-self.false) in
     let located : c.locate_to.new.self.located ≡ at + 1 = c.locate_to.ensures.located near (omega (arith, within)) in
-    let kind : c.locate_to.new.self.framing ≡ framing = c.locate_to.ensures.same.kind ∙ follows.kind in
+    let kind : c.locate_to.new.self.text_path.framing ≡ framing = c.locate_to.ensures.same.kind ∙ follows.kind in
     let path = subst (λ (b : Option Framing). IfSome c.path.result (λ (p : Path). IsPathOf (text_of b (text ++ take (at + 1) piece)) p)) kind
     (c.path.ensures.is (text ++ take (at + 1) piece) stands) in
     let leads : LeadsTo framing (text ++ piece) site.place c.path.result = LeadsTo-here framing text piece at site.place c.path.result within here path in
@@ -68,7 +69,7 @@ returns-clause-follows c = λ framing text reaches follows.
       kind = kind;
       located = omega (arith, within, located);
       near = omega (arith, located, c.locate_to.ensures.same.counted);
-      stands = λ fewer. subst (λ (n : ℕ). StandsIn c.locate_to.new.self (text ++ take n piece)) (sym located) stands;
+      stands = λ fewer. subst (λ (n : ℕ). StandsIn c.locate_to.new.self.text_path (text ++ take n piece)) (sym located) stands;
       paths = c.settle.ensures.paths framing (text ++ piece) c.index-self-i.result follows.paths leads;
     }
 
@@ -85,18 +86,18 @@ returns-clause-tells c = λ limits framing text reaches follows tells.
     let near_place = follows.near in
     let near : finder.located ≤ at + 1 = omega (arith, near_place, c.if-at-finder.false) in
     let front = text ++ take (at + 1) piece in
-    let keeps : KeepsIn after front =
+    let keeps : KeepsIn after.text_path front =
     c.locate_to.ensures.keeps text near (omega (arith, within)) (follows.stands c.if-i-self.false) (tells.keeps c.if-i-self.false) in
     let located : after.located ≡ at + 1 = c.locate_to.ensures.located near (omega (arith, within)) in
-    let kind : after.framing ≡ framing = c.locate_to.ensures.same.kind ∙ follows.kind in
-    let under : after.limits ≡ limits = c.locate_to.ensures.same.limits ∙ tells.under in
+    let kind : after.text_path.framing ≡ framing = c.locate_to.ensures.same.kind ∙ follows.kind in
+    let under : after.text_path.limits ≡ limits = c.locate_to.ensures.same.limits ∙ tells.under in
     let told : IsTold limits framing (text ++ piece) site.place c.path.result = IsTold-here limits framing text piece at site.place c.path.result within here
     (λ goes. c.path.ensures.told
-    (keeps (subst (λ (l : Allowed). IsUnderWay l after.framing front) (sym under)
+    (keeps (subst (λ (l : Allowed). IsUnderWay l after.text_path.framing front) (sym under)
     (subst (λ (b : Option Framing). IsUnderWay limits b front) (sym kind) goes))).0) in
     record {
       under = under;
-      keeps = λ fewer. subst (λ (n : ℕ). KeepsIn after (text ++ take n piece)) (sym located) keeps;
+      keeps = λ fewer. subst (λ (n : ℕ). KeepsIn after.text_path (text ++ take n piece)) (sym located) keeps;
       within = c.settle.ensures.within (text ++ piece) c.index-self-i.result tells.within (omega (arith, here, within, length-append text piece));
       told = c.settle.ensures.told limits framing (text ++ piece) c.index-self-i.result tells.told told;
     }

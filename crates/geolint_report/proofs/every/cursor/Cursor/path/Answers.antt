@@ -1,4 +1,4 @@
 use Rattle.geolint_report.proofs.every.cursor.Cursor.path.Goals as goal
 
 pub returns : goal.returns
-returns c = λ front passed. c.path.ensures front passed.follows
+returns c = λ front passed. c.path.ensures.is front passed.follows

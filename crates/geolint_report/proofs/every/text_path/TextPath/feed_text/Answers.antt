@@ -2,7 +2,7 @@ use Rattle.geolint_report.proofs.Common.{◌≡◌, ◌++◌, false, subst, Allo
 use Rattle.std.specs.Prelude.{is_err}
 use Rattle.gj_json.specs.Reader.{Answers}
 use Rattle.geolint_report.proofs.ToldPaths.{CanGoOn-front, never-err}
-use Rattle.geolint_report.proofs.sites.Finder.locate_in_text.Goals as goal
+use Rattle.geolint_report.proofs.every.text_path.TextPath.feed_text.Goals as goal
 
 pub returns-then-is_err-clause-keeps : goal.returns-then-is_err-clause-keeps
 returns-then-is_err-clause-keeps c = λ limits text stands keeps goes.
