@@ -26,6 +26,7 @@ pub struct Meter {
 }
 
 impl Meter {
+    /// Before the first file. It shows something only where standard error is a terminal.
     pub fn new(rt: HostRuntime) -> Meter {
         let begun = if rt.stderr().is_terminal() {
             Instant::now(&rt).ok()

@@ -74,6 +74,7 @@ pub trait Feeds<L> {
 
 /// What counts the bytes as they come.
 pub trait Counts {
+    /// So many bytes more were read.
     fn add_bytes(&mut self, count: usize);
 }
 

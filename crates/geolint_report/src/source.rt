@@ -133,6 +133,7 @@ pub struct FileSource {
 }
 
 impl FileSource {
+    /// The bytes of an open file, from where it stands.
     pub fn new(file: File) -> FileSource {
         let before = file.metadata().ok();
         FileSource {

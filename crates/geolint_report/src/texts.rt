@@ -67,6 +67,7 @@ impl Code {
         }
     }
 
+    /// Its number: of a rule 1 to 21, of a kind of warning 1 to 9, of a cause 1 to 4, and 0 for `NotValid`.
     pub fn number(self) -> u8
         ensures { result ≡ code_number self }
     {
@@ -91,6 +92,7 @@ impl Code {
         }
     }
 
+    /// What it is called in a report.
     pub fn text(self) -> &'static [u8]
         ensures { result.now ≡ code_text self }
     {

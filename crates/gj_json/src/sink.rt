@@ -24,6 +24,7 @@ pub trait EventSink {
     /// So many levels have to close before an event matters to it again.
     ghost ignores: { Self → ℕ } = { λ _. 0 };
 
+    /// Takes the next event of the text.
     fn tell(&mut self, event: Event)
         ensures { (events : List Event) → heard self.old events → heard self.new (events ++ event ∷ []) };
 

@@ -42,6 +42,7 @@ pub trait FeatureSink {
     ghost use Rattle.gj_rules.specs.declared.feature.Feature.{Feature};
     ghost use Rattle.gj_rules.specs.CleanFeature.{feature_of};
 
+    /// Takes the next feature, with what is found in it.
     fn tell_feature(&mut self, feature: &Feature)
         ensures { (features : List Feature) → told self.old features → told self.new (features ++ feature.now ∷ []) };
 

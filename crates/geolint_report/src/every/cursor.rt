@@ -274,6 +274,7 @@ impl Cursors {
     ghost use Rattle.geolint_report.specs.Judged.{CountsFailure};
     ghost use Rattle.geolint_report.specs.Marks.{IsMarkBy};
 
+    /// Before the first byte of a file whose texts are read under these limits.
     pub fn new(limits: Limits, framing: Option<Framing>) -> Cursors
         ensures { (text : Option (List ℕ)) → StandBy framing text result }
     {

@@ -32,6 +32,7 @@ impl Id {
         Ok(Id { bytes, count })
     }
 
+    /// Its bytes, as they stand in the file.
     pub fn bytes(&self) -> &[u8] {
         front(&self.bytes, self.count)
     }

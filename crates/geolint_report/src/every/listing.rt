@@ -130,6 +130,7 @@ impl Listing {
     ghost use Rattle.geolint_report.specs.declared.every.listing.Note.{Note};
     ghost use Rattle.geolint_report.specs.Every.{Keeps, AreFirst, note_of, fault_note, refusal_note, warning_notes, kind_notes, record_notes};
 
+    /// A list of nothing, which will keep what is asked.
     pub fn new(alloc: Global, asked: Asked) -> Listing
         ensures asked { result.asked ≡ asked }
         ensures keeps { Keeps result [] }

@@ -25,6 +25,7 @@ pub trait RecordSink {
 
     ghost use Rattle.gj_rules.specs.declared.records.record.Record.{Record};
 
+    /// Takes the next record, with what is found in it.
     fn tell_record(&mut self, found: &Record)
         ensures { (records : List Record) → told self.old records → told self.new (records ++ found.now ∷ []) };
 }
