@@ -959,7 +959,7 @@ checks them without an option. The report is about the first text that is not va
 
 This puts an RS before each line, which makes a text sequence of a newline-delimited file:
 
-    sed '/^[[:space:]]*$/d; s/^/\\x1e/; $a\\' map.geojson > map.geojsons
+    grep -a '[^[:space:]]' map.geojson | sed 's/^/\\x1e/' > map.geojsons
 
 This makes one FeatureCollection of the Features of a sequence or of a newline-delimited file:
 
@@ -969,7 +969,7 @@ This makes one FeatureCollection of the Features of a sequence or of a newline-d
 size:
 
     { printf '{\"type\":\"FeatureCollection\",\"features\":['
-      tr -d '\\036' < map.geojson | grep '[^[:space:]]' | paste -sd, -
+      grep -a '[^[:space:]]' map.geojson | tr -d '\\036' | paste -sd, -
       printf ']}'; } > mended.geojson
 "
 }
