@@ -146,8 +146,8 @@ impl Coordinates {
         self.done()
     }
 
-    /// Takes the events of arrays of two or three numbers, one after another, which come as their cut values: those of the arrays before
-    /// the first of which more is asked, and returns how many. It takes none where an array more may change a fault.
+    /// Takes the events of arrays of two or three numbers, one after another, which come as their cut values: those of the arrays
+    /// before the first of which more is asked, and returns how many. It takes none where an array more may change a fault.
     #[inline(never)]
     pub fn take_cuts(&mut self, positions: &[CutPosition]) -> usize
         requires rising { Rise positions.now }

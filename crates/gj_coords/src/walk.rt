@@ -358,8 +358,8 @@ impl Walk {
         }
     }
 
-    /// Takes arrays of two or three numbers that come as their cut values, where they change no fault: those before the first of which
-    /// more is asked, and returns how many.
+    /// Takes arrays of two or three numbers that come as their cut values, where they change no fault: those before the first of
+    /// which more is asked, and returns how many.
     pub fn add_cuts(&mut self, positions: &[CutPosition]) -> usize
         ensures few { result ≤ length positions.now }
         ensures steady { (floor : ℕ) (flats : List Flat) → AreCutPositions (take result positions.now) flats → AllAfter floor flats

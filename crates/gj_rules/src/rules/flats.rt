@@ -41,8 +41,8 @@ impl<const FRAMES: usize> FramedRules<FRAMES> {
         }
     }
 
-    /// Arrays of two or three numbers in the value of `coordinates`, one after another, which come as their cut values: how many of them
-    /// it takes.
+    /// Arrays of two or three numbers in the value of `coordinates`, one after another, which come as their cut values: how many of
+    /// them it takes.
     #[inline(always)]
     pub(super) fn feed_positions(&mut self, positions: &[CutPosition]) -> usize
         requires skipped { self.old.skipped ≡ 0 }
