@@ -5,6 +5,8 @@
 #![tactic(auto)]
 
 #[cfg(test)]
+mod build;
+#[cfg(test)]
 mod checks;
 #[cfg(test)]
 mod coords;
