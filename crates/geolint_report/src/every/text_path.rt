@@ -66,7 +66,8 @@ impl TextPath {
     /// Before the first byte of the same file.
     pub fn anew(&self) -> TextPath
         ensures stands { StandsIn result [] }
-        ensures framing { result.framing ≡ self.now.framing }
+        ensures keeps { KeepsIn result [] }
+        ensures fed { IsFed self.now result }
     {
         TextPath::new(self.limits, self.framing)
     }
