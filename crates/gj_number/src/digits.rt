@@ -1,16 +1,15 @@
 //! The digits that are kept of a number.
 ghost use Rattle.std.specs.Prelude.{◌≡◌, ◌≢◌, ℕ, ◌+◌, ◌-◌, ◌*◌, ◌^◌, ◌<◌, ◌≤◌, min, pos, ◌+ℤ◌, ◌-ℤ◌};
 ghost use Rattle.gj_number.specs.Exact.{signed};
+ghost use Rattle.std.specs.Prelude.{length, take, fold, All};
+ghost use Rattle.gj_number.specs.Bytes.{IsDigit};
 ghost use Rattle.gj_number.specs.Internal.KeptParts.{limited_power, last_digit};
-ghost use Rattle.gj_number.specs.Value.{held_value};
-
-mod runs;
+ghost use Rattle.gj_number.specs.Value.{held_value, with_digit};
 
 use crate::decimal::Decimal;
 use crate::exponent::{EXPONENT_LIMIT, Exponent, held_power};
-use crate::join::joined;
-use crate::run::HEAD_DIGITS;
-use crate::tens::ten_to;
+use crate::lanes::{digit_run, zero_run};
+use crate::tens::wide_ten_to;
 
 /// How many digits are kept.
 pub(crate) const MOST_DIGITS: u8 = 30;
@@ -27,34 +26,30 @@ const MOST_PLACES: u16 = 1400;
 /// The digits of a number up to the last that is no zero, without leading zeros.
 #[derive(Clone, Copy)]
 pub(crate) struct Digits {
-    /// The first nineteen digits, or fewer where fewer have come.
-    head: u64,
-    /// The digits after these.
-    rest: u64,
+    /// These digits as one number.
+    all: u128,
     /// The number of zeros after the kept digits.
     pending: u16,
     /// The number of digits after the point.
     places: u16,
     /// How many digits are kept, or [`FAR`].
     count: u8,
-    ghost head_bounded: { head < 10 ^ min count 19 },
-    ghost rest_bounded: { rest < 10 ^ (count - 19) },
+    ghost bounded: { all < 10 ^ count },
     ghost count_bounded: { count ≤ 31 },
     ghost places_bounded: { places ≤ 1400 },
     ghost pending_bounded: { pending ≤ 1400 + places },
-    ghost stripped: { 0 < last_digit head rest count },
+    ghost stripped: { 0 < last_digit all count },
 }
 
 impl Digits {
-    ghost use Rattle.gj_number.specs.Internal.KeptDigits.{Keeps, AddsDigit, kept_of};
+    ghost use Rattle.gj_number.specs.Internal.KeptDigits.{Keeps, AddsDigit};
 
     /// No digit.
     pub(crate) fn new() -> Digits
         ensures { Keeps result 0 0 }
     {
         Digits {
-            head: 0,
-            rest: 0,
+            all: 0,
             pending: 0,
             places: 0,
             count: 0,
@@ -122,38 +117,50 @@ impl Digits {
         ensures kept { AddsDigit self.old self.new digit }
         ensures places { self.new.places ≡ self.old.places }
     {
-        if self.pending == 0 && self.count < HEAD_DIGITS {
-            self.head = self.head * 10 + digit as u64;
-            self.count += 1;
-        } else if self.pending == 0 && self.count < MOST_DIGITS {
-            self.rest = self.rest * 10 + digit as u64;
-            self.count += 1;
-        } else {
-            self.keep_behind(digit);
-        }
-    }
-
-    /// Keeps a digit that is not zero, where zeros before it are kept too, or where all digits are kept already.
-    fn keep_behind(&mut self, digit: u8)
-        requires digit { digit < 10 }
-        requires nonzero { digit ≢ 0 }
-        ensures kept { AddsDigit self.old self.new digit }
-        ensures places { self.new.places ≡ self.old.places }
-    {
-        let count = self.count as usize;
-        let more = self.pending as usize + 1;
-        if count + more > MOST_DIGITS as usize {
+        let count = self.count as usize + self.pending as usize + 1;
+        if count > MOST_DIGITS as usize {
             self.mark_far();
             return;
         }
-        let (head, rest) = joined(self.head, self.rest, count, more, digit);
         *self = Digits {
-            head,
-            rest,
+            all: self.all * wide_ten_to(self.pending as usize + 1) + digit as u128,
             pending: 0,
             places: self.places,
-            count: (count + more) as u8,
+            count: count as u8,
         };
+    }
+
+    /// The number of first digits of the piece that change nothing before the point, since the number is not held whatever
+    /// follows.
+    #[inline]
+    pub(crate) fn pass_natural(&self, piece: &[u8]) -> usize
+        ensures length { result ≤ length piece.now }
+        ensures digits { All IsDigit (take result piece.now) }
+        ensures keeps { (whole : ℕ) → Keeps self.now whole 0 → Keeps self.now (fold with_digit whole (take result piece.now)) 0 }
+    {
+        if self.count == FAR {
+            digit_run(piece)
+        } else {
+            0
+        }
+    }
+
+    /// The number of first digits of the piece that change nothing after the point: all where the number is not held whatever
+    /// follows, and zeros past the places that are counted.
+    #[inline]
+    pub(crate) fn pass_fraction(&self, piece: &[u8]) -> usize
+        ensures length { result ≤ length piece.now }
+        ensures digits { All IsDigit (take result piece.now) }
+        ensures keeps { (whole fraction : ℕ) → Keeps self.now whole fraction
+            → Keeps self.now (fold with_digit whole (take result piece.now)) (fraction + result) }
+    {
+        if self.count == FAR {
+            digit_run(piece)
+        } else if self.places == MOST_PLACES {
+            zero_run(piece)
+        } else {
+            0
+        }
     }
 
     /// The decimal of these digits, with this sign and this exponent, where it is held.
@@ -168,7 +175,7 @@ impl Digits {
             return None;
         }
         match self.power(exponent) {
-            Some(power) => Some(Decimal::new(negative, self.whole(), power)),
+            Some(power) => Some(Decimal::new(negative, self.all, power)),
             None => None,
         }
     }
@@ -182,19 +189,6 @@ impl Digits {
             held_power(self.pending, self.places + magnitude)
         } else {
             held_power(self.pending + magnitude, self.places)
-        }
-    }
-
-    /// The kept digits as one number.
-    fn whole(&self) -> u128
-        requires { self.now.count ≤ 30 }
-        ensures { result ≡ kept_of self.now }
-    {
-        if self.count <= HEAD_DIGITS {
-            self.head as u128
-        } else {
-            self.head as u128 * ten_to((self.count - HEAD_DIGITS) as usize) as u128
-                + self.rest as u128
         }
     }
 }

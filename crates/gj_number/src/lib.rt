@@ -1,9 +1,8 @@
 //! The numbers of JSON (RFC 8259, section 6), read as exact decimals.
 //!
-//! A [`Literal`] takes a number's bytes one at a time or a run of digits at once, however many there
-//! are, in a few words of memory. Its [`Literal::value`] is the decimal that the whole literal denotes, or `None` where
-//! that decimal is beyond the limits: thirty digits, a power of ten from -400 to 400, a written
-//! exponent of a magnitude of at most 1,000.
+//! A [`Literal`] takes a number's bytes, however many there are, in a few words of memory. Its [`Literal::value`] is the
+//! decimal that the whole literal denotes, or `None` where that decimal is beyond the limits: thirty digits, a power of
+//! ten from -400 to 400, a written exponent of a magnitude of at most 1,000.
 //!
 //! A [`Short`] is an ordinary number, of at most eighteen digits and no exponent, which [`read_short`] reads whole from
 //! the start of a piece. What its methods say of it, they say of its decimal. [`read_decimal`] reads longer numbers too,
@@ -15,12 +14,10 @@
 mod decimal;
 mod digits;
 mod exponent;
-mod join;
 mod lanes;
 pub mod laws;
 mod literal;
 mod prefix;
-mod run;
 mod short;
 mod state;
 mod tens;

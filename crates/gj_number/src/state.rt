@@ -33,19 +33,6 @@ impl Class {
             _ => Class::Other,
         }
     }
-
-    /// The class of a digit.
-    #[inline]
-    pub(crate) fn of_digit(byte: u8) -> Class
-        requires { IsDigit byte }
-        ensures { result ≡ class_of byte }
-    {
-        if byte == b'0' {
-            Class::Zero
-        } else {
-            Class::NonZero
-        }
-    }
 }
 
 /// Whether some number has this byte.

@@ -102,21 +102,3 @@ exponent_on t digits e h =
     λ s. Reaches (at s t.negative t.whole t.fraction t.exponent_negative t.exponent) digits
     (at s t.negative t.whole t.fraction t.exponent_negative (fold with_digit t.exponent digits)) in
     subst P (sym e) (exponent_run t.negative t.whole t.fraction t.exponent_negative t.exponent digits (recursion_from_All IsDigit digits h))
-
--- the scan after the first digits after the point
-pub behind_point : (t : Scan) (digits : List ℕ) → t.state ≡ AfterPoint → 0 < length digits → All IsDigit digits
-    → Reaches t digits (record t { state = InFraction; whole = fold with_digit t.whole digits; fraction = t.fraction + length digits })
-behind_point t [] e some h = absurd (omega arith)
-behind_point t (b ∷ digits) e some h =
-    let all = recursion_from_All IsDigit (b ∷ digits) h in (
-      InFraction,
-      rw e (digit_goes AfterPoint InFraction b refl refl all.0),
-      fraction_run t.negative (with_digit t.whole b) (t.fraction + 1) (t.fraction + length (b ∷ digits)) t.exponent_negative t.exponent digits
-          (omega arith) all.1,
-    )
-
--- and with the point before them
-pub point_on : (t : Scan) (digits : List ℕ) → t.state ≡ InNatural → 0 < length digits → All IsDigit digits
-    → Reaches t (decimal_point ∷ digits) (record t { state = InFraction; whole = fold with_digit t.whole digits; fraction = t.fraction + length digits })
-point_on t digits e some h =
-    (AfterPoint, rw (e, class_is Point decimal_point refl (λ n. cc)) refl, behind_point (record t { state = AfterPoint }) digits refl some h)

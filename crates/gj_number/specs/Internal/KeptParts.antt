@@ -3,13 +3,9 @@ use Rattle.std.specs.Prelude.{◌≡◌, ◌≢◌, ℕ, ◌+◌, ◌-◌, ◌*�
 use Rattle.std.specs.Prelude.{None}
 use Rattle.gj_number.specs.Exact.{power_limit, cut_limit}
 
--- the first nineteen digits and the rest of them, as one number
-abbrev pub kept_number : ℕ → ℕ → ℕ → ℕ
-kept_number head rest count = head * 10 ^ (count - 19) + rest
-
 -- the last of the kept digits, and 1 where there is none or too many have come
-abbrev pub last_digit : ℕ → ℕ → ℕ → ℕ
-last_digit head rest count = if nat_le 1 count && nat_le count 30 then kept_number head rest count % 10 else 1
+abbrev pub last_digit : ℕ → ℕ → ℕ
+last_digit kept count = if nat_le 1 count && nat_le count 30 then kept % 10 else 1
 
 -- With no exponent from -1,000 to 1,000 is such a number held, whatever digits follow: it has more than thirty digits,
 -- or its last digit but zeros stands too far before the point or after it.

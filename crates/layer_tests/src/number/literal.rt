@@ -23,25 +23,10 @@ fn push_text(literal: &mut Literal, text: &[u8])
     }
 }
 
-/// Gives runs of digits to `push_digits`, and the bytes between them to `push`.
-fn push_runs(literal: &mut Literal, text: &[u8])
-    ensures { (bytes : List ℕ) → StandsFor literal.old bytes → (more : List ℕ) × StandsFor literal.new more }
-{
-    let mut at = 0;
-    for _ in 0..text.len() {
-        at += literal.push_digits(&text[at..]);
-        if at == text.len() || literal.push(text[at]) == Step::Ends {
-            return;
-        }
-        at += 1;
-    }
-}
-
 /// How a text is given to a literal.
 #[derive(Clone, Copy)]
 enum Way {
     ByBytes,
-    ByRuns,
     ByPieces,
 }
 
@@ -52,7 +37,6 @@ fn push_piece(literal: &mut Literal, way: Way, text: &str, times: u32)
     for _ in 0..times {
         match way {
             Way::ByBytes => push_text(literal, text.as_bytes()),
-            Way::ByRuns => push_runs(literal, text.as_bytes()),
             Way::ByPieces => {
                 let _ = literal.push_piece(text.as_bytes());
             }
@@ -83,8 +67,6 @@ fn value(rt: &impl Abort, literal: Literal, name: &str) -> Option<Decimal>
 fn expect(rt: &impl Abort, pieces: &[Piece], name: &str, want: Option<Parts>) -> Option<Decimal> {
     let found = value(rt, read(Way::ByBytes, pieces), name);
     equal(rt, found.map(|decimal| decimal.parts()), want, name);
-    let by_runs = value(rt, read(Way::ByRuns, pieces), name);
-    holds(rt, by_runs == found, name);
     let by_pieces = value(rt, read(Way::ByPieces, pieces), name);
     holds(rt, by_pieces == found, name);
     found
@@ -332,26 +314,6 @@ fn keeps_its_value_behind_a_refused_byte(rt: HostRuntime) {
 }
 
 /// What is pushed first, a piece, and how many of its bytes are taken.
-static RUNS: [(&str, &str, usize); 8] = [
-    ("", "120,", 3),
-    ("", "012", 1),
-    ("-0", "12", 0),
-    ("1.", "005e", 3),
-    ("1e", "12.", 2),
-    ("1e", "-3", 0),
-    ("", "", 0),
-    ("1", "x", 0),
-];
-
-#[test]
-fn takes_runs_of_digits(rt: HostRuntime) {
-    for (before, piece, want) in RUNS.iter() {
-        let mut literal = read(Way::ByBytes, &[(before, 1)]);
-        let taken = literal.push_digits(piece.as_bytes());
-        equal(&rt, taken, *want, piece);
-    }
-}
-
 /// Gives a text to `push_piece` in two pieces, and returns how many bytes are taken.
 fn push_halves(literal: &mut Literal, text: &[u8], cut: usize) -> usize
     requires { cut ≤ length text.now }

@@ -1,9 +1,8 @@
 use Rattle.std.proofs.Common.{◌≡◌, ◌<◌, ◌≤◌, arith, ◌⊎◌, inl, inr, refl, sym, ◌∙◌, ap, Some, rules, w16}
 use mir.Val.{SFits}
 use Rattle.std.proofs.lemmas.Int.{to_z-of_z}
-use Rattle.gj_number.specs.Internal.KeptDigits.{kept_of}
 use Rattle.gj_number.proofs.Value.HeldDecimals.{decimal_limits, zero_held, far_not_held, power_not_held, decimal_held}
-use Rattle.gj_number.proofs.Literals.LastDigits.{kept_below, last_is}
+use Rattle.gj_number.proofs.Literals.LastDigits.{last_is}
 use Rattle.gj_number.proofs.Value.HeldLimits.{exact_of}
 use Rattle.gj_number.proofs.digits.Digits.decimal.Goals as goal
 
@@ -14,9 +13,9 @@ new-requires c =
     let p = c.in-Some.power in
     let fits : SFits w16 p = search rules in
     let few : d.count ≤ 30 = omega (arith, c.if-self-gt-MOST_DIGITS.false) in
-    rw (c.whole.ensures, to_z-of_z w16 p fits)
-    (decimal_limits c.args.negative x.negative (kept_of d) d.count d.pending d.places x.magnitude p few
-    (kept_below d.head d.rest d.count d.head_bounded d.rest_bounded) (last_is d.head d.rest d.count c.if-self-eq0.false few d.stripped)
+    rw (to_z-of_z w16 p fits)
+    (decimal_limits c.args.negative x.negative d.all d.count d.pending d.places x.magnitude p few
+    d.bounded (last_is d.all d.count c.if-self-eq0.false few d.stripped)
     (sym c.power.ensures ∙ c.in-Some.is))
 
 pub returns-then-self-eq0 : goal.returns-then-self-eq0
@@ -24,7 +23,7 @@ returns-then-self-eq0 c most whole fraction written old small magnitude =
     let d = c.args.self.now in
     let x = c.args.exponent in
     ap Some c.zero.ensures
-    ∙ zero_held c.args.negative x.negative (kept_of d) d.count d.pending d.places whole fraction x.magnitude old most written small magnitude c.if-self-eq0.true
+    ∙ zero_held c.args.negative x.negative d.all d.count d.pending d.places whole fraction x.magnitude old most written small magnitude c.if-self-eq0.true
 
 pub returns-then-self-gt-MOST_DIGITS : goal.returns-then-self-gt-MOST_DIGITS
 returns-then-self-gt-MOST_DIGITS c most whole fraction written old small magnitude =
@@ -32,13 +31,13 @@ returns-then-self-gt-MOST_DIGITS c most whole fraction written old small magnitu
     let x = c.args.exponent in
     let far : (30 < d.count) ⊎ (1000 < x.magnitude) = elim c.then-self-gt-MOST_DIGITS.either [ inl many ↦ inl many | inr large ↦ inr large.1 ] in
     far_not_held c.args.negative x.negative
-    (kept_of d) d.count d.pending d.places whole fraction x.magnitude old most written small magnitude c.if-self-eq0.false far
+    d.all d.count d.pending d.places whole fraction x.magnitude old most written small magnitude c.if-self-eq0.false far
 
 pub returns-in-None : goal.returns-in-None
 returns-in-None c most whole fraction written old small magnitude =
     let d = c.args.self.now in
     let x = c.args.exponent in
-    power_not_held c.args.negative x.negative (kept_of d) d.count d.pending d.places whole fraction x.magnitude old most written small magnitude
+    power_not_held c.args.negative x.negative d.all d.count d.pending d.places whole fraction x.magnitude old most written small magnitude
     c.if-self-eq0.false c.if-self-gt-MOST_DIGITS.false c.if-exponent-gt-EXPONENT_LIMIT.false (sym c.power.ensures ∙ c.in-None.is)
 
 pub returns-in-Some : goal.returns-in-Some
@@ -47,7 +46,7 @@ returns-in-Some c most whole fraction written old small magnitude =
     let x = c.args.exponent in
     let p = c.in-Some.power in
     let fits : SFits w16 p = search rules in
-    let made : c.new.result ≡ exact_of c.args.negative (kept_of d) p = c.new.ensures ∙ (rw (c.whole.ensures, to_z-of_z w16 p fits) refl) in
+    let made : c.new.result ≡ exact_of c.args.negative d.all p = c.new.ensures ∙ (rw (to_z-of_z w16 p fits) refl) in
     ap Some made
-    ∙ decimal_held c.args.negative x.negative (kept_of d) d.count d.pending d.places whole fraction x.magnitude old most written small magnitude p
+    ∙ decimal_held c.args.negative x.negative d.all d.count d.pending d.places whole fraction x.magnitude old most written small magnitude p
     c.if-self-eq0.false c.if-self-gt-MOST_DIGITS.false c.if-exponent-gt-EXPONENT_LIMIT.false (sym c.power.ensures ∙ c.in-Some.is)

@@ -1,5 +1,4 @@
 use Rattle.std.proofs.Common.{arith}
-use Rattle.gj_number.specs.Internal.KeptDigits.{kept_of}
 use Rattle.gj_number.proofs.Literals.OneDigitMore.{keep_natural, none_natural}
 use Rattle.gj_number.proofs.digits.Digits.push_natural.Goals as goal
 
@@ -8,8 +7,8 @@ returns-then-digit-ne0 c whole old =
     let d = c.args.self.now in
     let n = c.keep.new.self in
     rw (c.keep.ensures.places)
-    (keep_natural (kept_of d) d.count d.pending d.places whole c.args.digit
-    (kept_of n) n.count n.pending c.if-digit-ne0.true c.requires c.keep.ensures.kept old)
+    (keep_natural d.all d.count d.pending d.places whole c.args.digit
+    n.all n.count n.pending c.if-digit-ne0.true c.requires c.keep.ensures.kept old)
 
 pub returns-then-self-gt0 : goal.returns-then-self-gt0
 returns-then-self-gt0 c whole old = rw (c.if-digit-ne0.false) (c.add_zero.ensures whole old)
@@ -17,4 +16,4 @@ returns-then-self-gt0 c whole old = rw (c.if-digit-ne0.false) (c.add_zero.ensure
 pub returns-else-self-gt0 : goal.returns-else-self-gt0
 returns-else-self-gt0 c whole old =
     let d = c.args.self.now in
-    rw (c.if-digit-ne0.false) (none_natural (kept_of d) d.count d.pending d.places whole (omega arith) old)
+    rw (c.if-digit-ne0.false) (none_natural d.all d.count d.pending d.places whole (omega arith) old)

@@ -1,35 +1,25 @@
--- A prefix of the piece, run by run and byte by byte.
+-- A prefix of the piece, byte by byte, and runs that change nothing.
 use Rattle.std.proofs.Common.{ℕ, ◌+◌, ◌≤◌, List, ◌++◌, take, length, sym, subst, arith}
 use Rattle.std.proofs.lemmas.List.{take_more}
 use Rattle.gj_number.specs.Grammar.{BeginsNumber}
 use Rattle.gj_number.specs.Literal.{StandsFor}
-use Rattle.gj_number.proofs.Literals.LiteralPieces.{one_more, run_stands, stands_begin, stands_last}
+use Rattle.gj_number.proofs.Literals.LiteralPieces.{one_more, run_stands, stands_begin}
 use Rattle.gj_number.proofs.literal.Literal.push_piece.Goals as goal
 use Rattle.gj_number.proofs.Shorts.PiecePrefixes.{more_within}
-
-pub loop-at-init : goal.loop-at-init
-loop-at-init c =
-    let piece = c.args.piece.now in
-    let i = c.push_first-first.result in
-    record {
-      length = more_within piece i c.push_plain.result c.push_first-first.ensures.length c.push_plain.ensures.length;
-      stands = (λ bytes h. run_stands bytes piece i c.push_plain.result c.push_first-first.new.self c.push_plain.new.self c.push_plain.ensures.stands
-          (c.push_first-first.ensures.stands bytes h));
-    }
 
 pub loop-at-preserved : goal.loop-at-preserved
 loop-at-preserved c =
     let piece = c.args.piece.now in
     let i = c.loop-at.at in
-    let n = c.push_digits-at.result in
+    let n = c.pass_run-at.result in
     let less : i + 1 ≤ length piece = omega (arith, c.loop-at-test.true) in
     record {
-      length = more_within piece (i + 1) n less c.push_digits-at.ensures.length;
+      length = more_within piece (i + 1) n less c.pass_run-at.ensures.length;
       stands = (λ bytes h.
           let One : List ℕ → Type 0 = λ xs. StandsFor c.push.new.self xs in
           let one = subst One (one_more bytes piece i (take_more piece i 0 c.loop-at-test.true))
           (c.push.ensures.stands (bytes ++ take i piece) (c.loop-at.invariant.stands bytes h) c.in-Goes.is) in
-          run_stands bytes piece (i + 1) n c.push.new.self c.push_digits-at.new.self c.push_digits-at.ensures.stands one);
+          run_stands bytes piece (i + 1) n c.push.new.self c.push.new.self c.pass_run-at.ensures.stands one);
     }
 
 pub returns-in-Ends-clause-stands : goal.returns-in-Ends-clause-stands
@@ -46,16 +36,5 @@ returns-in-Ends-clause-all c = λ bytes h below begins.
     c.push.ensures.refused (bytes ++ take at piece) (c.loop-at.invariant.stands bytes h) c.in-Ends.is
     (subst P (sym (one_more bytes piece at (take_more piece at 0 below))) begins)
 
-pub returns-else-may_stand-clause-begins : goal.returns-else-may_stand-clause-begins
-returns-else-may_stand-clause-begins c = λ bytes h. stands_begin c.loop-at.self bytes h
-
-pub returns-else-may_stand-clause-all : goal.returns-else-may_stand-clause-all
-returns-else-may_stand-clause-all c = λ bytes h below begins.
-    let piece = c.args.piece.now in
-    let at = c.loop-at.at in
-    let P : List ℕ → Type 0 = λ xs. BeginsNumber xs in
-    stands_last c.loop-at.self (bytes ++ take at piece) _ (c.may_stand.ensures.class c.if-may_stand.false) (c.loop-at.invariant.stands bytes h)
-    (subst P (sym (one_more bytes piece at (take_more piece at 0 below))) begins)
-
-pub returns-after-loop-at-clause-begins : goal.returns-after-loop-at-clause-begins
-returns-after-loop-at-clause-begins c = λ bytes h. stands_begin c.loop-at.self bytes h
+pub returns-clause-begins : goal.returns-clause-begins
+returns-clause-begins c = λ bytes h. stands_begin c.loop-at.self bytes h
