@@ -1,5 +1,5 @@
 //! The reader: it takes the bytes of a text and reports its events (RFC 8259).
-ghost use Rattle.std.specs.Prelude.{◌≡◌, ℕ, ◌+◌, ◌≤◌, ◌++◌, ◌∷◌, [], List, length, take, IfOk, IsTrue, MatchResult, Some, None, Ok, Err};
+ghost use Rattle.std.specs.Prelude.{◌≡◌, ℕ, ◌+◌, ◌^◌, ◌≤◌, ◌++◌, ◌∷◌, [], List, length, take, IfOk, IsTrue, MatchResult, Some, None, Ok, Err};
 ghost use Rattle.gj_json.specs.Internal.Transitions.{IsMode};
 ghost use Rattle.gj_json.specs.Internal.OpenLevels.{levels_in};
 
@@ -39,6 +39,7 @@ pub struct Reader {
     positions: [CutPosition; MOST_POSITIONS],
     ghost sound: { IsMode mode },
     ghost within: { offset ≤ limits.bytes },
+    ghost small: { limits.bytes ≤ 2 ^ 60 },
     ghost nested: { length (levels_in levels) ≤ limits.depth },
 }
 

@@ -222,7 +222,9 @@ impl Records {
         requires on { self.old.record.end ≤ next }
         ensures { TellsOne (S.told sink.old) (S.told sink.new) RecordEnd.Separator next self.old self.new }
     {
-        if self.number > 0 && self.record.is_clean_as(self.framing) {
+        if self.number == 0 {
+            self.tell_open(RecordEnd::Separator, next, sink)
+        } else if self.record.is_clean_as(self.framing) {
             self.tell_clean(next, sink)
         } else {
             self.tell_open(RecordEnd::Separator, next, sink)

@@ -236,6 +236,15 @@ impl<const FRAMES: usize> FramedRules<FRAMES> {
         self.coordinates.again();
     }
 
+    /// Whether this comes next, outside of values that are not looked into.
+    #[inline(always)]
+    pub(crate) fn awaits(&self, mode: Mode) -> bool
+        ensures skipped { IsTrue result → self.now.skipped ≡ 0 }
+        ensures mode { IsTrue result → self.now.mode ≡ mode }
+    {
+        self.skipped == 0 && self.mode == mode
+    }
+
     /// Whether the next event goes to a summary.
     #[inline(always)]
     fn is_feeding(&self) -> bool
@@ -342,7 +351,7 @@ impl<const FRAMES: usize> EventSink for FramedRules<FRAMES> {
 
     #[inline(always)]
     fn tell_flat(&mut self, flat: &Flat) {
-        if self.is_in_coordinates() {
+        if self.awaits(Mode::Due(Known::Coordinates)) {
             self.feed_flat(flat);
         } else {
             self.tell_each(flat);
@@ -351,7 +360,7 @@ impl<const FRAMES: usize> EventSink for FramedRules<FRAMES> {
 
     #[inline(always)]
     fn tell_positions(&mut self, positions: &[CutPosition]) -> usize {
-        if self.is_in_coordinates() {
+        if self.awaits(Mode::Due(Known::Coordinates)) {
             self.feed_positions(positions)
         } else {
             0

@@ -1,5 +1,5 @@
 -- Members of objects in which no event matters: a name and its colon, and a value with the byte after it.
-use Rattle.std.proofs.Common.{◌≡◌, ℕ, ◌+◌, ◌-◌, ◌≤◌, ◌<◌, true, false, List, [], ◌∷◌, get_or, length}
+use Rattle.std.proofs.Common.{◌≡◌, ℕ, ◌+◌, ◌-◌, ◌^◌, ◌≤◌, ◌<◌, true, false, List, [], ◌∷◌, get_or, length}
 use Rattle.std.proofs.Common.{take, drop, Option, Some, None, refl, sym, ap, subst, ◌∙◌, inl, inr, ◌⊎◌, arith}
 use Rattle.std.proofs.lemmas.List.{get_or-drop, length-drop}
 use Rattle.std.specs.List.{AllByRecursion}
@@ -38,9 +38,9 @@ use Rattle.gj_json.proofs.Pieces.TokensInLevels.{ended_token}
 -- ---- what is kept of the lengths of names says nothing of what was given
 
 -- the reader, where other lengths are kept
-abbrev pub with_names : (old : Reader) → NameLengths → IsMode old.mode → old.offset ≤ old.limits.bytes → length (levels_in old.levels) ≤ old.limits.depth
-    → Reader
-with_names old names sound within nested = record {
+abbrev pub with_names : (old : Reader) → NameLengths → IsMode old.mode → old.offset ≤ old.limits.bytes → old.limits.bytes ≤ 2 ^ 60
+    → length (levels_in old.levels) ≤ old.limits.depth → Reader
+with_names old names sound within small nested = record {
   limits = old.limits;
   offset = old.offset;
   start = old.start;
@@ -53,12 +53,13 @@ with_names old names sound within nested = record {
   positions = old.positions;
   sound = sound;
   within = within;
+  small = small;
   nested = nested;
 }
 
-module _ (old new : Reader) (given : List ℕ) {names : NameLengths} {sound : IsMode old.mode} {within : old.offset ≤ old.limits.bytes}
+module _ (old new : Reader) (given : List ℕ) {names : NameLengths} {sound : IsMode old.mode} {within : old.offset ≤ old.limits.bytes} {small : old.limits.bytes ≤ 2 ^ 60}
     {nested : length (levels_in old.levels) ≤ old.limits.depth} where
-  pub names_all : {before after : List Event → Type 0} → FeedsAll before after (with_names old names sound within nested) new given
+  pub names_all : {before after : List Event → Type 0} → FeedsAll before after (with_names old names sound within small nested) new given
       → FeedsAll before after old new given
   names_all f = record {
     feeds = record { limits = f.feeds.limits; on = f.feeds.on; stands = f.feeds.stands; told = f.feeds.told };
@@ -66,7 +67,7 @@ module _ (old new : Reader) (given : List ℕ) {names : NameLengths} {sound : Is
     offset = f.offset;
   }
 
-  pub names_any : FeedsAny (with_names old names sound within nested) new given → FeedsAny old new given
+  pub names_any : FeedsAny (with_names old names sound within small nested) new given → FeedsAny old new given
   names_any f =
       record { limits = f.limits; live = f.live; offset = f.offset; within = λ floor w. names_all (f.within floor w); one = f.one; named = f.named }
 

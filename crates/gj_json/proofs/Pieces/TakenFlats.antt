@@ -314,6 +314,7 @@ mid_of old n mode sound room = record {
   positions = old.positions;
   sound = sound;
   within = room;
+  small = old.small;
   nested = old.nested;
 }
 

@@ -1,5 +1,5 @@
 -- Positions that are taken as their cut values: the reader goes as over their arrays, one after another.
-use Rattle.std.proofs.Common.{◌≡◌, ◌∙◌, ℕ, ◌+◌, ◌-◌, ◌≤◌, ◌<◌, true, List, [], ◌∷◌, ◌++◌}
+use Rattle.std.proofs.Common.{◌≡◌, ◌∙◌, ℕ, ◌+◌, ◌-◌, ◌^◌, ◌≤◌, ◌<◌, true, List, [], ◌∷◌, ◌++◌}
 use Rattle.std.proofs.Common.{zero, suc, get_or, length, take, drop, Some, None, refl, sym, ap, subst, arith}
 use Rattle.std.proofs.Common.{append_assoc, append-nil, length-drop, take-add}
 use Rattle.std.proofs.lemmas.List.{get_or-drop, drop-drop}
@@ -44,8 +44,8 @@ heard_less {before} {after} {less} old new given fed says = record {
 
 -- ---- what is in its room for positions says nothing of a reader
 
-abbrev pub with_room : (r : Reader) → List CutPosition → IsMode r.mode → r.offset ≤ r.limits.bytes → length (levels_in r.levels) ≤ r.limits.depth → Reader
-with_room r ps sound within nested = record {
+abbrev pub with_room : (r : Reader) → List CutPosition → IsMode r.mode → r.offset ≤ r.limits.bytes → r.limits.bytes ≤ 2 ^ 60 → length (levels_in r.levels) ≤ r.limits.depth → Reader
+with_room r ps sound within small nested = record {
   limits = r.limits;
   offset = r.offset;
   start = r.start;
@@ -58,21 +58,22 @@ with_room r ps sound within nested = record {
   positions = ps;
   sound = sound;
   within = within;
+  small = small;
   nested = nested;
 }
 
 module _ (old new : Reader) {ps : List CutPosition} where
-  pub room_filled : {before after : List Event → Type 0} (given : List ℕ) {sound : IsMode new.mode} {within : new.offset ≤ new.limits.bytes}
+  pub room_filled : {before after : List Event → Type 0} (given : List ℕ) {sound : IsMode new.mode} {within : new.offset ≤ new.limits.bytes} {small : new.limits.bytes ≤ 2 ^ 60}
       {nested : length (levels_in new.levels) ≤ new.limits.depth} → FeedsAll before after old new given
-      → FeedsAll before after old (with_room new ps sound within nested) given
+      → FeedsAll before after old (with_room new ps sound within small nested) given
   room_filled given fed = record {
     feeds = record { limits = fed.feeds.limits; on = fed.feeds.on; stands = fed.feeds.stands; told = fed.feeds.told };
     live = fed.live;
     offset = fed.offset;
   }
 
-  pub room_passed : {count : ℕ} {mode : Mode} {sound : IsMode old.mode} {within : old.offset ≤ old.limits.bytes}
-      {nested : length (levels_in old.levels) ≤ old.limits.depth} → Passed count mode (with_room old ps sound within nested) new → Passed count mode old new
+  pub room_passed : {count : ℕ} {mode : Mode} {sound : IsMode old.mode} {within : old.offset ≤ old.limits.bytes} {small : old.limits.bytes ≤ 2 ^ 60}
+      {nested : length (levels_in old.levels) ≤ old.limits.depth} → Passed count mode (with_room old ps sound within small nested) new → Passed count mode old new
   room_passed p = record {
     limits = p.limits;
     fault = p.fault;

@@ -19,6 +19,10 @@ use Rattle.gj_json.specs.Reader.{StandsFor, Hears, Completed}
 abbrev pub GoesOn : Mode → StringState → Mode → StringState → Type 0
 GoesOn mode first next last = ((mode ≡ StringOn first) × (next ≡ StringOn last)) ⊎ ((mode ≡ NameOn first) × (next ≡ NameOn last))
 
+-- It has refused no byte, and the limit on the bytes allows these.
+abbrev pub IsOpenFor : Reader → List ℕ → Type 0
+IsOpenFor reader piece = (reader.fault ≡ None) × (reader.offset + length piece ≤ reader.limits.bytes)
+
 -- Bytes that complete nothing: they lead to another mode with no number and no string under way, or they go on in a number
 -- or in a string.
 pub data SkipsBy (old new : Reader) (given : List ℕ) : Type 0 where

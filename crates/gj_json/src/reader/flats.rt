@@ -98,6 +98,7 @@ pub(super) fn begins_array(piece: &[u8]) -> bool
 }
 
 impl Reader {
+    ghost use Rattle.gj_json.specs.Internal.FedReader.{IsOpenFor};
     ghost use Rattle.gj_json.specs.Internal.FedReader.{FeedsAll};
 
     /// Whether the innermost level is an array.
@@ -124,9 +125,7 @@ impl Reader {
     /// how many bytes. Outside an array there is one at the most.
     #[inline(never)]
     pub(super) fn take_flats<S: EventSink>(&mut self, piece: &[u8], sink: &mut S) -> usize
-        requires live { self.old.fault ≡ None }
-        requires room { self.old.offset + length piece.now ≤ self.old.limits.bytes }
-        requires small { self.old.limits.bytes ≤ 2 ^ 60 }
+        requires takes { IsOpenFor self.old piece.now }
         ensures within { result ≤ length piece.now }
         ensures feeds { FeedsAll (S.heard sink.old) (S.heard sink.new) self.old self.new (take result piece.now) }
     {
@@ -144,10 +143,8 @@ impl Reader {
     #[inline(never)]
     fn take_single<S: EventSink>(&mut self, piece: &[u8], sink: &mut S) -> usize
         requires next { IsDueAt self.old.mode piece.now }
-        requires live { self.old.fault ≡ None }
+        requires takes { IsOpenFor self.old piece.now }
         requires deep { length (levels_in self.old.levels) < self.old.limits.depth }
-        requires room { self.old.offset + length piece.now ≤ self.old.limits.bytes }
-        requires small { self.old.limits.bytes ≤ 2 ^ 60 }
         ensures within { result ≤ length piece.now }
         ensures feeds { FeedsAll (S.heard sink.old) (S.heard sink.new) self.old self.new (take result piece.now) }
     {
@@ -169,11 +166,9 @@ impl Reader {
         sink: &mut S,
     ) -> usize
         requires next { IsDueAt self.old.mode piece.now }
-        requires live { self.old.fault ≡ None }
+        requires takes { IsOpenFor self.old piece.now }
         requires deep { length (levels_in self.old.levels) < self.old.limits.depth }
         requires inner { inner_of (levels_in self.old.levels) ≡ Some Array }
-        requires room { self.old.offset + length piece.now ≤ self.old.limits.bytes }
-        requires small { self.old.limits.bytes ≤ 2 ^ 60 }
         ensures within { result ≤ length piece.now }
         ensures next { IsDueAt self.new.mode (drop result piece.now) }
         ensures levels { self.new.levels ≡ self.old.levels }
@@ -199,11 +194,9 @@ impl Reader {
     ) -> usize
         requires some { 0 < comma }
         requires next { IsDueAt self.old.mode piece.now }
-        requires live { self.old.fault ≡ None }
+        requires takes { IsOpenFor self.old piece.now }
         requires deep { length (levels_in self.old.levels) < self.old.limits.depth }
         requires inner { inner_of (levels_in self.old.levels) ≡ Some Array }
-        requires room { self.old.offset + length piece.now ≤ self.old.limits.bytes }
-        requires small { self.old.limits.bytes ≤ 2 ^ 60 }
         ensures within { result ≤ length piece.now }
         ensures next { IsDueAt self.new.mode (drop result piece.now) }
         ensures levels { self.new.levels ≡ self.old.levels }
@@ -229,11 +222,9 @@ impl Reader {
     #[inline(never)]
     fn take_several<S: EventSink>(&mut self, piece: &[u8], sink: &mut S) -> usize
         requires next { IsDueAt self.old.mode piece.now }
-        requires live { self.old.fault ≡ None }
+        requires takes { IsOpenFor self.old piece.now }
         requires deep { length (levels_in self.old.levels) < self.old.limits.depth }
         requires inner { inner_of (levels_in self.old.levels) ≡ Some Array }
-        requires room { self.old.offset + length piece.now ≤ self.old.limits.bytes }
-        requires small { self.old.limits.bytes ≤ 2 ^ 60 }
         ensures within { result ≤ length piece.now }
         ensures feeds { FeedsAll (S.heard sink.old) (S.heard sink.new) self.old self.new (take result piece.now) }
     {

@@ -83,6 +83,7 @@ fn point_end(piece: &[u8], at: usize, start: u64, flat: &mut Flat) -> usize
 }
 
 impl Reader {
+    ghost use Rattle.gj_json.specs.Internal.FedReader.{IsOpenFor};
     ghost use Rattle.gj_json.specs.Internal.FedReader.{FeedsAll};
 
     /// Takes the bracket that opens an object, and its type where it begins by a usual one: how many bytes, or 0 where it opens one
@@ -91,10 +92,8 @@ impl Reader {
     fn take_typed<S: EventSink>(&mut self, piece: &[u8], sink: &mut S) -> usize
         requires some { 0 < length piece.now }
         requires begins { get_or piece.now 0 0 ≡ open_brace }
-        requires live { self.old.fault ≡ None }
+        requires takes { IsOpenFor self.old piece.now }
         requires due { awaits self.old.mode ≡ true }
-        requires room { self.old.offset + length piece.now ≤ self.old.limits.bytes }
-        requires small { self.old.limits.bytes ≤ 2 ^ 60 }
         ensures within { result ≤ length piece.now }
         ensures feeds { FeedsAll (S.heard sink.old) (S.heard sink.new) self.old self.new (take result piece.now) }
     {
@@ -117,10 +116,8 @@ impl Reader {
     pub(super) fn take_object<S: EventSink>(&mut self, piece: &[u8], sink: &mut S) -> usize
         requires some { 0 < length piece.now }
         requires begins { get_or piece.now 0 0 ≡ open_brace }
-        requires live { self.old.fault ≡ None }
+        requires takes { IsOpenFor self.old piece.now }
         requires due { awaits self.old.mode ≡ true }
-        requires room { self.old.offset + length piece.now ≤ self.old.limits.bytes }
-        requires small { self.old.limits.bytes ≤ 2 ^ 60 }
         ensures within { result ≤ length piece.now }
         ensures feeds { FeedsAll (S.heard sink.old) (S.heard sink.new) self.old self.new (take result piece.now) }
     {
@@ -135,10 +132,8 @@ impl Reader {
     #[inline(never)]
     fn take_next_feature<S: EventSink>(&mut self, piece: &[u8], sink: &mut S) -> usize
         requires some { 0 < length piece.now }
-        requires live { self.old.fault ≡ None }
+        requires takes { IsOpenFor self.old piece.now }
         requires done { self.old.mode ≡ ValueDone }
-        requires room { self.old.offset + length piece.now ≤ self.old.limits.bytes }
-        requires small { self.old.limits.bytes ≤ 2 ^ 60 }
         ensures within { result ≤ length piece.now }
         ensures feeds { FeedsAll (S.heard sink.old) (S.heard sink.new) self.old self.new (take result piece.now) }
     {
@@ -153,10 +148,8 @@ impl Reader {
     #[inline(always)]
     pub(super) fn take_ends<S: EventSink>(&mut self, piece: &[u8], sink: &mut S) -> usize
         requires some { 0 < length piece.now }
-        requires live { self.old.fault ≡ None }
+        requires takes { IsOpenFor self.old piece.now }
         requires done { self.old.mode ≡ ValueDone }
-        requires room { self.old.offset + length piece.now ≤ self.old.limits.bytes }
-        requires small { self.old.limits.bytes ≤ 2 ^ 60 }
         ensures within { result ≤ length piece.now }
         ensures feeds { FeedsAll (S.heard sink.old) (S.heard sink.new) self.old self.new (take result piece.now) }
     {
@@ -171,10 +164,8 @@ impl Reader {
     #[inline(never)]
     fn take_properties<S: EventSink>(&mut self, piece: &[u8], sink: &mut S) -> usize
         requires some { 0 < length piece.now }
-        requires live { self.old.fault ≡ None }
+        requires takes { IsOpenFor self.old piece.now }
         requires due { names self.old.mode ≡ true }
-        requires room { self.old.offset + length piece.now ≤ self.old.limits.bytes }
-        requires small { self.old.limits.bytes ≤ 2 ^ 60 }
         ensures within { result ≤ length piece.now }
         ensures feeds { FeedsAll (S.heard sink.old) (S.heard sink.new) self.old self.new (take result piece.now) }
     {
@@ -194,10 +185,8 @@ impl Reader {
     /// Takes the end of a feature with the comma after it and the beginning of the next: how many bytes, or 0.
     #[inline(always)]
     fn take_feature_end<S: EventSink>(&mut self, piece: &[u8], sink: &mut S) -> usize
-        requires live { self.old.fault ≡ None }
+        requires takes { IsOpenFor self.old piece.now }
         requires done { self.old.mode ≡ ValueDone }
-        requires room { self.old.offset + length piece.now ≤ self.old.limits.bytes }
-        requires small { self.old.limits.bytes ≤ 2 ^ 60 }
         ensures within { result ≤ length piece.now }
         ensures feeds { FeedsAll (S.heard sink.old) (S.heard sink.new) self.old self.new (take result piece.now) }
     {
@@ -249,12 +238,10 @@ impl Reader {
         usual: &UsualLocated,
         sink: &mut S,
     ) -> usize
-        requires live { self.old.fault ≡ None }
+        requires takes { IsOpenFor self.old piece.now }
         requires due { names self.old.mode ≡ true }
         requires deep { length (levels_in self.old.levels) < self.old.limits.depth }
         requires shallow { self.old.limits.depth ≤ MOST_LEVELS }
-        requires room { self.old.offset + length piece.now ≤ self.old.limits.bytes }
-        requires small { self.old.limits.bytes ≤ 2 ^ 60 }
         requires found { IsFound piece.now usual.now }
         ensures within { result ≤ length piece.now }
         ensures feeds { FeedsAll (S.heard sink.old) (S.heard sink.new) self.old self.new (take result piece.now) }
@@ -273,12 +260,10 @@ impl Reader {
         usual: &UsualLocated,
         sink: &mut S,
     ) -> usize
-        requires live { self.old.fault ≡ None }
+        requires takes { IsOpenFor self.old piece.now }
         requires due { names self.old.mode ≡ true }
         requires deep { length (levels_in self.old.levels) < self.old.limits.depth }
         requires shallow { self.old.limits.depth ≤ MOST_LEVELS }
-        requires room { self.old.offset + length piece.now ≤ self.old.limits.bytes }
-        requires small { self.old.limits.bytes ≤ 2 ^ 60 }
         requires found { IsFound piece.now usual.now }
         requires point { usual.now.word ≡ Word.Point }
         ensures within { result ≤ length piece.now }
@@ -299,10 +284,8 @@ impl Reader {
     #[inline(never)]
     fn take_late_point<S: EventSink>(&mut self, piece: &[u8], sink: &mut S) -> usize
         requires some { 0 < length piece.now }
-        requires live { self.old.fault ≡ None }
+        requires takes { IsOpenFor self.old piece.now }
         requires due { names self.old.mode ≡ true }
-        requires room { self.old.offset + length piece.now ≤ self.old.limits.bytes }
-        requires small { self.old.limits.bytes ≤ 2 ^ 60 }
         ensures within { result ≤ length piece.now }
         ensures feeds { FeedsAll (S.heard sink.old) (S.heard sink.new) self.old self.new (take result piece.now) }
     {
@@ -322,10 +305,8 @@ impl Reader {
     #[inline(never)]
     fn take_geometry<S: EventSink>(&mut self, piece: &[u8], sink: &mut S) -> usize
         requires some { 0 < length piece.now }
-        requires live { self.old.fault ≡ None }
+        requires takes { IsOpenFor self.old piece.now }
         requires due { names self.old.mode ≡ true }
-        requires room { self.old.offset + length piece.now ≤ self.old.limits.bytes }
-        requires small { self.old.limits.bytes ≤ 2 ^ 60 }
         ensures within { result ≤ length piece.now }
         ensures feeds { FeedsAll (S.heard sink.old) (S.heard sink.new) self.old self.new (take result piece.now) }
     {
@@ -347,10 +328,8 @@ impl Reader {
     #[inline(always)]
     pub(super) fn take_member<S: EventSink>(&mut self, piece: &[u8], sink: &mut S) -> usize
         requires some { 0 < length piece.now }
-        requires live { self.old.fault ≡ None }
+        requires takes { IsOpenFor self.old piece.now }
         requires due { names self.old.mode ≡ true }
-        requires room { self.old.offset + length piece.now ≤ self.old.limits.bytes }
-        requires small { self.old.limits.bytes ≤ 2 ^ 60 }
         ensures within { result ≤ length piece.now }
         ensures feeds { FeedsAll (S.heard sink.old) (S.heard sink.new) self.old self.new (take result piece.now) }
     {

@@ -9,6 +9,7 @@ use crate::mode::Mode;
 use crate::sink::{EventSink, NoEvents};
 
 impl Reader {
+    ghost use Rattle.gj_json.specs.Internal.FedReader.{IsOpenFor};
     ghost use Rattle.gj_json.specs.Ignored.{Leaves};
     ghost use Rattle.gj_json.specs.Internal.FedReader.{FeedsAll, FeedsAny, FeedsTo, FeedsWithin, FeedsWithinTo};
 
@@ -16,9 +17,7 @@ impl Reader {
     #[inline(always)]
     fn pass_token(&mut self, piece: &[u8]) -> usize
         requires some { 0 < length piece.now }
-        requires live { self.old.fault ≡ None }
-        requires room { self.old.offset + length piece.now ≤ self.old.limits.bytes }
-        requires small { self.old.limits.bytes ≤ 2 ^ 60 }
+        requires takes { IsOpenFor self.old piece.now }
         ensures within { result ≤ length piece.now }
         ensures feeds { FeedsAny self.old self.new (take result piece.now) }
     {
@@ -37,9 +36,7 @@ impl Reader {
 
     /// Takes whole tokens from the start of the piece, as long as levels above the floor are open: how many bytes.
     fn pass_tokens(&mut self, piece: &[u8], floor: u16) -> usize
-        requires live { self.old.fault ≡ None }
-        requires room { self.old.offset + length piece.now ≤ self.old.limits.bytes }
-        requires small { self.old.limits.bytes ≤ 2 ^ 60 }
+        requires takes { IsOpenFor self.old piece.now }
         requires above { floor ≤ length (levels_in self.old.levels) }
         ensures within { result ≤ length piece.now }
         ensures floor { floor ≤ length (levels_in self.new.levels) }
@@ -61,10 +58,8 @@ impl Reader {
 
     /// Takes bytes from the start of the piece, one at least, where some levels above the floor are open: how many.
     fn take_some_within(&mut self, piece: &[u8], floor: u16) -> Result<usize, JsonFault>
-        requires live { self.old.fault ≡ None }
+        requires takes { IsOpenFor self.old piece.now }
         requires some { 0 < length piece.now }
-        requires room { self.old.offset + length piece.now ≤ self.old.limits.bytes }
-        requires small { self.old.limits.bytes ≤ 2 ^ 60 }
         requires above { floor < length (levels_in self.old.levels) }
         ensures within { IfOk result (λ n. (0 < n) × (n ≤ length piece.now)) }
         ensures floor { floor ≤ length (levels_in self.new.levels) }
@@ -82,9 +77,7 @@ impl Reader {
 
     /// Takes bytes from the start of the piece until the levels above the floor have closed: how many.
     fn take_within(&mut self, piece: &[u8], floor: u16) -> Result<usize, JsonFault>
-        requires live { self.old.fault ≡ None }
-        requires room { self.old.offset + length piece.now ≤ self.old.limits.bytes }
-        requires small { self.old.limits.bytes ≤ 2 ^ 60 }
+        requires takes { IsOpenFor self.old piece.now }
         requires above { floor ≤ length (levels_in self.old.levels) }
         ensures within { IfOk result (λ n. n ≤ length piece.now) }
         ensures floor { floor ≤ length (levels_in self.new.levels) }
@@ -113,9 +106,7 @@ impl Reader {
     /// Takes whole tokens from the start of the piece whose events do not matter to the sink: how many bytes.
     #[inline(never)]
     pub(super) fn pass_ignored<S: EventSink>(&mut self, piece: &[u8], sink: &mut S) -> usize
-        requires live { self.old.fault ≡ None }
-        requires room { self.old.offset + length piece.now ≤ self.old.limits.bytes }
-        requires small { self.old.limits.bytes ≤ 2 ^ 60 }
+        requires takes { IsOpenFor self.old piece.now }
         ensures within { result ≤ length piece.now }
         ensures feeds { FeedsAll (S.heard sink.old) (S.heard sink.new) self.old self.new (take result piece.now) }
     {
@@ -138,9 +129,7 @@ impl Reader {
         piece: &[u8],
         sink: &mut S,
     ) -> Result<usize, JsonFault>
-        requires live { self.old.fault ≡ None }
-        requires room { self.old.offset + length piece.now ≤ self.old.limits.bytes }
-        requires small { self.old.limits.bytes ≤ 2 ^ 60 }
+        requires takes { IsOpenFor self.old piece.now }
         ensures within { IfOk result (λ n. n ≤ length piece.now) }
         ensures feeds { MatchResult result (λ n. FeedsAll (S.heard sink.old) (S.heard sink.new) self.old self.new (take n piece.now))
             (FeedsTo (S.heard sink.old) (S.heard sink.new) self.old self.new piece.now) }
@@ -163,9 +152,7 @@ impl Reader {
         piece: &[u8],
         sink: &mut S,
     ) -> Result<usize, JsonFault>
-        requires live { self.old.fault ≡ None }
-        requires room { self.old.offset + length piece.now ≤ self.old.limits.bytes }
-        requires small { self.old.limits.bytes ≤ 2 ^ 60 }
+        requires takes { IsOpenFor self.old piece.now }
         ensures within { IfOk result (λ n. n ≤ length piece.now) }
         ensures feeds { MatchResult result (λ n. FeedsAll (S.heard sink.old) (S.heard sink.new) self.old self.new (take n piece.now))
             (FeedsTo (S.heard sink.old) (S.heard sink.new) self.old self.new piece.now) }
@@ -178,9 +165,7 @@ impl Reader {
 
     /// Takes the bytes of the piece up to the end of the innermost array or object: how many, or 0 where it does not end there.
     fn take_innermost(&mut self, piece: &[u8]) -> usize
-        requires live { self.old.fault ≡ None }
-        requires room { self.old.offset + length piece.now ≤ self.old.limits.bytes }
-        requires small { self.old.limits.bytes ≤ 2 ^ 60 }
+        requires takes { IsOpenFor self.old piece.now }
         ensures within { result ≤ length piece.now }
         ensures feeds { 0 < result → FeedsAll (λ events. events ≡ []) (λ events. Leaves 1 events 0) self.old self.new (take result piece.now) }
     {
@@ -198,9 +183,7 @@ impl Reader {
     /// bytes, or 0 where nothing was taken.
     #[inline(never)]
     fn take_missed<S: EventSink>(&mut self, piece: &[u8], sink: &mut S) -> usize
-        requires live { self.old.fault ≡ None }
-        requires room { self.old.offset + length piece.now ≤ self.old.limits.bytes }
-        requires small { self.old.limits.bytes ≤ 2 ^ 60 }
+        requires takes { IsOpenFor self.old piece.now }
         ensures within { result ≤ length piece.now }
         ensures feeds { FeedsAll (S.heard sink.old) (S.heard sink.new) self.old self.new (take result piece.now) }
     {
@@ -224,9 +207,7 @@ impl Reader {
         least: &mut usize,
         sink: &mut S,
     ) -> usize
-        requires live { self.old.fault ≡ None }
-        requires room { self.old.offset + length piece.now ≤ self.old.limits.bytes }
-        requires small { self.old.limits.bytes ≤ 2 ^ 60 }
+        requires takes { IsOpenFor self.old piece.now }
         ensures within { result ≤ length piece.now }
         ensures feeds { FeedsAll (S.heard sink.old) (S.heard sink.new) self.old self.new (take result piece.now) }
     {

@@ -18,16 +18,15 @@ use crate::tokens::{begins_quoted, near_quoted_run, scalar_run};
 const ROOM: usize = 2 * LANES + 8;
 
 impl Reader {
+    ghost use Rattle.gj_json.specs.Internal.FedReader.{IsOpenFor};
     ghost use Rattle.gj_json.specs.Internal.FedReader.{FeedsAny};
 
     /// Takes a value that is whole with the byte after it, or the bracket that opens one: how many bytes, or 0.
     #[inline(never)]
     fn pass_value(&mut self, piece: &[u8]) -> usize
         requires some { 0 < length piece.now }
-        requires live { self.old.fault ≡ None }
+        requires takes { IsOpenFor self.old piece.now }
         requires due { awaits self.old.mode ≡ true }
-        requires room { self.old.offset + length piece.now ≤ self.old.limits.bytes }
-        requires small { self.old.limits.bytes ≤ 2 ^ 60 }
         ensures within { result ≤ length piece.now }
         ensures feeds { FeedsAny self.old self.new (take result piece.now) }
     {
@@ -40,10 +39,8 @@ impl Reader {
     fn pass_any_member(&mut self, piece: &[u8]) -> usize
         requires some { 0 < length piece.now }
         requires begins { get_or piece.now 0 0 ≡ quote }
-        requires live { self.old.fault ≡ None }
+        requires takes { IsOpenFor self.old piece.now }
         requires due { names self.old.mode ≡ true }
-        requires room { self.old.offset + length piece.now ≤ self.old.limits.bytes }
-        requires small { self.old.limits.bytes ≤ 2 ^ 60 }
         ensures within { result ≤ length piece.now }
         ensures feeds { FeedsAny self.old self.new (take result piece.now) }
     {
@@ -62,10 +59,8 @@ impl Reader {
         requires quoted { IsString (take name piece.now) }
         requires colon { get_or piece.now name 0 ≡ colon }
         requires between { (value ≡ name + 1) ⊎ ((value ≡ name + 2) × (get_or piece.now (name + 1) 0 ≡ space)) }
-        requires live { self.old.fault ≡ None }
+        requires takes { IsOpenFor self.old piece.now }
         requires due { names self.old.mode ≡ true }
-        requires room { self.old.offset + length piece.now ≤ self.old.limits.bytes }
-        requires small { self.old.limits.bytes ≤ 2 ^ 60 }
         ensures within { result ≤ length piece.now }
         ensures feeds { FeedsAny self.old self.new (take result piece.now) }
     {
@@ -95,10 +90,8 @@ impl Reader {
     fn pass_short_member(&mut self, piece: &[u8]) -> usize
         requires long { ROOM ≤ length piece.now }
         requires begins { get_or piece.now 0 0 ≡ quote }
-        requires live { self.old.fault ≡ None }
+        requires takes { IsOpenFor self.old piece.now }
         requires due { names self.old.mode ≡ true }
-        requires room { self.old.offset + length piece.now ≤ self.old.limits.bytes }
-        requires small { self.old.limits.bytes ≤ 2 ^ 60 }
         ensures within { result ≤ length piece.now }
         ensures feeds { FeedsAny self.old self.new (take result piece.now) }
     {
@@ -120,10 +113,8 @@ impl Reader {
     fn pass_member(&mut self, piece: &[u8]) -> usize
         requires some { 0 < length piece.now }
         requires begins { get_or piece.now 0 0 ≡ quote }
-        requires live { self.old.fault ≡ None }
+        requires takes { IsOpenFor self.old piece.now }
         requires due { names self.old.mode ≡ true }
-        requires room { self.old.offset + length piece.now ≤ self.old.limits.bytes }
-        requires small { self.old.limits.bytes ≤ 2 ^ 60 }
         ensures within { result ≤ length piece.now }
         ensures feeds { FeedsAny self.old self.new (take result piece.now) }
     {
@@ -145,10 +136,8 @@ impl Reader {
     #[inline(always)]
     fn pass_member_or_white(&mut self, piece: &[u8]) -> usize
         requires some { 0 < length piece.now }
-        requires live { self.old.fault ≡ None }
+        requires takes { IsOpenFor self.old piece.now }
         requires due { names self.old.mode ≡ true }
-        requires room { self.old.offset + length piece.now ≤ self.old.limits.bytes }
-        requires small { self.old.limits.bytes ≤ 2 ^ 60 }
         ensures within { result ≤ length piece.now }
         ensures feeds { FeedsAny self.old self.new (take result piece.now) }
     {
@@ -163,10 +152,8 @@ impl Reader {
     /// on where a comma is taken with the value before it.
     #[inline(always)]
     pub(super) fn pass_members(&mut self, piece: &[u8]) -> usize
-        requires live { self.old.fault ≡ None }
+        requires takes { IsOpenFor self.old piece.now }
         requires due { names self.old.mode ≡ true }
-        requires room { self.old.offset + length piece.now ≤ self.old.limits.bytes }
-        requires small { self.old.limits.bytes ≤ 2 ^ 60 }
         ensures within { result ≤ length piece.now }
         ensures feeds { FeedsAny self.old self.new (take result piece.now) }
     {

@@ -12,12 +12,12 @@ use crate::runs::{is_white, quiet_run, string_run};
 use crate::sink::EventSink;
 
 impl Reader {
+    ghost use Rattle.gj_json.specs.Internal.FedReader.{IsOpenFor};
     ghost use Rattle.gj_json.specs.Internal.FedReader.{Passed, Skips, FeedsAll, FeedsTo};
 
     /// Passes over `count` bytes, after which this is the mode.
     pub(super) fn skip(&mut self, count: usize, mode: Mode) -> usize
         requires room { self.old.offset + count ≤ self.old.limits.bytes }
-        requires small { self.old.limits.bytes ≤ 2 ^ 60 }
         requires sound { IsMode mode }
         ensures count { result ≡ count }
         ensures passed { Passed count mode self.old self.new }
@@ -30,7 +30,6 @@ impl Reader {
     /// Takes the bytes at the start of the piece that go on in the number under way: how many.
     fn skip_number(&mut self, piece: &[u8]) -> usize
         requires room { self.old.offset + length piece.now ≤ self.old.limits.bytes }
-        requires small { self.old.limits.bytes ≤ 2 ^ 60 }
         requires number { self.old.mode ≡ NumberOn }
         ensures within { result ≤ length piece.now }
         ensures skips { Skips self.old self.new (take result piece.now) }
@@ -42,7 +41,6 @@ impl Reader {
     /// Takes the bytes at the start of the piece that complete nothing and open or close nothing: how many.
     pub(super) fn skip_quiet(&mut self, piece: &[u8]) -> usize
         requires room { self.old.offset + length piece.now ≤ self.old.limits.bytes }
-        requires small { self.old.limits.bytes ≤ 2 ^ 60 }
         ensures within { result ≤ length piece.now }
         ensures skips { Skips self.old self.new (take result piece.now) }
     {
@@ -64,7 +62,6 @@ impl Reader {
     #[inline(always)]
     pub(super) fn skip_white(&mut self, piece: &[u8]) -> usize
         requires room { self.old.offset + length piece.now ≤ self.old.limits.bytes }
-        requires small { self.old.limits.bytes ≤ 2 ^ 60 }
         ensures within { result ≤ length piece.now }
         ensures skips { Skips self.old self.new (take result piece.now) }
     {
@@ -80,7 +77,6 @@ impl Reader {
     pub(super) fn skip_space(&mut self, piece: &[u8]) -> usize
         requires due { awaits_token self.old.mode ≡ true }
         requires room { self.old.offset + length piece.now ≤ self.old.limits.bytes }
-        requires small { self.old.limits.bytes ≤ 2 ^ 60 }
         ensures within { result ≤ length piece.now }
         ensures skips { Skips self.old self.new (take result piece.now) }
     {
@@ -95,7 +91,6 @@ impl Reader {
     pub(super) fn skip_front(&mut self, piece: &[u8]) -> usize
         requires some { 0 < length piece.now }
         requires room { self.old.offset + length piece.now ≤ self.old.limits.bytes }
-        requires small { self.old.limits.bytes ≤ 2 ^ 60 }
         ensures within { result ≤ length piece.now }
         ensures skips { Skips self.old self.new (take result piece.now) }
     {
@@ -113,10 +108,8 @@ impl Reader {
 
     /// Takes bytes from the start of the piece, one at least: how many.
     fn take_some<S: EventSink>(&mut self, piece: &[u8], sink: &mut S) -> Result<usize, JsonFault>
-        requires live { self.old.fault ≡ None }
+        requires takes { IsOpenFor self.old piece.now }
         requires some { 0 < length piece.now }
-        requires room { self.old.offset + length piece.now ≤ self.old.limits.bytes }
-        requires small { self.old.limits.bytes ≤ 2 ^ 60 }
         ensures within { IfOk result (λ n. (0 < n) × (n ≤ length piece.now)) }
         ensures feeds { MatchResult result (λ n. FeedsAll (S.heard sink.old) (S.heard sink.new) self.old self.new (take n piece.now))
             (FeedsTo (S.heard sink.old) (S.heard sink.new) self.old self.new piece.now) }
@@ -143,9 +136,7 @@ impl Reader {
         piece: &[u8],
         sink: &mut S,
     ) -> Result<usize, JsonFault>
-        requires live { self.old.fault ≡ None }
-        requires room { self.old.offset + length piece.now ≤ self.old.limits.bytes }
-        requires small { self.old.limits.bytes ≤ 2 ^ 60 }
+        requires takes { IsOpenFor self.old piece.now }
         ensures within { IfOk result (λ n. n ≤ length piece.now) }
         ensures feeds { MatchResult result (λ n. FeedsAll (S.heard sink.old) (S.heard sink.new) self.old self.new (take n piece.now))
             (FeedsTo (S.heard sink.old) (S.heard sink.new) self.old self.new piece.now) }
@@ -162,9 +153,7 @@ impl Reader {
         piece: &[u8],
         sink: &mut S,
     ) -> Result<(), JsonFault>
-        requires live { self.old.fault ≡ None }
-        requires room { self.old.offset + length piece.now ≤ self.old.limits.bytes }
-        requires small { self.old.limits.bytes ≤ 2 ^ 60 }
+        requires takes { IsOpenFor self.old piece.now }
         ensures feeds { MatchResult result (λ done. FeedsAll (S.heard sink.old) (S.heard sink.new) self.old self.new piece.now)
             (FeedsTo (S.heard sink.old) (S.heard sink.new) self.old self.new piece.now) }
     {

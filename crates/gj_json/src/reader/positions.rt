@@ -22,6 +22,7 @@ pub(super) fn arrays_before_next(count: usize) -> u8 {
 }
 
 impl Reader {
+    ghost use Rattle.gj_json.specs.Internal.FedReader.{IsOpenFor};
     ghost use Rattle.gj_json.specs.Internal.FedReader.{FeedsAll};
 
     /// Takes the positions at the start of the piece whose arrays have this form and whose numbers have these signs, each with a
@@ -35,11 +36,9 @@ impl Reader {
         sink: &mut S,
     ) -> usize
         requires next { IsDueAt self.old.mode piece.now }
-        requires live { self.old.fault ≡ None }
+        requires takes { IsOpenFor self.old piece.now }
         requires deep { length (levels_in self.old.levels) < self.old.limits.depth }
         requires inner { inner_of (levels_in self.old.levels) ≡ Some Array }
-        requires room { self.old.offset + length piece.now ≤ self.old.limits.bytes }
-        requires small { self.old.limits.bytes ≤ 2 ^ 60 }
         ensures within { result ≤ length piece.now }
         ensures next { IsDueAt self.new.mode (drop result piece.now) }
         ensures levels { self.new.levels ≡ self.old.levels }

@@ -42,16 +42,15 @@ struct Row {
 }
 
 impl Reader {
+    ghost use Rattle.gj_json.specs.Internal.FedReader.{IsOpenFor};
     ghost use Rattle.gj_json.specs.Internal.FedReader.{FeedsAll};
 
     /// Takes the numbers of an array that has just been opened, and its closing bracket.
     #[inline(always)]
     fn take_numbers<S: EventSink>(&mut self, piece: &[u8], sink: &mut S) -> Row
-        requires live { self.old.fault ≡ None }
+        requires takes { IsOpenFor self.old piece.now }
         requires due { awaits self.old.mode ≡ true }
         requires inner { inner_of (levels_in self.old.levels) ≡ Some Array }
-        requires room { self.old.offset + length piece.now ≤ self.old.limits.bytes }
-        requires small { self.old.limits.bytes ≤ 2 ^ 60 }
         ensures within { result.count ≤ length piece.now }
         ensures feeds { FeedsAll (S.heard sink.old) (S.heard sink.new) self.old self.new (take result.count piece.now) }
     {
@@ -97,10 +96,8 @@ impl Reader {
     fn take_row<S: EventSink>(&mut self, piece: &[u8], sink: &mut S) -> Row
         requires some { 0 < length piece.now }
         requires begins { get_or piece.now 0 0 ≡ open_bracket }
-        requires live { self.old.fault ≡ None }
+        requires takes { IsOpenFor self.old piece.now }
         requires due { awaits self.old.mode ≡ true }
-        requires room { self.old.offset + length piece.now ≤ self.old.limits.bytes }
-        requires small { self.old.limits.bytes ≤ 2 ^ 60 }
         ensures within { result.count ≤ length piece.now }
         ensures feeds { FeedsAll (S.heard sink.old) (S.heard sink.new) self.old self.new (take result.count piece.now) }
     {
@@ -127,9 +124,7 @@ impl Reader {
     /// Takes the byte after a value, where the piece begins with it: 1, or 0.
     #[inline(always)]
     fn take_next_end<S: EventSink>(&mut self, piece: &[u8], sink: &mut S) -> usize
-        requires live { self.old.fault ≡ None }
-        requires room { self.old.offset + length piece.now ≤ self.old.limits.bytes }
-        requires small { self.old.limits.bytes ≤ 2 ^ 60 }
+        requires takes { IsOpenFor self.old piece.now }
         ensures within { result ≤ length piece.now }
         ensures feeds { FeedsAll (S.heard sink.old) (S.heard sink.new) self.old self.new (take result piece.now) }
     {
@@ -156,9 +151,7 @@ impl Reader {
     /// so too, since they mostly are alike.
     #[inline(never)]
     pub(super) fn take_rows<S: EventSink>(&mut self, piece: &[u8], sink: &mut S) -> usize
-        requires live { self.old.fault ≡ None }
-        requires room { self.old.offset + length piece.now ≤ self.old.limits.bytes }
-        requires small { self.old.limits.bytes ≤ 2 ^ 60 }
+        requires takes { IsOpenFor self.old piece.now }
         ensures within { result ≤ length piece.now }
         ensures feeds { FeedsAll (S.heard sink.old) (S.heard sink.new) self.old self.new (take result piece.now) }
     {

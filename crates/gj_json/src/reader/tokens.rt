@@ -76,6 +76,7 @@ fn begins_nested(piece: &[u8]) -> bool {
 }
 
 impl Reader {
+    ghost use Rattle.gj_json.specs.Internal.FedReader.{IsOpenFor};
     ghost use Rattle.gj_json.specs.declared.event.Event.{Event};
     ghost use Rattle.gj_json.specs.Internal.FedReader.{Passed, FeedsAll, FeedsAny, FeedsToken};
     ghost use Rattle.gj_json.specs.Internal.WholeTokens.{Lands};
@@ -85,10 +86,8 @@ impl Reader {
     fn take_plain_text<S: EventSink>(&mut self, piece: &[u8], sink: &mut S) -> usize
         requires some { 0 < length piece.now }
         requires begins { get_or piece.now 0 0 ≡ quote }
-        requires live { self.old.fault ≡ None }
+        requires takes { IsOpenFor self.old piece.now }
         requires due { awaits self.old.mode ≡ true }
-        requires room { self.old.offset + length piece.now ≤ self.old.limits.bytes }
-        requires small { self.old.limits.bytes ≤ 2 ^ 60 }
         ensures within { result ≤ length piece.now }
         ensures passed { 0 < result → Passed result ValueDone self.old self.new }
         ensures feeds { FeedsAll (S.heard sink.old) (S.heard sink.new) self.old self.new (take result piece.now) }
@@ -109,10 +108,8 @@ impl Reader {
     fn take_text<S: EventSink>(&mut self, piece: &[u8], sink: &mut S) -> usize
         requires some { 0 < length piece.now }
         requires begins { get_or piece.now 0 0 ≡ quote }
-        requires live { self.old.fault ≡ None }
+        requires takes { IsOpenFor self.old piece.now }
         requires due { awaits self.old.mode ≡ true }
-        requires room { self.old.offset + length piece.now ≤ self.old.limits.bytes }
-        requires small { self.old.limits.bytes ≤ 2 ^ 60 }
         ensures within { result ≤ length piece.now }
         ensures passed { 0 < result → Passed result ValueDone self.old self.new }
         ensures feeds { FeedsAll (S.heard sink.old) (S.heard sink.new) self.old self.new (take result piece.now) }
@@ -133,10 +130,8 @@ impl Reader {
     fn pass_text(&mut self, piece: &[u8]) -> usize
         requires some { 0 < length piece.now }
         requires begins { get_or piece.now 0 0 ≡ quote }
-        requires live { self.old.fault ≡ None }
+        requires takes { IsOpenFor self.old piece.now }
         requires due { awaits self.old.mode ≡ true }
-        requires room { self.old.offset + length piece.now ≤ self.old.limits.bytes }
-        requires small { self.old.limits.bytes ≤ 2 ^ 60 }
         ensures within { result ≤ length piece.now }
         ensures passed { 0 < result → Passed result ValueDone self.old self.new }
         ensures feeds { FeedsAny self.old self.new (take result piece.now) }
@@ -153,10 +148,8 @@ impl Reader {
     fn take_string<S: EventSink, const HEARS: bool>(&mut self, piece: &[u8], sink: &mut S) -> usize
         requires some { 0 < length piece.now }
         requires begins { get_or piece.now 0 0 ≡ quote }
-        requires live { self.old.fault ≡ None }
+        requires takes { IsOpenFor self.old piece.now }
         requires due { awaits self.old.mode ≡ true }
-        requires room { self.old.offset + length piece.now ≤ self.old.limits.bytes }
-        requires small { self.old.limits.bytes ≤ 2 ^ 60 }
         ensures within { result ≤ length piece.now }
         ensures passed { 0 < result → Passed result ValueDone self.old self.new }
         ensures feeds { FeedsToken HEARS (S.heard sink.old) (S.heard sink.new) self.old self.new (take result piece.now) }
@@ -172,10 +165,8 @@ impl Reader {
     #[inline(never)]
     pub(super) fn take_plain_name<S: EventSink>(&mut self, piece: &[u8], sink: &mut S) -> usize
         requires some { 0 < length piece.now }
-        requires live { self.old.fault ≡ None }
+        requires takes { IsOpenFor self.old piece.now }
         requires due { names self.old.mode ≡ true }
-        requires room { self.old.offset + length piece.now ≤ self.old.limits.bytes }
-        requires small { self.old.limits.bytes ≤ 2 ^ 60 }
         ensures within { result ≤ length piece.now }
         ensures mode { 0 < result → self.new.mode ≡ ValueDue }
         ensures feeds { FeedsAll (S.heard sink.old) (S.heard sink.new) self.old self.new (take result piece.now) }
@@ -203,10 +194,8 @@ impl Reader {
     pub(super) fn pass_name(&mut self, piece: &[u8]) -> usize
         requires some { 0 < length piece.now }
         requires begins { get_or piece.now 0 0 ≡ quote }
-        requires live { self.old.fault ≡ None }
+        requires takes { IsOpenFor self.old piece.now }
         requires due { names self.old.mode ≡ true }
-        requires room { self.old.offset + length piece.now ≤ self.old.limits.bytes }
-        requires small { self.old.limits.bytes ≤ 2 ^ 60 }
         ensures within { result ≤ length piece.now }
         ensures mode { 0 < result → self.new.mode ≡ ValueDue }
         ensures levels { self.new.levels ≡ self.old.levels }
@@ -227,10 +216,8 @@ impl Reader {
     #[inline(always)]
     pub(super) fn take_named<S: EventSink>(&mut self, piece: &[u8], sink: &mut S) -> usize
         requires some { 0 < length piece.now }
-        requires live { self.old.fault ≡ None }
+        requires takes { IsOpenFor self.old piece.now }
         requires due { names self.old.mode ≡ true }
-        requires room { self.old.offset + length piece.now ≤ self.old.limits.bytes }
-        requires small { self.old.limits.bytes ≤ 2 ^ 60 }
         ensures within { result ≤ length piece.now }
         ensures mode { 0 < result → self.new.mode ≡ ValueDue }
         ensures feeds { FeedsAll (S.heard sink.old) (S.heard sink.new) self.old self.new (take result piece.now) }
@@ -250,10 +237,8 @@ impl Reader {
     /// Takes the literal name, and the byte after it: how many bytes, or 0.
     #[inline(always)]
     fn take_constant<S: EventSink>(&mut self, which: Constant, piece: &[u8], sink: &mut S) -> usize
-        requires live { self.old.fault ≡ None }
+        requires takes { IsOpenFor self.old piece.now }
         requires due { awaits self.old.mode ≡ true }
-        requires room { self.old.offset + length piece.now ≤ self.old.limits.bytes }
-        requires small { self.old.limits.bytes ≤ 2 ^ 60 }
         ensures within { result ≤ length piece.now }
         ensures feeds { FeedsAll (S.heard sink.old) (S.heard sink.new) self.old self.new (take result piece.now) }
         ensures any { FeedsAny self.old self.new (take result piece.now) }
@@ -283,10 +268,8 @@ impl Reader {
     ) -> usize
         requires some { 0 < length piece.now }
         requires begins { get_or piece.now 0 0 ≡ bracket_of level }
-        requires live { self.old.fault ≡ None }
+        requires takes { IsOpenFor self.old piece.now }
         requires due { may_begin self.old.mode ≡ true }
-        requires room { self.old.offset + length piece.now ≤ self.old.limits.bytes }
-        requires small { self.old.limits.bytes ≤ 2 ^ 60 }
         ensures within { result ≤ length piece.now }
         ensures lands { 0 < result → Lands 1 (opened level) (level ∷ levels_in self.old.levels) self.old self.new }
         ensures feeds { FeedsAll (S.heard sink.old) (S.heard sink.new) self.old self.new (take result piece.now) }
@@ -313,7 +296,6 @@ impl Reader {
     ) -> usize
         requires some { 0 < count }
         requires room { self.old.offset + count ≤ self.old.limits.bytes }
-        requires small { self.old.limits.bytes ≤ 2 ^ 60 }
         ensures count { result ≡ count }
         ensures lands { Lands count ValueDone (outer_of (levels_in self.old.levels)) self.old self.new }
         ensures heard { (events : List Event) → S.heard sink.old events
@@ -340,10 +322,8 @@ impl Reader {
         requires within { count < length piece.now }
         requires number { IsNumber (take count piece.now) }
         requires value { HEARS ≡ true → value_of (take count piece.now) ≡ value }
-        requires live { self.old.fault ≡ None }
+        requires takes { IsOpenFor self.old piece.now }
         requires due { awaits self.old.mode ≡ true }
-        requires room { self.old.offset + length piece.now ≤ self.old.limits.bytes }
-        requires small { self.old.limits.bytes ≤ 2 ^ 60 }
         ensures within { result ≤ length piece.now }
         ensures feeds { FeedsToken HEARS (S.heard sink.old) (S.heard sink.new) self.old self.new (take result piece.now) }
     {
@@ -384,10 +364,8 @@ impl Reader {
         piece: &[u8],
         sink: &mut S,
     ) -> usize
-        requires live { self.old.fault ≡ None }
+        requires takes { IsOpenFor self.old piece.now }
         requires due { awaits self.old.mode ≡ true }
-        requires room { self.old.offset + length piece.now ≤ self.old.limits.bytes }
-        requires small { self.old.limits.bytes ≤ 2 ^ 60 }
         ensures within { result ≤ length piece.now }
         ensures feeds { FeedsToken HEARS (S.heard sink.old) (S.heard sink.new) self.old self.new (take result piece.now) }
     {
@@ -402,10 +380,8 @@ impl Reader {
     /// Takes a number and the byte after it, at once where it is an ordinary one: how many bytes, or 0.
     #[inline(always)]
     fn take_number<S: EventSink, const HEARS: bool>(&mut self, piece: &[u8], sink: &mut S) -> usize
-        requires live { self.old.fault ≡ None }
+        requires takes { IsOpenFor self.old piece.now }
         requires due { awaits self.old.mode ≡ true }
-        requires room { self.old.offset + length piece.now ≤ self.old.limits.bytes }
-        requires small { self.old.limits.bytes ≤ 2 ^ 60 }
         ensures within { result ≤ length piece.now }
         ensures feeds { FeedsToken HEARS (S.heard sink.old) (S.heard sink.new) self.old self.new (take result piece.now) }
     {
@@ -433,10 +409,8 @@ impl Reader {
     #[inline(always)]
     pub(super) fn take_end<S: EventSink>(&mut self, piece: &[u8], sink: &mut S) -> usize
         requires some { 0 < length piece.now }
-        requires live { self.old.fault ≡ None }
+        requires takes { IsOpenFor self.old piece.now }
         requires done { self.old.mode ≡ ValueDone }
-        requires room { self.old.offset + length piece.now ≤ self.old.limits.bytes }
-        requires small { self.old.limits.bytes ≤ 2 ^ 60 }
         ensures within { result ≤ length piece.now }
         ensures feeds { FeedsAll (S.heard sink.old) (S.heard sink.new) self.old self.new (take result piece.now) }
         ensures any { FeedsAny self.old self.new (take result piece.now) }
@@ -463,10 +437,8 @@ impl Reader {
     fn take_array<S: EventSink>(&mut self, piece: &[u8], sink: &mut S) -> usize
         requires some { 0 < length piece.now }
         requires begins { get_or piece.now 0 0 ≡ open_bracket }
-        requires live { self.old.fault ≡ None }
+        requires takes { IsOpenFor self.old piece.now }
         requires due { awaits self.old.mode ≡ true }
-        requires room { self.old.offset + length piece.now ≤ self.old.limits.bytes }
-        requires small { self.old.limits.bytes ≤ 2 ^ 60 }
         ensures within { result ≤ length piece.now }
         ensures feeds { FeedsAll (S.heard sink.old) (S.heard sink.new) self.old self.new (take result piece.now) }
     {
@@ -488,10 +460,8 @@ impl Reader {
         sink: &mut S,
     ) -> usize
         requires some { 0 < length piece.now }
-        requires live { self.old.fault ≡ None }
+        requires takes { IsOpenFor self.old piece.now }
         requires due { awaits self.old.mode ≡ true }
-        requires room { self.old.offset + length piece.now ≤ self.old.limits.bytes }
-        requires small { self.old.limits.bytes ≤ 2 ^ 60 }
         ensures within { result ≤ length piece.now }
         ensures feeds { FeedsToken HEARS (S.heard sink.old) (S.heard sink.new) self.old self.new (take result piece.now) }
     {
@@ -529,9 +499,7 @@ impl Reader {
     #[inline(never)]
     pub(super) fn take_white<S: EventSink>(&mut self, piece: &[u8], sink: &mut S) -> usize
         requires some { 0 < length piece.now }
-        requires live { self.old.fault ≡ None }
-        requires room { self.old.offset + length piece.now ≤ self.old.limits.bytes }
-        requires small { self.old.limits.bytes ≤ 2 ^ 60 }
+        requires takes { IsOpenFor self.old piece.now }
         ensures within { result ≤ length piece.now }
         ensures feeds { FeedsAll (S.heard sink.old) (S.heard sink.new) self.old self.new (take result piece.now) }
         ensures any { FeedsAny self.old self.new (take result piece.now) }
@@ -549,9 +517,7 @@ impl Reader {
     #[inline(always)]
     pub(super) fn take_gap<S: EventSink>(&mut self, piece: &[u8], sink: &mut S) -> usize
         requires some { 0 < length piece.now }
-        requires live { self.old.fault ≡ None }
-        requires room { self.old.offset + length piece.now ≤ self.old.limits.bytes }
-        requires small { self.old.limits.bytes ≤ 2 ^ 60 }
+        requires takes { IsOpenFor self.old piece.now }
         ensures within { result ≤ length piece.now }
         ensures feeds { FeedsAll (S.heard sink.old) (S.heard sink.new) self.old self.new (take result piece.now) }
         ensures any { FeedsAny self.old self.new (take result piece.now) }
@@ -562,53 +528,12 @@ impl Reader {
         self.take_white(piece, sink)
     }
 
-    /// Takes the beginning of an object, and the whole tokens in it where their events do not matter to the sink: how many bytes,
-    /// or 0.
-    #[inline(always)]
-    fn take_object_within<S: EventSink>(&mut self, piece: &[u8], sink: &mut S) -> usize
-        requires some { 0 < length piece.now }
-        requires begins { get_or piece.now 0 0 ≡ open_brace }
-        requires live { self.old.fault ≡ None }
-        requires due { awaits self.old.mode ≡ true }
-        requires room { self.old.offset + length piece.now ≤ self.old.limits.bytes }
-        requires small { self.old.limits.bytes ≤ 2 ^ 60 }
-        ensures within { result ≤ length piece.now }
-        ensures feeds { FeedsAll (S.heard sink.old) (S.heard sink.new) self.old self.new (take result piece.now) }
-    {
-        let opened = self.take_object(piece, sink);
-        if opened == 0 || sink.ignored() == 0 {
-            return opened;
-        }
-        opened + self.pass_ignored(&piece[opened..], sink)
-    }
-
-    /// As `take_value`, which is not inlined: here the usual kinds of value are distinguished before that call.
-    #[inline(always)]
-    fn take_usual_value<S: EventSink>(&mut self, piece: &[u8], sink: &mut S) -> usize
-        requires some { 0 < length piece.now }
-        requires live { self.old.fault ≡ None }
-        requires due { awaits self.old.mode ≡ true }
-        requires room { self.old.offset + length piece.now ≤ self.old.limits.bytes }
-        requires small { self.old.limits.bytes ≤ 2 ^ 60 }
-        ensures within { result ≤ length piece.now }
-        ensures feeds { FeedsAll (S.heard sink.old) (S.heard sink.new) self.old self.new (take result piece.now) }
-    {
-        match piece[0] {
-            b'{' => self.take_object_within(piece, sink),
-            b'[' => self.take_array(piece, sink),
-            b'n' => self.take_constant(Constant::Null, piece, sink),
-            _ => self.take_value::<S, true>(piece, sink),
-        }
-    }
-
     /// Takes a token that is whole at the start of the piece, or the white space there: how many bytes, or 0 where there is
     /// none or no event matters to the sink.
     #[inline(always)]
     fn take_token<S: EventSink>(&mut self, piece: &[u8], sink: &mut S) -> usize
         requires some { 0 < length piece.now }
-        requires live { self.old.fault ≡ None }
-        requires room { self.old.offset + length piece.now ≤ self.old.limits.bytes }
-        requires small { self.old.limits.bytes ≤ 2 ^ 60 }
+        requires takes { IsOpenFor self.old piece.now }
         ensures within { result ≤ length piece.now }
         ensures feeds { FeedsAll (S.heard sink.old) (S.heard sink.new) self.old self.new (take result piece.now) }
     {
@@ -625,13 +550,13 @@ impl Reader {
                 if named == piece.len() || !is_due(self.mode) {
                     return named;
                 }
-                named + self.take_usual_value(&piece[named..], sink)
+                named + self.take_value::<S, true>(&piece[named..], sink)
             }
             Mode::ValueDue | Mode::ArrayOpened => {
                 if sink.ignored() > 0 {
                     return 0;
                 }
-                self.take_usual_value(piece, sink)
+                self.take_value::<S, true>(piece, sink)
             }
             _ => 0,
         }
@@ -659,9 +584,7 @@ impl Reader {
     /// sink: how many bytes.
     #[inline(never)]
     pub(super) fn take_tokens<S: EventSink>(&mut self, piece: &[u8], sink: &mut S) -> usize
-        requires live { self.old.fault ≡ None }
-        requires room { self.old.offset + length piece.now ≤ self.old.limits.bytes }
-        requires small { self.old.limits.bytes ≤ 2 ^ 60 }
+        requires takes { IsOpenFor self.old piece.now }
         ensures within { result ≤ length piece.now }
         ensures feeds { FeedsAll (S.heard sink.old) (S.heard sink.new) self.old self.new (take result piece.now) }
     {
@@ -683,9 +606,7 @@ impl Reader {
     #[inline(always)]
     fn take_beginning<S: EventSink>(&mut self, piece: &[u8], sink: &mut S) -> usize
         requires some { 0 < length piece.now }
-        requires live { self.old.fault ≡ None }
-        requires room { self.old.offset + length piece.now ≤ self.old.limits.bytes }
-        requires small { self.old.limits.bytes ≤ 2 ^ 60 }
+        requires takes { IsOpenFor self.old piece.now }
         ensures within { result ≤ length piece.now }
         ensures feeds { FeedsAll (S.heard sink.old) (S.heard sink.new) self.old self.new (take result piece.now) }
     {
@@ -705,9 +626,7 @@ impl Reader {
     /// at once none where no token is due or the piece is short.
     #[inline(always)]
     pub(super) fn take_if_token<S: EventSink>(&mut self, piece: &[u8], sink: &mut S) -> usize
-        requires live { self.old.fault ≡ None }
-        requires room { self.old.offset + length piece.now ≤ self.old.limits.bytes }
-        requires small { self.old.limits.bytes ≤ 2 ^ 60 }
+        requires takes { IsOpenFor self.old piece.now }
         ensures within { result ≤ length piece.now }
         ensures feeds { FeedsAll (S.heard sink.old) (S.heard sink.new) self.old self.new (take result piece.now) }
     {

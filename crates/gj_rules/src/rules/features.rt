@@ -57,7 +57,7 @@ impl<const FRAMES: usize> FramedRules<FRAMES> {
         ensures mode { IsTrue result → self.now.mode ≡ Mode.Names }
         ensures clean { IsTrue result → settled (core_of self.now).top ≡ none_found }
     {
-        if !self.is_at_names() {
+        if !self.awaits(Mode::Names) {
             return false;
         }
         self.frames[self.around as usize].is_clean_element()

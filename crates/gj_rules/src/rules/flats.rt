@@ -14,21 +14,6 @@ impl<const FRAMES: usize> FramedRules<FRAMES> {
     ghost use Rattle.gj_rules.specs.Internal.RulesState.{FeedsMany};
     ghost use Rattle.gj_rules.specs.Rules.{StandsFor};
 
-    /// Whether the next event goes to the summary of a `coordinates`.
-    #[inline]
-    pub(super) fn is_in_coordinates(&self) -> bool
-        ensures skipped { IsTrue result → self.now.skipped ≡ 0 }
-        ensures mode { IsTrue result → self.now.mode ≡ Mode.Due Known.Coordinates }
-    {
-        if self.skipped > 0 {
-            return false;
-        }
-        match self.mode {
-            Mode::Due(Known::Coordinates) => true,
-            _ => false,
-        }
-    }
-
     /// An array of numbers in the value of `coordinates`.
     #[inline(always)]
     pub(super) fn feed_flat(&mut self, flat: &Flat)

@@ -13,36 +13,6 @@ use gj_json::{Known, Located, Opened, Typed, What};
 impl<const FRAMES: usize> FramedRules<FRAMES> {
     ghost use Rattle.gj_rules.specs.Rules.{StandsFor};
 
-    /// Whether an object that opens next is the value of a member `geometry`.
-    #[inline(always)]
-    fn is_at_geometry(&self) -> bool
-        ensures skipped { IsTrue result → self.now.skipped ≡ 0 }
-        ensures mode { IsTrue result → self.now.mode ≡ Mode.Due Known.Geometry }
-    {
-        if self.skipped > 0 {
-            return false;
-        }
-        match self.mode {
-            Mode::Due(Known::Geometry) => true,
-            _ => false,
-        }
-    }
-
-    /// Whether an object that opens next is a feature.
-    #[inline(always)]
-    fn is_at_features(&self) -> bool
-        ensures skipped { IsTrue result → self.now.skipped ≡ 0 }
-        ensures mode { IsTrue result → self.now.mode ≡ Mode.Elements Role.Feature }
-    {
-        if self.skipped > 0 {
-            return false;
-        }
-        match self.mode {
-            Mode::Elements(Role::Feature) => true,
-            _ => false,
-        }
-    }
-
     /// A geometry opens.
     #[inline(always)]
     fn open_geometry(&mut self, place: u64)
@@ -79,7 +49,7 @@ impl<const FRAMES: usize> FramedRules<FRAMES> {
     pub(crate) fn tell_typed(&mut self, typed: &Typed)
         ensures { (events : List Event) → StandsFor self.old events → StandsFor self.new (events ++ typed_events typed.now) }
     {
-        if self.is_at_features() {
+        if self.awaits(Mode::Elements(Role::Feature)) {
             self.open_feature(typed.place);
             self.tell_type(typed);
         } else {
@@ -102,28 +72,13 @@ impl<const FRAMES: usize> FramedRules<FRAMES> {
         ensures { (events : List Event) → StandsFor self.old events → StandsFor self.new (events ++ located_events located.now) }
     {
         self.tell_member(Known::Geometry, located.place);
-        if self.is_at_geometry() {
+        if self.awaits(Mode::Due(Known::Geometry)) {
             self.open_geometry(located.typed.place);
             self.tell_type(&located.typed);
         } else {
             self.tell_inner_typed(&located.typed);
         }
         self.tell_member(Known::Coordinates, located.coordinates);
-    }
-
-    /// Whether a value that comes next is that of the first member `properties`.
-    #[inline(always)]
-    fn is_at_properties(&self) -> bool
-        ensures skipped { IsTrue result → self.now.skipped ≡ 0 }
-        ensures mode { IsTrue result → self.now.mode ≡ Mode.Due Known.Properties }
-    {
-        if self.skipped > 0 {
-            return false;
-        }
-        match self.mode {
-            Mode::Due(Known::Properties) => true,
-            _ => false,
-        }
     }
 
     /// The object of a member `properties` opens.
@@ -142,7 +97,7 @@ impl<const FRAMES: usize> FramedRules<FRAMES> {
         ensures { (events : List Event) → StandsFor self.old events → StandsFor self.new (events ++ opened_events opened.now) }
     {
         self.tell_member(Known::Properties, opened.place);
-        if self.is_at_properties() {
+        if self.awaits(Mode::Due(Known::Properties)) {
             self.open_properties(opened.bracket);
         } else {
             self.tell_open_object(opened.bracket);

@@ -23,27 +23,12 @@ impl<const FRAMES: usize> FramedRules<FRAMES> {
         }
     }
 
-    /// Whether a name or the end of an object with a role is due.
-    #[inline(always)]
-    pub(super) fn is_at_names(&self) -> bool
-        ensures skipped { IsTrue result → self.now.skipped ≡ 0 }
-        ensures mode { IsTrue result → self.now.mode ≡ Mode.Names }
-    {
-        if self.skipped > 0 {
-            return false;
-        }
-        match self.mode {
-            Mode::Names => true,
-            _ => false,
-        }
-    }
-
     /// A name. Mostly it is one of an object with a role.
     #[inline(always)]
     pub(super) fn tell_member(&mut self, name: Known, place: u64)
         ensures { (events : List Event) → StandsFor self.old events → StandsFor self.new (events ++ record { place = place; what = W.Name name } ∷ []) }
     {
-        if self.is_at_names() {
+        if self.awaits(Mode::Names) {
             self.names(What::Name(name), place);
         } else {
             self.tell_inner_name(name, place);
@@ -72,27 +57,12 @@ impl<const FRAMES: usize> FramedRules<FRAMES> {
         self.tell_what(What::Text(word), place);
     }
 
-    /// Whether the value of a `type` is due.
-    #[inline(always)]
-    fn is_at_type(&self) -> bool
-        ensures skipped { IsTrue result → self.now.skipped ≡ 0 }
-        ensures mode { IsTrue result → self.now.mode ≡ Mode.Due Known.TypeName }
-    {
-        if self.skipped > 0 {
-            return false;
-        }
-        match self.mode {
-            Mode::Due(Known::TypeName) => true,
-            _ => false,
-        }
-    }
-
     /// A string right after a name `type`. Mostly it is the type of an object with a role.
     #[inline(always)]
     pub(super) fn tell_type_value(&mut self, word: Word, place: u64)
         ensures { (events : List Event) → StandsFor self.old events → StandsFor self.new (events ++ record { place = place; what = W.Text word } ∷ []) }
     {
-        if self.is_at_type() {
+        if self.awaits(Mode::Due(Known::TypeName)) {
             self.value(Known::TypeName, What::Text(word), place);
         } else {
             self.tell_text(word, place);
@@ -111,7 +81,7 @@ impl<const FRAMES: usize> FramedRules<FRAMES> {
     pub(super) fn tell_close_object(&mut self, place: u64)
         ensures { (events : List Event) → StandsFor self.old events → StandsFor self.new (events ++ record { place = place; what = W.CloseObject } ∷ []) }
     {
-        if self.is_at_names() {
+        if self.awaits(Mode::Names) {
             self.names(What::CloseObject, place);
         } else {
             self.tell_inner_close(place);
@@ -142,7 +112,7 @@ impl<const FRAMES: usize> FramedRules<FRAMES> {
     fn tell_number(&mut self, value: &Option<Decimal>, place: u64)
         ensures { (events : List Event) → StandsFor self.old events → StandsFor self.new (events ++ record { place = place; what = W.Number value.now } ∷ []) }
     {
-        if self.is_in_coordinates() {
+        if self.awaits(Mode::Due(Known::Coordinates)) {
             self.feed_number(value, place);
         } else {
             self.tell_inner_number(value, place);
@@ -185,7 +155,7 @@ impl<const FRAMES: usize> FramedRules<FRAMES> {
     pub(super) fn tell_open_array(&mut self, place: u64)
         ensures { (events : List Event) → StandsFor self.old events → StandsFor self.new (events ++ record { place = place; what = W.OpenArray } ∷ []) }
     {
-        if self.is_in_coordinates() {
+        if self.awaits(Mode::Due(Known::Coordinates)) {
             self.feed_open_array(place);
         } else {
             self.tell_inner_open_array(place);
@@ -204,7 +174,7 @@ impl<const FRAMES: usize> FramedRules<FRAMES> {
     pub(super) fn tell_close_array(&mut self, place: u64)
         ensures { (events : List Event) → StandsFor self.old events → StandsFor self.new (events ++ record { place = place; what = W.CloseArray } ∷ []) }
     {
-        if self.is_in_coordinates() {
+        if self.awaits(Mode::Due(Known::Coordinates)) {
             self.feed_close_array(place);
         } else {
             self.tell_inner_close_array(place);

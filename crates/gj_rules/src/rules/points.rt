@@ -30,7 +30,7 @@ impl<const FRAMES: usize> FramedRules<FRAMES> {
         ensures mode { IsTrue result → self.now.mode ≡ Mode.Names }
         ensures due { IsTrue result → due_after Known.Geometry (core_of self.now).top ≡ Known.Geometry }
     {
-        self.is_at_names() && self.awaits_geometry()
+        self.awaits(Mode::Names) && self.awaits_geometry()
     }
 
     /// Takes such a Point: all that it shows of the object around is the name of its member, and what deserves a warning in its

@@ -18,7 +18,7 @@ returns-in-Some-Array-clause-feeds g c =
     sym c.inner.ensures ∙ c.in-Some-Array.is ∙ ap (λ (x : Level). Some x) c.in-Some-Array.field-0-is in
     let made = comma_ends (inner_of (levels_in c.args.self.now.levels)) (get_or c.args.piece.now n 0) Array ValueDue inner c.if-piece-count-eq44.true refl in
     rw (c.skip.ensures.count)
-    (number_token _ _ _ c.args.self.now c.skip.new.self c.args.piece.now n c.args.value c.requires.live c.requires.due c.requires.room
+    (number_token _ _ _ c.args.self.now c.skip.new.self c.args.piece.now n c.args.value c.requires.takes.0 c.requires.due c.requires.takes.1
     c.requires.within c.requires.number c.requires.value ValueDue Item made c.skip.ensures.passed
     (λ events h. c.tell.ensures events h))
 
@@ -29,7 +29,7 @@ returns-in-Some-Object-clause-feeds g c =
     sym c.inner.ensures ∙ c.in-Some-Object.is ∙ ap (λ (x : Level). Some x) c.in-Some-Object.field-0-is in
     let made = comma_ends (inner_of (levels_in c.args.self.now.levels)) (get_or c.args.piece.now n 0) Object NameDue inner c.if-piece-count-eq44.true refl in
     rw (c.skip-in-Some-Object.ensures.count)
-    (number_token _ _ _ c.args.self.now c.skip-in-Some-Object.new.self c.args.piece.now n c.args.value c.requires.live c.requires.due c.requires.room
+    (number_token _ _ _ c.args.self.now c.skip-in-Some-Object.new.self c.args.piece.now n c.args.value c.requires.takes.0 c.requires.due c.requires.takes.1
     c.requires.within c.requires.number c.requires.value NameDue Item made c.skip-in-Some-Object.ensures.passed
     (λ events h. c.tell-in-Some-Object.ensures events h))
 
@@ -39,7 +39,7 @@ returns-in-Go-clause-feeds g c =
     let made : after_move (inner_of (levels_in c.args.self.now.levels)) (class_of (get_or c.args.piece.now n 0)) ≡ Go c.in-Go.mode c.in-Go.field-1 =
     ap (λ i. after_move i (class_of (get_or c.args.piece.now n 0))) (sym c.inner-2.ensures) ∙ sym c.after_value.ensures.value ∙ c.in-Go.is in
     rw (c.skip-in-Go.ensures.count)
-    (number_token _ _ _ c.args.self.now c.skip-in-Go.new.self c.args.piece.now n c.args.value c.requires.live c.requires.due c.requires.room
+    (number_token _ _ _ c.args.self.now c.skip-in-Go.new.self c.args.piece.now n c.args.value c.requires.takes.0 c.requires.due c.requires.takes.1
     c.requires.within c.requires.number c.requires.value c.in-Go.mode c.in-Go.field-1 made c.skip-in-Go.ensures.passed
     (λ events h. c.tell-in-Go.ensures events h))
 
@@ -49,12 +49,12 @@ returns-in-Close-clause-feeds g c =
     let made : after_move (inner_of (levels_in c.args.self.now.levels)) (class_of (get_or c.args.piece.now n 0)) ≡ Close c.in-Close.level =
     ap (λ i. after_move i (class_of (get_or c.args.piece.now n 0))) (sym c.inner-2.ensures) ∙ sym c.after_value.ensures.value ∙ c.in-Close.is in
     rw (c.take_close.ensures.count)
-    (ended_token _ _ _ c.args.self.now c.take_close.new.self c.args.piece.now n c.args.value c.requires.live c.requires.due c.requires.room
+    (ended_token _ _ _ c.args.self.now c.take_close.new.self c.args.piece.now n c.args.value c.requires.takes.0 c.requires.due c.requires.takes.1
     c.requires.within c.requires.number c.requires.value c.in-Close.level made c.take_close.ensures.lands
     (λ events h. rw append_assoc at (c.take_close.ensures.heard _ (c.tell-in-Close.ensures events h))))
 
 pub returns-in-None-clause-feeds : goal.returns-in-None-clause-feeds
-returns-in-None-clause-feeds g c = token_none _ _ c.args.self.now c.requires.live
+returns-in-None-clause-feeds g c = token_none _ _ c.args.self.now c.requires.takes.0
 
 pub returns-in_default-clause-feeds : goal.returns-in_default-clause-feeds
-returns-in_default-clause-feeds g c = token_none _ _ c.args.self.now c.requires.live
+returns-in_default-clause-feeds g c = token_none _ _ c.args.self.now c.requires.takes.0

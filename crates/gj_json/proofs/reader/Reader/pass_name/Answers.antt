@@ -18,5 +18,5 @@ returns-clause-feeds c =
     rw (c.skip.ensures.count)
     (any_level c.args.self.now c.skip.new.self (take (q.result + k.result) c.args.piece.now) es
     (named_taken {before = λ events. events ≡ []} {after = λ events. events ≡ es} c.args.self.now c.skip.new.self c.args.piece.now q.result k.result
-    c.requires.live c.requires.due c.requires.room q.ensures.within quoted k.ensures.within (k.ensures.leads (omega arith)) c.skip.ensures.passed
+    c.requires.takes.0 c.requires.due c.requires.takes.1 q.ensures.within quoted k.ensures.within (k.ensures.leads (omega arith)) c.skip.ensures.passed
     (from_none es)) (λ k. refl) (ap levels_in c.skip.ensures.passed.levels))

@@ -29,10 +29,10 @@ returns-then-piece-end-eq32-clause-feeds c =
     let made = comma_ends (inner_of (levels_in reader.levels)) (get_or piece (c.args.value + q.result) 0) Object NameDue
     (c.is_in_object.ensures c.if-is_in_object.true) c.if-piece-end-eq44.true refl in
     rw (c.skip.ensures.count)
-    (subst Q e (space_any reader new piece at r.live r.room within c.if-piece-end-eq32.true passed
-    (named_goes reader (before_space reader new piece at r.live r.room within c.if-piece-end-eq32.true passed) piece
-    c.args.name c.args.value q.result r.live r.due r.room r.quoted r.colon r.between (omega arith) (q.ensures.scalar (omega arith)) NameDue Item made
-    (to_space reader new piece at r.live r.room within c.if-piece-end-eq32.true passed))))
+    (subst Q e (space_any reader new piece at r.takes.0 r.takes.1 within c.if-piece-end-eq32.true passed
+    (named_goes reader (before_space reader new piece at r.takes.0 r.takes.1 within c.if-piece-end-eq32.true passed) piece
+    c.args.name c.args.value q.result r.takes.0 r.due r.takes.1 r.quoted r.colon r.between (omega arith) (q.ensures.scalar (omega arith)) NameDue Item made
+    (to_space reader new piece at r.takes.0 r.takes.1 within c.if-piece-end-eq32.true passed))))
 
 pub returns-then-piece-end-eq44-clause-feeds : goal.returns-then-piece-end-eq44-clause-feeds
 returns-then-piece-end-eq44-clause-feeds c =
@@ -41,7 +41,7 @@ returns-then-piece-end-eq44-clause-feeds c =
     let made = comma_ends (inner_of (levels_in c.args.self.now.levels)) (get_or c.args.piece.now (c.args.value + q.result) 0) Object NameDue
     (c.is_in_object.ensures c.if-is_in_object.true) c.if-piece-end-eq44.true refl in
     rw (c.skip-then-piece-end-eq44.ensures.count)
-    (named_goes c.args.self.now c.skip-then-piece-end-eq44.new.self c.args.piece.now c.args.name c.args.value q.result r.live r.due r.room
+    (named_goes c.args.self.now c.skip-then-piece-end-eq44.new.self c.args.piece.now c.args.name c.args.value q.result r.takes.0 r.due r.takes.1
     r.quoted r.colon r.between (omega arith) (q.ensures.scalar (omega arith)) NameDue Item made c.skip-then-piece-end-eq44.ensures.passed)
 
 pub returns-then-piece-end-eq125-clause-feeds : goal.returns-then-piece-end-eq125-clause-feeds
@@ -51,7 +51,7 @@ returns-then-piece-end-eq125-clause-feeds c =
     let made = brace_closes (inner_of (levels_in c.args.self.now.levels)) (get_or c.args.piece.now (c.args.value + q.result) 0)
     (c.is_in_object.ensures c.if-is_in_object.true) c.if-piece-end-eq125.true in
     rw (c.take_close.ensures.count)
-    (named_closes c.args.self.now c.take_close.new.self c.args.piece.now c.args.name c.args.value q.result r.live r.due r.room r.quoted r.colon r.between
+    (named_closes c.args.self.now c.take_close.new.self c.args.piece.now c.args.name c.args.value q.result r.takes.0 r.due r.takes.1 r.quoted r.colon r.between
     (omega arith) (q.ensures.scalar (omega arith)) Object made c.take_close.ensures.lands)
 
 pub returns-then-piece-end-eq125-2-clause-feeds : goal.returns-then-piece-end-eq125-2-clause-feeds
@@ -73,9 +73,9 @@ returns-then-piece-end-eq125-2-clause-feeds c =
     ap (λ ls. inner_of (levels_in ls)) passed.levels ∙ c.is_in_object.ensures c.if-is_in_object.true in
     rw (close.ensures.count)
     (any_then c.args.self.now mid close.new.self piece (at + 1) 1 (omega (arith, ap (λ ls. length (levels_in ls)) passed.levels))
-    (named_goes c.args.self.now mid piece c.args.name c.args.value q.result r.live r.due r.room r.quoted r.colon r.between (omega arith)
+    (named_goes c.args.self.now mid piece c.args.name c.args.value q.result r.takes.0 r.due r.takes.1 r.quoted r.colon r.between (omega arith)
     (q.ensures.scalar (omega arith)) ValueDone Nothing (white_goes (inner_of (levels_in c.args.self.now.levels)) (get_or piece at 0) white) passed)
-    (any_closes mid close.new.self rest (omega arith) (passed.fault ∙ r.live) passed.mode_is
+    (any_closes mid close.new.self rest (omega arith) (passed.fault ∙ r.takes.0) passed.mode_is
     (omega (arith, long, passed.offset, ap (λ l. l.bytes) passed.limits))
     Object (brace_closes (inner_of (levels_in mid.levels)) (get_or rest 0 0) inner first) close.ensures.lands))
 
@@ -86,5 +86,5 @@ returns-clause-feeds c =
     let passed = c.skip-2.ensures.passed in
     any_then c.args.self.now c.skip-2.new.self v.new.self c.args.piece.now c.args.value v.result
     (omega (arith, ap (λ ls. length (levels_in ls)) passed.levels))
-    (name_to c.args.self.now c.skip-2.new.self c.args.piece.now c.args.name r.live r.due r.room (omega arith) r.quoted r.colon c.args.value r.between
+    (name_to c.args.self.now c.skip-2.new.self c.args.piece.now c.args.name r.takes.0 r.due r.takes.1 (omega arith) r.quoted r.colon c.args.value r.between
     (omega arith) passed) v.ensures.feeds

@@ -16,5 +16,5 @@ returns-clause-feeds c =
     let es : List Event = event_at c.args.self.now.offset (What.Text (word_of quoted.characters)) ∷ [] in
     rw (c.skip.ensures.count)
     (any_level c.args.self.now c.skip.new.self (take q.result c.args.piece.now) es
-    (text_taken {before = λ events. events ≡ []} {after = λ events. events ≡ es} c.args.self.now c.skip.new.self c.args.piece.now q.result c.requires.live
-    c.requires.due c.requires.room q.ensures.within c.skip.ensures.passed quoted (from_none es)) (λ k. refl) (ap levels_in c.skip.ensures.passed.levels))
+    (text_taken {before = λ events. events ≡ []} {after = λ events. events ≡ es} c.args.self.now c.skip.new.self c.args.piece.now q.result c.requires.takes.0
+    c.requires.due c.requires.takes.1 q.ensures.within c.skip.ensures.passed quoted (from_none es)) (λ k. refl) (ap levels_in c.skip.ensures.passed.levels))

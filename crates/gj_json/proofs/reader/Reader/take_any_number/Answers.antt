@@ -15,4 +15,4 @@ end_number-requires-clause-value g c = λ hears.
     sym (c.value.ensures.value (take c.push_piece-count.result c.args.piece.now) stands number)
 
 pub returns-then-count-piece-clause-feeds : goal.returns-then-count-piece-clause-feeds
-returns-then-count-piece-clause-feeds g c = token_none _ _ c.args.self.now c.requires.live
+returns-then-count-piece-clause-feeds g c = token_none _ _ c.args.self.now c.requires.takes.0

@@ -18,7 +18,7 @@ returns-in-Some-Array-clause-feeds g c =
     sym c.inner.ensures ∙ c.in-Some-Array.is ∙ ap (λ (x : Level). Some x) c.in-Some-Array.field-0-is in
     let made = comma_ends (inner_of (levels_in c.args.self.now.levels)) (get_or c.args.piece.now 0 0) Array ValueDue inner c.if-piece-eq44.true refl in
     rw (c.skip.ensures.count)
-    (end_goes c.args.self.now c.skip.new.self c.args.piece.now ValueDue Item c.requires.some c.requires.live c.requires.done c.requires.room made
+    (end_goes c.args.self.now c.skip.new.self c.args.piece.now ValueDue Item c.requires.some c.requires.takes.0 c.requires.done c.requires.takes.1 made
     c.skip.ensures.passed)
 
 pub returns-in-Some-Array-clause-any : goal.returns-in-Some-Array-clause-any
@@ -27,7 +27,7 @@ returns-in-Some-Array-clause-any g c =
     sym c.inner.ensures ∙ c.in-Some-Array.is ∙ ap (λ (x : Level). Some x) c.in-Some-Array.field-0-is in
     let made = comma_ends (inner_of (levels_in c.args.self.now.levels)) (get_or c.args.piece.now 0 0) Array ValueDue inner c.if-piece-eq44.true refl in
     rw (c.skip.ensures.count)
-    (any_goes c.args.self.now c.skip.new.self c.args.piece.now c.requires.some c.requires.live c.requires.done c.requires.room ValueDue Item made
+    (any_goes c.args.self.now c.skip.new.self c.args.piece.now c.requires.some c.requires.takes.0 c.requires.done c.requires.takes.1 ValueDue Item made
     c.skip.ensures.passed)
 
 pub returns-in-Some-Object-clause-feeds : goal.returns-in-Some-Object-clause-feeds
@@ -40,9 +40,9 @@ returns-in-Some-Object-clause-feeds g c =
     let inner : inner_of (levels_in reader.levels) ≡ Some Object =
     sym c.inner.ensures ∙ c.in-Some-Object.is ∙ ap (λ (x : Level). Some x) c.in-Some-Object.field-0-is in
     let made = comma_ends (inner_of (levels_in reader.levels)) (get_or piece 0 0) Object NameDue inner c.if-piece-eq44.true refl in
-    then_skipped reader mid space.new.self piece c.skip-taken.result space.result NameDue c.requires.live c.requires.room
+    then_skipped reader mid space.new.self piece c.skip-taken.result space.result NameDue c.requires.takes.0 c.requires.takes.1
     (omega arith) (rw (c.skip-taken.ensures.count) passed) space.ensures.within space.ensures.skips
-    (rw (c.skip-taken.ensures.count) (end_goes reader mid piece NameDue Item c.requires.some c.requires.live c.requires.done c.requires.room made passed))
+    (rw (c.skip-taken.ensures.count) (end_goes reader mid piece NameDue Item c.requires.some c.requires.takes.0 c.requires.done c.requires.takes.1 made passed))
 
 pub returns-in-Some-Object-clause-any : goal.returns-in-Some-Object-clause-any
 returns-in-Some-Object-clause-any g c =
@@ -54,24 +54,24 @@ returns-in-Some-Object-clause-any g c =
     let inner : inner_of (levels_in reader.levels) ≡ Some Object =
     sym c.inner.ensures ∙ c.in-Some-Object.is ∙ ap (λ (x : Level). Some x) c.in-Some-Object.field-0-is in
     let made = comma_ends (inner_of (levels_in reader.levels)) (get_or piece 0 0) Object NameDue inner c.if-piece-eq44.true refl in
-    any_skipped reader mid space.new.self piece c.skip-taken.result space.result NameDue c.requires.live c.requires.room
+    any_skipped reader mid space.new.self piece c.skip-taken.result space.result NameDue c.requires.takes.0 c.requires.takes.1
     (omega arith) (rw (c.skip-taken.ensures.count) passed) space.ensures.within space.ensures.skips
-    (rw (c.skip-taken.ensures.count) (any_goes reader mid piece c.requires.some c.requires.live c.requires.done c.requires.room NameDue Item made passed))
+    (rw (c.skip-taken.ensures.count) (any_goes reader mid piece c.requires.some c.requires.takes.0 c.requires.done c.requires.takes.1 NameDue Item made passed))
 
 pub returns-in-Go-clause-feeds : goal.returns-in-Go-clause-feeds
 returns-in-Go-clause-feeds g c =
     let made : after_move (inner_of (levels_in c.args.self.now.levels)) (class_of (get_or c.args.piece.now 0 0)) ≡ Go c.in-Go.mode c.in-Go.field-1 =
     ap (λ i. after_move i (class_of (get_or c.args.piece.now 0 0))) (sym c.inner-2.ensures) ∙ sym c.after_value.ensures.value ∙ c.in-Go.is in
     rw (c.skip-in-Go.ensures.count)
-    (end_goes c.args.self.now c.skip-in-Go.new.self c.args.piece.now c.in-Go.mode c.in-Go.field-1 c.requires.some c.requires.live c.requires.done
-    c.requires.room made c.skip-in-Go.ensures.passed)
+    (end_goes c.args.self.now c.skip-in-Go.new.self c.args.piece.now c.in-Go.mode c.in-Go.field-1 c.requires.some c.requires.takes.0 c.requires.done
+    c.requires.takes.1 made c.skip-in-Go.ensures.passed)
 
 pub returns-in-Go-clause-any : goal.returns-in-Go-clause-any
 returns-in-Go-clause-any g c =
     let made : after_move (inner_of (levels_in c.args.self.now.levels)) (class_of (get_or c.args.piece.now 0 0)) ≡ Go c.in-Go.mode c.in-Go.field-1 =
     ap (λ i. after_move i (class_of (get_or c.args.piece.now 0 0))) (sym c.inner-2.ensures) ∙ sym c.after_value.ensures.value ∙ c.in-Go.is in
     rw (c.skip-in-Go.ensures.count)
-    (any_goes c.args.self.now c.skip-in-Go.new.self c.args.piece.now c.requires.some c.requires.live c.requires.done c.requires.room
+    (any_goes c.args.self.now c.skip-in-Go.new.self c.args.piece.now c.requires.some c.requires.takes.0 c.requires.done c.requires.takes.1
     c.in-Go.mode c.in-Go.field-1 made c.skip-in-Go.ensures.passed)
 
 pub returns-in-Close-clause-feeds : goal.returns-in-Close-clause-feeds
@@ -79,7 +79,7 @@ returns-in-Close-clause-feeds g c =
     let made : after_move (inner_of (levels_in c.args.self.now.levels)) (class_of (get_or c.args.piece.now 0 0)) ≡ Close c.in-Close.level =
     ap (λ i. after_move i (class_of (get_or c.args.piece.now 0 0))) (sym c.inner-2.ensures) ∙ sym c.after_value.ensures.value ∙ c.in-Close.is in
     rw (c.take_close.ensures.count)
-    (end_closes c.args.self.now c.take_close.new.self c.args.piece.now c.in-Close.level c.requires.some c.requires.live c.requires.done c.requires.room made
+    (end_closes c.args.self.now c.take_close.new.self c.args.piece.now c.in-Close.level c.requires.some c.requires.takes.0 c.requires.done c.requires.takes.1 made
     c.take_close.ensures.lands (λ events h. c.take_close.ensures.heard events h))
 
 pub returns-in-Close-clause-any : goal.returns-in-Close-clause-any
@@ -87,5 +87,5 @@ returns-in-Close-clause-any g c =
     let made : after_move (inner_of (levels_in c.args.self.now.levels)) (class_of (get_or c.args.piece.now 0 0)) ≡ Close c.in-Close.level =
     ap (λ i. after_move i (class_of (get_or c.args.piece.now 0 0))) (sym c.inner-2.ensures) ∙ sym c.after_value.ensures.value ∙ c.in-Close.is in
     rw (c.take_close.ensures.count)
-    (any_closes c.args.self.now c.take_close.new.self c.args.piece.now c.requires.some c.requires.live c.requires.done c.requires.room c.in-Close.level made
+    (any_closes c.args.self.now c.take_close.new.self c.args.piece.now c.requires.some c.requires.takes.0 c.requires.done c.requires.takes.1 c.in-Close.level made
     c.take_close.ensures.lands)

@@ -17,7 +17,7 @@ returns-clause-feeds g c =
     let H : List Event → Type 0 = λ es. g.S.EventSink.heard c.tell_head.new.self es in
     rw (c.skip.ensures.count)
     (following_taken c.args.self.now c.skip.new.self c.args.piece.now next (outer_of (outer_of (levels_in c.args.self.now.levels)))
-    c.requires.live c.requires.done c.requires.room (found.within (omega arith)) inside (found.follows (omega arith))
+    c.requires.takes.0 c.requires.done c.requires.takes.1 (found.within (omega arith)) inside (found.follows (omega arith))
     (record {
       limits = p.limits;
       fault = p.fault;

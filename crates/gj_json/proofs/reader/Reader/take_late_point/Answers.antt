@@ -10,6 +10,6 @@ returns-clause-feeds g c =
     let reader = c.args.self.now in
     let point = c.in-Some.point in
     rw (c.skip.ensures.count)
-    (late_point_taken reader c.skip.new.self c.args.piece.now point c.late_point.new.flat c.requires.live c.requires.due c.requires.room
+    (late_point_taken reader c.skip.new.self c.args.piece.now point c.late_point.new.flat c.requires.takes.0 c.requires.due c.requires.takes.1
     (omega (arith, c.if-len-depth.false, c.len.ensures.value, c.depth.ensures.value)) c.in-Some.ensures.late
     (passed_lands (point.close - reader.offset + 1) ValueDone reader c.skip.new.self c.skip.ensures.passed) (λ events h. c.tell_late_point.ensures events h))

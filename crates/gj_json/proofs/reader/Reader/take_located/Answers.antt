@@ -8,7 +8,7 @@ pub returns-clause-feeds : goal.returns-clause-feeds
 returns-clause-feeds g c =
     let p = c.skip.ensures.passed in
     rw (c.skip.ensures.count)
-    (found_taken c.args.self.now c.skip.new.self c.args.piece.now c.args.usual.now c.located_here.result c.requires.live c.requires.due c.requires.room
+    (found_taken c.args.self.now c.skip.new.self c.args.piece.now c.args.usual.now c.located_here.result c.requires.takes.0 c.requires.due c.requires.takes.1
     c.requires.deep c.requires.found c.located_here.ensures
     (record {
       limits = p.limits;

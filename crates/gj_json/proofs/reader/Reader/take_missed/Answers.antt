@@ -14,6 +14,6 @@ returns-then-tell_closed-clause-feeds g c =
 pub returns-clause-feeds : goal.returns-clause-feeds
 returns-clause-feeds g c = elim c.else-count-gt0.branch [
   | else-count-gt0-via-then-count-gt0+else-tell_closed w ↦ rw (w.sink-is, w.tell_closed.ensures.same w.if-tell_closed.false)
-      (feeds_nothing {heard = g.S.EventSink.heard c.args.sink.now} c.args.self.now c.requires.live)
-  | else-count-gt0-via-else-count-gt0 w ↦ rw (w.sink-is) (feeds_nothing {heard = g.S.EventSink.heard c.args.sink.now} c.args.self.now c.requires.live)
+      (feeds_nothing {heard = g.S.EventSink.heard c.args.sink.now} c.args.self.now c.requires.takes.0)
+  | else-count-gt0-via-else-count-gt0 w ↦ rw (w.sink-is) (feeds_nothing {heard = g.S.EventSink.heard c.args.sink.now} c.args.self.now c.requires.takes.0)
 ]

@@ -20,5 +20,5 @@ returns-clause-feeds g c =
     let colon = c.space_end-colon.result in
     let leads = first_colon_cut rest colon (omega arith) first c.space_end-colon.ensures.on c.space_end-colon.ensures.within c.space_end-colon.ensures.white in
     rw (c.skip.ensures.count)
-    (named_taken c.args.self.now c.skip.new.self piece n colon c.requires.live c.requires.due c.requires.room (omega arith) (as_string usual.quoted)
+    (named_taken c.args.self.now c.skip.new.self piece n colon c.requires.takes.0 c.requires.due c.requires.takes.1 (omega arith) (as_string usual.quoted)
     c.space_end-colon.ensures.within leads c.skip.ensures.passed (λ events h. rw (usual.known_as) (c.tell.ensures events h)))

@@ -23,6 +23,6 @@ returns-clause-feeds g c =
     let made : after_move (inner_of (levels_in reader.levels)) (class_of (get_or piece 0 0)) ≡ Close Object = rw (inside, closes) refl in
     piece_all reader mid last.new.self piece c.take_close-taken.result last.result
     (rw (c.take_close-taken.ensures.count)
-    (end_closes reader mid piece Object c.requires.some c.requires.live c.requires.done c.requires.room made c.take_close-taken.ensures.lands
+    (end_closes reader mid piece Object c.requires.some c.requires.takes.0 c.requires.done c.requires.takes.1 made c.take_close-taken.ensures.lands
     (λ events h. c.take_close-taken.ensures.heard events h)))
     (rest_all mid last.new.self piece c.take_close-taken.result last.result last.ensures.feeds)

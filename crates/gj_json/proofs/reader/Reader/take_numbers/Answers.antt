@@ -14,7 +14,7 @@ returns-then-end-eq93-clause-feeds g c =
     let inner : inner_of (levels_in c.loop-at.self.levels) ≡ Some Array = ap (λ l. inner_of (levels_in l)) i.levels ∙ c.requires.inner in
     rw (c.take_close.ensures.count)
     (row_ends c.args.piece.now c.loop-at.at c.read_decimal-count.result c.read_decimal-count.new.value i.within found c.args.self.now c.loop-at.self
-    c.take_close.new.self i.due inner i.fed c.requires.room c.if-end-eq93.true c.take_close.ensures.lands
+    c.take_close.new.self i.due inner i.fed c.requires.takes.1 c.if-end-eq93.true c.take_close.ensures.lands
     (λ events h. rw append_assoc at (c.take_close.ensures.heard _ (c.tell.ensures events h))))
 
 pub loop-at-preserved : goal.loop-at-preserved
@@ -28,7 +28,7 @@ loop-at-preserved g c =
       within = (let k = c.skip-at.ensures.count in omega arith);
       fed = rw (c.skip-at.ensures.count)
           (row_goes_on c.args.piece.now c.loop-at.at c.read_decimal-count.result c.read_decimal-count.new.value i.within found c.args.self.now
-          c.loop-at.self c.skip-at.new.self i.due inner i.fed c.requires.room
+          c.loop-at.self c.skip-at.new.self i.due inner i.fed c.requires.takes.1
           (elim c.else-end-ne44.branch [
             | else-end-ne44-via-then-end-ne44+else-end-ne93 w ↦ absurd (c.if-end-eq93.false w.if-end-ne93.false)
             | else-end-ne44-via-else-end-ne44 w ↦ w.if-end-ne44.false

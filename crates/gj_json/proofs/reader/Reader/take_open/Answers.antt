@@ -11,7 +11,7 @@ pub returns-clause-feeds : goal.returns-clause-feeds
 returns-clause-feeds g c =
     let p = c.skip.ensures.passed in
     rw (c.skip.ensures.count)
-    (open_taken c.args.self.now c.skip.new.self c.args.piece.now c.args.level c.requires.some c.requires.begins c.requires.live c.requires.due c.requires.room
+    (open_taken c.args.self.now c.skip.new.self c.args.piece.now c.args.level c.requires.some c.requires.begins c.requires.takes.0 c.requires.due c.requires.takes.1
     (omega (arith, c.if-len-depth.false, c.len.ensures.value, c.depth.ensures.value))
     (record {
       limits = p.limits;
@@ -30,7 +30,7 @@ returns-clause-any g c =
     rw (c.skip.ensures.count)
     (any_opened c.args.self.now c.skip.new.self (take 1 c.args.piece.now) c.args.level c.args.self.now.offset
     (open_taken {before = λ events. events ≡ []} {after = λ events. events ≡ es} c.args.self.now c.skip.new.self c.args.piece.now c.args.level c.requires.some
-    c.requires.begins c.requires.live c.requires.due c.requires.room
+    c.requires.begins c.requires.takes.0 c.requires.due c.requires.takes.1
     (omega (arith, c.if-len-depth.false, c.len.ensures.value, c.depth.ensures.value))
     (record {
       limits = p.limits;

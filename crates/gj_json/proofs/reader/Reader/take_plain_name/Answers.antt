@@ -7,7 +7,7 @@ pub returns-clause-feeds : goal.returns-clause-feeds
 returns-clause-feeds g c =
     let n = c.plain_quoted_run-name.result in
     rw (c.skip.ensures.count)
-    (named_taken c.args.self.now c.skip.new.self c.args.piece.now n c.colon_run-colon.result c.requires.live c.requires.due c.requires.room
+    (named_taken c.args.self.now c.skip.new.self c.args.piece.now n c.colon_run-colon.result c.requires.takes.0 c.requires.due c.requires.takes.1
     c.plain_quoted_run-name.ensures.within
     (as_string (c.plain_quoted_run-name.ensures.quoted (omega arith))) c.colon_run-colon.ensures.within
     (c.colon_run-colon.ensures.leads (omega arith)) c.skip.ensures.passed (λ events h. rw (← c.name_of.ensures) (c.tell.ensures events h)))

@@ -7,6 +7,6 @@ pub returns-clause-feeds : goal.returns-clause-feeds
 returns-clause-feeds g c =
     let n = c.plain_quoted_run-count.result in
     rw (c.skip.ensures.count)
-    (text_taken c.args.self.now c.skip.new.self c.args.piece.now n c.requires.live c.requires.due c.requires.room c.plain_quoted_run-count.ensures.within
+    (text_taken c.args.self.now c.skip.new.self c.args.piece.now n c.requires.takes.0 c.requires.due c.requires.takes.1 c.plain_quoted_run-count.ensures.within
     c.skip.ensures.passed
     (as_string (c.plain_quoted_run-count.ensures.quoted (omega arith))) (λ events h. rw (← c.type_of.ensures) (c.tell.ensures events h)))

@@ -16,7 +16,7 @@ returns-clause-feeds g c =
     let found = c.point_end-end.ensures in
     piece_all reader mid last.new.self piece c.skip-taken.result last.result
     (rw (c.skip-taken.ensures.count)
-    (point_taken reader mid piece c.args.usual.now c.located_here.result c.point_end-end.new.flat end c.requires.live c.requires.due c.requires.room
+    (point_taken reader mid piece c.args.usual.now c.located_here.result c.point_end-end.new.flat end c.requires.takes.0 c.requires.due c.requires.takes.1
     (omega (arith, c.if-len-depth.false, c.len.ensures.value, c.depth.ensures.value)) c.requires.found c.located_here.ensures
     (found.within (omega arith)) (found.enclosed (omega arith))
     (passed_lands (end + 1) ValueDone reader mid c.skip-taken.ensures.passed) (λ events h. c.tell_point.ensures events h)))

@@ -69,7 +69,7 @@ overflow_add-next-in-loop-taken g c =
     c.if-taken-eq0.false c.tell_positions-taken.ensures.few c.read_positions-found.ensures.spelled in
     let less = e.within in
     let limits = ap (λ l. l.bytes) i.fed.feeds.limits in
-    let room = room_left c.args.self.now c.loop-taken.self c.args.piece.now c.loop-taken.rest.now i.within i.fed c.requires.room in
+    let room = room_left c.args.self.now c.loop-taken.self c.args.piece.now c.loop-taken.rest.now i.within i.fed c.requires.takes.1 in
     omega arith
 
 pub overflow_add-next-in-loop-taken-2 : goal.overflow_add-next-in-loop-taken-2
@@ -81,7 +81,7 @@ overflow_add-next-in-loop-taken-2 g c =
     c.if-taken-eq0.false c.tell_positions-taken.ensures.few c.read_positions-found.ensures.spelled in
     let less = e.within in
     let limits = ap (λ l. l.bytes) i.fed.feeds.limits in
-    let room = room_left c.args.self.now c.loop-taken.self c.args.piece.now c.loop-taken.rest.now i.within i.fed c.requires.room in
+    let room = room_left c.args.self.now c.loop-taken.self c.args.piece.now c.loop-taken.rest.now i.within i.fed c.requires.takes.1 in
     omega arith
 
 pub overflow_sub-count : goal.overflow_sub-count
@@ -101,7 +101,7 @@ skip-requires-clause-room g c =
     let e = ends gap all c.index-self-taken.result c.read_positions-found.result _ c.loop-taken.self.offset c.loop-taken.rest.now
     c.if-taken-eq0.false c.tell_positions-taken.ensures.few c.read_positions-found.ensures.spelled in
     let less = e.within in
-    let room = room_left c.args.self.now c.loop-taken.self c.args.piece.now c.loop-taken.rest.now i.within i.fed c.requires.room in
+    let room = room_left c.args.self.now c.loop-taken.self c.args.piece.now c.loop-taken.rest.now i.within i.fed c.requires.takes.1 in
     omega arith
 
 pub slice_bounds-rest-count : goal.slice_bounds-rest-count
@@ -158,7 +158,7 @@ loop-taken-preserved g c =
     (take (m - old.offset) rest) in
     let taken = subst Q e.end (first_taken gap told k old c.skip.new.self rest e.some c.tell_positions-taken.ensures.few e.spelled i.fed.live i.next.due
     (depth_left c.args.self.now old piece rest i.within i.fed i.levels c.requires.deep) (rw (i.levels) c.requires.inner)
-    (room_left c.args.self.now old piece rest i.within i.fed c.requires.room) (subst P (sym e.end) (room_passed old c.skip.new.self c.skip.ensures.passed))) in
+    (room_left c.args.self.now old piece rest i.within i.fed c.requires.takes.1) (subst P (sym e.end) (room_passed old c.skip.new.self c.skip.ensures.passed))) in
     let heard = heard_less old c.skip.new.self (take n rest) taken
     (λ es (flats, are, events, h, is). subst (g.S.EventSink.heard c.tell_positions-taken.new.self) (sym is)
     (c.tell_positions-taken.ensures.heard flats are events h)) in

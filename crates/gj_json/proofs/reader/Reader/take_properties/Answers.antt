@@ -14,7 +14,7 @@ returns-clause-feeds g c =
     let count = c.properties_run-count.result in
     let p = c.skip.ensures.passed in
     piece_all reader mid last.new.self piece count last.result
-    (opened_taken reader mid piece count c.requires.live c.requires.due c.requires.room c.properties_run-count.ensures.within
+    (opened_taken reader mid piece count c.requires.takes.0 c.requires.due c.requires.takes.1 c.properties_run-count.ensures.within
     (omega (arith, c.if-len-depth.false, c.len.ensures.value, c.depth.ensures.value)) (c.properties_run-count.ensures.opens (omega arith))
     (record {
       limits = p.limits;

@@ -17,7 +17,7 @@ loop-begins-init g c =
     record {
       within = omega arith;
       rest_is = ap (λ n. drop n piece) none;
-      fed = subst P none (CallsInTurn.feeds_nothing c.args.self.now c.requires.live);
+      fed = subst P none (CallsInTurn.feeds_nothing c.args.self.now c.requires.takes.0);
       next = λ begins. c.requires.next;
       levels = refl;
     }
@@ -28,7 +28,7 @@ returns-then-comma-eq0-clause-feeds g c =
     let some = c.in-Some.ensures in
     ends c.args.self.now c.loop-begins.self c.skip.new.self c.read_flat.new.flat c.args.piece.now c.loop-begins.rest.now c.in-Some.count
     invariant.within invariant.rest_is invariant.fed (invariant.next c.loop-begins-test.true) invariant.levels c.requires.deep c.requires.inner
-    c.requires.room some.within some.flat (λ events h. c.tell_flat.ensures events h) c.skip.ensures.passed
+    c.requires.takes.1 some.within some.flat (λ events h. c.tell_flat.ensures events h) c.skip.ensures.passed
 
 pub loop-begins-preserved : goal.loop-begins-preserved
 loop-begins-preserved g c =
@@ -45,7 +45,7 @@ loop-begins-preserved g c =
       within = left_within piece rest (count + comma) invariant.within few;
       rest_is = left_is piece rest (count + comma) invariant.within few invariant.rest_is;
       fed = goes_on c.args.self.now c.loop-begins.self c.skip-in-loop-begins.new.self c.read_flat.new.flat piece rest count invariant.within
-          invariant.rest_is invariant.fed (invariant.next c.loop-begins-test.true) invariant.levels c.requires.deep c.requires.inner c.requires.room
+          invariant.rest_is invariant.fed (invariant.next c.loop-begins-test.true) invariant.levels c.requires.deep c.requires.inner c.requires.takes.1
           some.within some.flat (λ events h. c.tell_flat.ensures events h) comma positive run.ensures.within (run.ensures.comma positive)
           (run.ensures.white positive) c.skip-in-loop-begins.ensures.passed;
       next = λ begins. record {
@@ -71,7 +71,7 @@ loop-begins-preserved-then-begins g c =
     let within = left_within piece rest (count + comma) invariant.within few in
     let rest_is = left_is piece rest (count + comma) invariant.within few invariant.rest_is in
     let fed = goes_on c.args.self.now c.loop-begins.self skipped.new.self c.read_flat.new.flat piece rest count invariant.within invariant.rest_is
-    invariant.fed (invariant.next c.loop-begins-test.true) invariant.levels c.requires.deep c.requires.inner c.requires.room some.within some.flat
+    invariant.fed (invariant.next c.loop-begins-test.true) invariant.levels c.requires.deep c.requires.inner c.requires.takes.1 some.within some.flat
     (λ events h. c.tell_flat.ensures events h) comma positive run.ensures.within (run.ensures.comma positive) (run.ensures.white positive)
     skipped.ensures.passed in
     let left = take (length rest - (count + comma)) (drop (count + comma) rest) in

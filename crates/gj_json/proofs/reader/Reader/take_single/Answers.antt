@@ -6,5 +6,5 @@ pub returns-clause-feeds : goal.returns-clause-feeds
 returns-clause-feeds g c =
     let some = c.in-Some.ensures in
     rw (c.skip.ensures.count)
-    (flat_taken c.args.self.now c.skip.new.self c.read_lone_flat.new.flat c.args.piece.now c.in-Some.count c.requires.live c.requires.next.due c.requires.deep
-    c.requires.room some.within some.flat c.skip.ensures.passed (λ events h. c.tell_flat.ensures events h))
+    (flat_taken c.args.self.now c.skip.new.self c.read_lone_flat.new.flat c.args.piece.now c.in-Some.count c.requires.takes.0 c.requires.next.due c.requires.deep
+    c.requires.takes.1 some.within some.flat c.skip.ensures.passed (λ events h. c.tell_flat.ensures events h))

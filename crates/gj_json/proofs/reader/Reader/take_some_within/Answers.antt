@@ -13,7 +13,7 @@ returns-then-quiet-piece-clause-feeds c =
     let mid = c.skip_front-quiet.new.self in
     let P : List Event → Type 0 = λ events. Leaves (above c.args.floor old) events (above c.args.floor mid) in
     all_from c.args.floor old mid mid (take c.skip_front-quiet.result c.args.piece.now) c.skip_front-quiet.ensures.skips.levels
-    (CallsInTurn.front_skipped {heard = P} old mid c.args.piece.now c.skip_front-quiet.result c.requires.live c.skip_front-quiet.ensures.within c.requires.room
+    (CallsInTurn.front_skipped {heard = P} old mid c.args.piece.now c.skip_front-quiet.result c.requires.takes.0 c.skip_front-quiet.ensures.within c.requires.takes.1
     c.skip_front-quiet.ensures.skips)
 
 pub returns-in-Ok-clause-feeds : goal.returns-in-Ok-clause-feeds
@@ -23,10 +23,10 @@ returns-in-Ok-clause-feeds c =
     let w : c.skip_front-quiet.result < length c.args.piece.now = omega (arith, c.skip_front-quiet.ensures.within, c.if-quiet-piece.false) in
     let s = c.skip_front-quiet.ensures.skips in
     let P : List Event → Type 0 = λ events. Leaves (above c.args.floor old) events (above c.args.floor mid) in
-    let skipped = CallsInTurn.front_skipped {heard = P} old mid c.args.piece.now c.skip_front-quiet.result c.requires.live c.skip_front-quiet.ensures.within
-    c.requires.room s in
+    let skipped = CallsInTurn.front_skipped {heard = P} old mid c.args.piece.now c.skip_front-quiet.result c.requires.takes.0 c.skip_front-quiet.ensures.within
+    c.requires.takes.1 s in
     all_from c.args.floor old mid c.take_byte.new.self _ s.levels
-    (CallsInTurn.some_all old mid c.take_byte.new.self c.args.piece.now c.skip_front-quiet.result c.take_byte.result w c.requires.room skipped
+    (CallsInTurn.some_all old mid c.take_byte.new.self c.args.piece.now c.skip_front-quiet.result c.take_byte.result w c.requires.takes.1 skipped
     (takes_within c.args.floor old mid c.take_byte.new.self _ c.take_byte.result s.levels c.requires.above c.take_byte.ensures) c.in-Ok.field-0 c.in-Ok.is)
 
 pub returns-in-Err-clause-feeds : goal.returns-in-Err-clause-feeds
@@ -36,10 +36,10 @@ returns-in-Err-clause-feeds c =
     let w : c.skip_front-quiet.result < length c.args.piece.now = omega (arith, c.skip_front-quiet.ensures.within, c.if-quiet-piece.false) in
     let s = c.skip_front-quiet.ensures.skips in
     let P : List Event → Type 0 = λ events. Leaves (above c.args.floor old) events (above c.args.floor mid) in
-    let skipped = CallsInTurn.front_skipped {heard = P} old mid c.args.piece.now c.skip_front-quiet.result c.requires.live c.skip_front-quiet.ensures.within
-    c.requires.room s in
+    let skipped = CallsInTurn.front_skipped {heard = P} old mid c.args.piece.now c.skip_front-quiet.result c.requires.takes.0 c.skip_front-quiet.ensures.within
+    c.requires.takes.1 s in
     to_from c.args.floor old mid c.take_byte.new.self c.args.piece.now c.in-Err.fault s.levels
-    (CallsInTurn.some_to old mid c.take_byte.new.self c.args.piece.now c.skip_front-quiet.result c.take_byte.result w c.requires.room skipped
+    (CallsInTurn.some_to old mid c.take_byte.new.self c.args.piece.now c.skip_front-quiet.result c.take_byte.result w c.requires.takes.1 skipped
     (takes_within c.args.floor old mid c.take_byte.new.self _ c.take_byte.result s.levels c.requires.above c.take_byte.ensures) c.in-Err.fault c.in-Err.is)
 
 pub returns-in-Ok-clause-floor : goal.returns-in-Ok-clause-floor

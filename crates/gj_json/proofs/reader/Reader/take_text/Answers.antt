@@ -8,5 +8,5 @@ returns-clause-feeds g c =
     let n = c.usual_text-usual.result.count in
     let usual = c.usual_text-usual.ensures.usual (omega arith) in
     rw (c.skip.ensures.count)
-    (text_taken c.args.self.now c.skip.new.self c.args.piece.now n c.requires.live c.requires.due c.requires.room c.usual_text-usual.ensures.within
+    (text_taken c.args.self.now c.skip.new.self c.args.piece.now n c.requires.takes.0 c.requires.due c.requires.takes.1 c.usual_text-usual.ensures.within
     c.skip.ensures.passed (as_string usual.quoted) (λ events h. rw (usual.known_as) (c.tell.ensures events h)))

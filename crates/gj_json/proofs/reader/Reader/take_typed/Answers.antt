@@ -9,7 +9,7 @@ returns-clause-feeds g c =
     let typed = c.usual_typed-typed.result in
     let p = c.skip.ensures.passed in
     rw (c.skip.ensures.count)
-    (typed_taken c.args.self.now c.skip.new.self c.args.piece.now typed.count typed.name_at typed.word_at typed.word c.requires.live c.requires.due c.requires.room
+    (typed_taken c.args.self.now c.skip.new.self c.args.piece.now typed.count typed.name_at typed.word_at typed.word c.requires.takes.0 c.requires.due c.requires.takes.1
     c.usual_typed-typed.ensures.within
     (omega (arith, c.if-len-depth.false, c.len.ensures.value, c.depth.ensures.value)) (c.usual_typed-typed.ensures.usual (omega arith))
     (record {

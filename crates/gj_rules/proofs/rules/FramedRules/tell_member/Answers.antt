@@ -5,11 +5,11 @@ use Rattle.gj_rules.proofs.Objects.RestingSummaries.{names}
 use Rattle.gj_rules.proofs.Texts.OneEventMore.{told_on, steps_taken}
 use Rattle.gj_rules.proofs.rules.FramedRules.tell_member.Goals as goal
 
-pub returns-then-is_at_names : goal.returns-then-is_at_names
-returns-then-is_at_names g c = λ events h.
+pub returns-then-awaits : goal.returns-then-awaits
+returns-then-awaits g c = λ events h.
     let old = c.args.self.now in
-    let none = c.is_at_names.ensures.skipped c.if-is_at_names.true in
-    let due = c.is_at_names.ensures.mode c.if-is_at_names.true in
+    let none = c.awaits.ensures.skipped c.if-awaits.true in
+    let due = c.awaits.ensures.mode c.if-awaits.true in
     let rests : is_feeding old.skipped old.mode ≡ false = rw (none, due) refl in
     told_on old c.names.new.self _ events
     (steps_taken old c.names.new.self _ rests

@@ -3,9 +3,9 @@ use Rattle.gj_rules.specs.Internal.EventSteps.{is_feeding}
 use Rattle.gj_rules.proofs.Texts.OneEventMore.{told_on, steps_fed}
 use Rattle.gj_rules.proofs.rules.FramedRules.tell_open_array.Goals as goal
 
-pub returns-then-is_in_coordinates : goal.returns-then-is_in_coordinates
-returns-then-is_in_coordinates g c = λ events h.
+pub returns-then-awaits : goal.returns-then-awaits
+returns-then-awaits g c = λ events h.
     let old = c.args.self.now in
     let feeds : is_feeding old.skipped old.mode ≡ true =
-    rw (c.is_in_coordinates.ensures.skipped c.if-is_in_coordinates.true, c.is_in_coordinates.ensures.mode c.if-is_in_coordinates.true) refl in
+    rw (c.awaits.ensures.skipped c.if-awaits.true, c.awaits.ensures.mode c.if-awaits.true) refl in
     told_on old c.feed_open_array.new.self _ events (steps_fed old c.feed_open_array.new.self _ feeds c.feed_open_array.ensures) h
