@@ -17,13 +17,14 @@
  *     that such a text ends within the bytes allowed);
  *   - geolint_doomed answers 1 only where no input that begins with the bytes fed so far is valid, and otherwise 0;
  *   - geolint_offset says how many bytes were taken: all that were fed, or once they are refused the place of the refusal;
- *   - geolint_features_next gives, for each text that goes on from the bytes taken, the features that have ended in them, in turn
- *     and each once: its number, its place, the place after its closing bracket where it is an object or an array, the place of its
- *     `id`, and the report of the least of its faults, or where it has none of its warnings;
+ *   - geolint_features_next gives, for each text within the depth that goes on from the bytes taken and has fewer than 2^63 names,
+ *     values and brackets, the features that have ended in them, in turn and each once: its number, its place, the place after its
+ *     closing bracket where it is an object or an array, the place of its `id`, and the report of the least of its faults, or where
+ *     it has none of its warnings;
  *   - geolint_records_next gives the records that have ended in the bytes taken, in turn and each once: number, place, end and report;
  *     geolint_records_finish what the input is by them;
  *   - geolint_locator_step gives the steps of the path that the bytes taken lead to, in each text that goes on from them;
- *   - geolint_lines_feed gives the line and the column after the bytes fed;
+ *   - geolint_lines_feed gives the line and the column after the bytes fed, each up to 2^64 - 1;
  *   - geolint_levels says how many arrays and objects are open after the bytes taken, in each text that goes on from them;
  *   - geolint_hint_text and geolint_hint_around give the text of the hint that the definitions have for the report and these bytes;
  *   - each text is the one that the definitions have for its number, with a byte 0 at its end;
@@ -57,7 +58,7 @@ extern "C" {
 enum geolint_status {
     GEOLINT_DONE = 0,    /* of a piece: the bytes so far begin a JSON text within the depth, and are no more than allowed */
     GEOLINT_REFUSED = 1, /* of a piece: the input is refused, and so is every input that begins so */
-    GEOLINT_ENDED = 2,   /* the linter has ended: nothing was changed */
+    GEOLINT_ENDED = 2,   /* the linter has ended, and stays so until it is begun again */
     GEOLINT_LIMITS = 3,  /* the limits are not allowed: nothing can be checked under them */
     GEOLINT_NULL = 4,    /* the pointer is null: nothing was changed */
     GEOLINT_READY = 5,   /* a finding is ready, and is to be taken first: nothing was changed */
@@ -202,7 +203,7 @@ size_t geolint_features_size(void);
 /* As geolint_begin. */
 uint32_t geolint_features_begin(geolint_features *features, uint32_t max_depth, uint64_t max_bytes);
 
-/* As geolint_begin_again: findings that are not pulled yet are forgotten. */
+/* As geolint_begin_again: findings that are not pulled yet are forgotten, also where the limits are not allowed. */
 uint32_t geolint_features_begin_again(geolint_features *features, uint32_t max_depth, uint64_t max_bytes);
 
 /* Takes the next bytes, up to where features have ended: all of these bytes, or some, and then at least one finding is ready. More may
@@ -238,7 +239,8 @@ size_t geolint_records_size(void);
  * the two is answered as limits that are not allowed. */
 uint32_t geolint_records_begin(geolint_records *records, uint32_t framing, uint32_t max_depth, uint64_t max_bytes);
 
-/* As geolint_records_begin, for memory that it has got before, at little cost: a finding that is not pulled yet is forgotten. */
+/* As geolint_records_begin, for memory that it has got before, at little cost: a finding that is not pulled yet is forgotten, also
+ * where the limits or the framing are not allowed. */
 uint32_t geolint_records_begin_again(geolint_records *records, uint32_t framing, uint32_t max_depth, uint64_t max_bytes);
 
 /* Takes the next bytes, up to and with the separator after the next record. A record that is not valid ends there as well, and the
@@ -266,7 +268,7 @@ geolint_whole geolint_records_finish(geolint_records *records);
 /* ---- the path to a place */
 
 /* In memory of the host: geolint_locator_size() bytes at a multiple of geolint_alignment(). It has no end; begin it again for another
- * text or another place. */
+ * text or another place. As measured, no call on a locator needs more than 16 KiB of stack. */
 typedef struct geolint_locator geolint_locator;
 
 size_t geolint_locator_size(void);
@@ -325,10 +327,10 @@ geolint_lines geolint_lines_feed(geolint_lines lines, const void *bytes, size_t 
  * They are those that the functions return, on systems with 64-bit addresses. */
 
 #define GEOLINT_ALIGNMENT 16
-#define GEOLINT_SIZE 199168
-#define GEOLINT_FEATURES_SIZE 246336
-#define GEOLINT_RECORDS_SIZE 199600
-#define GEOLINT_LOCATOR_SIZE 5080
+#define GEOLINT_SIZE 199184
+#define GEOLINT_FEATURES_SIZE 246352
+#define GEOLINT_RECORDS_SIZE 199616
+#define GEOLINT_LOCATOR_SIZE 5120
 
 /* ---- texts */
 

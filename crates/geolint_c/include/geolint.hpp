@@ -1,7 +1,8 @@
 /* geolint for C++11 and later, over geolint.h: a linter that frees its memory, the verdict as a value, and ranges over findings.
  *
  * No call gives a reference into an argument or into an object that ends with the expression: `valid_or_throw(check(text))` may be
- * kept by value and by reference. Nothing here throws but `geolint::valid_or_throw`, and that is left out where exceptions are turned off. */
+ * kept by value and by reference. Nothing here throws but `geolint::valid_or_throw`, which is left out where exceptions are turned off,
+ * and `Locator::path` where there is no memory for its string. */
 #ifndef GEOLINT_HPP
 #define GEOLINT_HPP
 
@@ -9,6 +10,8 @@
 
 #include <cstddef>
 #include <cstdint>
+#include <cstdio>
+#include <cstdlib>
 #include <iterator>
 #include <memory>
 #include <string>
@@ -21,6 +24,14 @@
 #if __has_include(<version>)
 #include <version>
 #endif
+#endif
+#if defined(__has_cpp_attribute)
+#if __has_cpp_attribute(clang::lifetimebound)
+#define GEOLINT_LIFETIMEBOUND [[clang::lifetimebound]] /* What the call gives is not to outlive the object: clang warns. */
+#endif
+#endif
+#if !defined(GEOLINT_LIFETIMEBOUND)
+#define GEOLINT_LIFETIMEBOUND
 #endif
 #if defined(__cpp_lib_expected)
 #include <expected>
@@ -170,11 +181,18 @@ struct RecordCalls {
     static geolint_finding next(Handle *at) noexcept { return geolint_records_next(at); }
 };
 
+/* Ends the process, as an assertion does that fails: to go on would feed pieces in the wrong order, or read memory that is freed. */
+[[noreturn]] inline void misused() noexcept {
+    std::fputs("geolint: a range of findings has not ended: read it to its end, or destroy it, before its object is fed, begun, finished or destroyed\n", stderr);
+    std::abort();
+}
+
 /* Reports findings in bytes that come in pieces. */
 template <class Calls> class Puller {
 public:
     /* The findings that end in a piece, as they are asked for: a range for one pass, over bytes that the host keeps until it has ended.
-     * What is left of the piece is fed with the range's end or with its destruction. */
+     * What is left of the piece is fed with the range's end or with its destruction. Before that, to feed, begin, finish or destroy what
+     * gave the range ends the process with a text that says so. */
     class Range {
     public:
         class iterator {
@@ -212,52 +230,84 @@ public:
         Range &operator=(Range &&) = delete;
         ~Range() {
             geolint_finding finding;
-            while (at_ && next(&finding)) {
+            while (next(&finding)) {
             }
         }
 
-        iterator begin() noexcept { return iterator(this); }
+        iterator begin() & noexcept GEOLINT_LIFETIMEBOUND { return iterator(this); }
+        iterator begin() && = delete;
         iterator end() noexcept { return iterator(nullptr); }
 
     private:
         friend class Puller;
         Range(typename Calls::Handle *at, const void *bytes, std::size_t length) noexcept
-            : at_(at), bytes_(static_cast<const char *>(geolint_bytes(bytes))), left_(length) {}
+            : at_(at), bytes_(static_cast<const char *>(geolint_bytes(bytes))), left_(length) {
+            if (at_)
+                has_range(at_) = 1;
+        }
 
         bool next(geolint_finding *finding) noexcept {
-            for (;;) {
+            while (at_) {
                 *finding = Calls::next(at_);
                 if (finding->report.status == GEOLINT_DONE)
                     return true;
-                if (!left_)
-                    return false;
+                if (!left_) {
+                    has_range(at_) = 0;
+                    at_ = nullptr;
+                    break;
+                }
                 geolint_progress progress = Calls::feed(at_, bytes_, left_);
                 bytes_ += progress.taken;
                 left_ -= static_cast<std::size_t>(progress.taken);
                 if (progress.status != GEOLINT_DONE && !progress.ready)
                     left_ = 0;
             }
+            return false;
         }
 
-        typename Calls::Handle *at_;
+        typename Calls::Handle *at_; /* null once the range has ended */
         const char *bytes_;
         std::size_t left_;
     };
 
     explicit operator bool() const noexcept { return memory_ != nullptr; }
 
-    /* The findings that end in these bytes. Of a container that ends with the expression there are none to ask for: it is refused. */
-    Range feed(const void *bytes, std::size_t length) noexcept { return Range(at(), bytes, length); }
+    /* The findings that end in these bytes, of an object and of a container that both stay after the expression: of others it does not
+     * compile. */
+    Range feed(const void *bytes, std::size_t length) & noexcept GEOLINT_LIFETIMEBOUND { return Range(without_range(), bytes, length); }
     template <class Bytes, class = typename std::enable_if<Stays<Bytes>::value>::type, class = decltype(std::declval<const Bytes &>().data())>
-    Range feed(Bytes &&bytes) noexcept {
+    Range feed(Bytes &&bytes) & noexcept GEOLINT_LIFETIMEBOUND {
         return feed(bytes.data(), bytes.size() * sizeof(*bytes.data()));
     }
+    Range feed(const void *bytes, std::size_t length) && = delete;
+    template <class Bytes> Range feed(Bytes &&bytes) && = delete;
 
 protected:
-    Puller() noexcept : memory_(malloc(Calls::size())) {}
-    typename Calls::Handle *at() const noexcept { return static_cast<typename Calls::Handle *>(memory_.get()); }
+    typedef typename Calls::Handle Handle;
+    Puller() noexcept : memory_(malloc(Calls::size() + 1)) {
+        if (memory_)
+            has_range(at()) = 0;
+    }
+    Handle *at() const noexcept { return static_cast<Handle *>(memory_.get()); }
+    Handle *without_range() const noexcept {
+        if (memory_ && has_range(at()))
+            misused();
+        return at();
+    }
 
-    std::unique_ptr<void, Free> memory_;
+private:
+    /* The byte after the handle: 1 while a range over its findings has not ended. */
+    static char &has_range(void *handle) noexcept { return static_cast<char *>(handle)[Calls::size()]; }
+    struct FreeWithoutRange {
+        void operator()(void *handle) const noexcept {
+            if (has_range(handle))
+                misused();
+            free(handle);
+        }
+    };
+
+protected:
+    std::unique_ptr<void, FreeWithoutRange> memory_;
 };
 
 } // namespace detail
@@ -278,11 +328,11 @@ public:
     }
     /* Begins again, in the same memory, at little cost; findings that were not asked for are forgotten. */
     bool begin(Limits limits = Limits()) noexcept {
-        return geolint_features_begin_again(at(), limits.max_depth, limits.max_bytes) == GEOLINT_DONE;
+        return geolint_features_begin_again(without_range(), limits.max_depth, limits.max_bytes) == GEOLINT_DONE;
     }
     std::uint64_t offset() noexcept { return geolint_features_offset(at()); }
     /* The verdict of all that was fed, and the end. */
-    Verdict finish() noexcept { return Verdict(geolint_features_finish(at())); }
+    Verdict finish() noexcept { return Verdict(geolint_features_finish(without_range())); }
 };
 
 /* Reports what is found in each record of an input. */
@@ -294,18 +344,19 @@ public:
     }
     /* Begins again, in the same memory, at little cost. */
     bool begin(geolint_framing framing, Limits limits = Limits()) noexcept {
-        return geolint_records_begin_again(at(), framing, limits.max_depth, limits.max_bytes) == GEOLINT_DONE;
+        return geolint_records_begin_again(without_range(), framing, limits.max_depth, limits.max_bytes) == GEOLINT_DONE;
     }
     std::uint64_t offset() noexcept { return geolint_records_offset(at()); }
     /* What the input is as a whole, and the end; `number` is how many records there are, or that of the first that is not valid. */
     Verdict finish(std::uint64_t *number = nullptr) noexcept {
-        const geolint_whole whole = geolint_records_finish(at());
+        const geolint_whole whole = geolint_records_finish(without_range());
         if (number)
             *number = whole.number;
         return Verdict(whole.report);
     }
     /* The last record, which the end of the input ends, where there is one. */
-    Range last() noexcept { return feed("", 0); }
+    Range last() & noexcept GEOLINT_LIFETIMEBOUND { return feed("", 0); }
+    Range last() && = delete;
 };
 
 /* Finds the path to a place: it is fed the bytes before the place, and the one that stands there. */
@@ -420,4 +471,5 @@ inline Verdict valid_or_throw(const Verdict &verdict) {
 
 } // namespace geolint
 
+#undef GEOLINT_LIFETIMEBOUND
 #endif

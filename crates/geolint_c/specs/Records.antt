@@ -60,9 +60,10 @@ pub record IsLive (framing : Framing) (limits : Allowed) (handle : RecordHandle)
   pub stands : StandsFor handle framing limits [] []
   pub ready : handle.ready ≡ false
 
+-- no record is ready then, whether it may begin or not
 pub record IsBegun (framing max_depth max_bytes : ℕ) (handle : RecordHandle) : Type 0 where
   pub live : MayBegin (framing_of framing) max_depth max_bytes (λ framing. IsLive framing (limits_meant max_depth max_bytes) handle)
-  pub ended : MayNotBegin (framing_of framing) max_depth max_bytes (HasEnded handle)
+  pub ended : MayNotBegin (framing_of framing) max_depth max_bytes (HasEnded handle × (handle.ready ≡ false))
 
 pub record BegunStatus (framing max_depth max_bytes status : ℕ) : Type 0 where
   pub live : MayBegin (framing_of framing) max_depth max_bytes (λ framing. status ≡ 0)

@@ -45,7 +45,7 @@ fn may_move(handle: &RecordHandle) {
 }
 
 impl RecordHandle {
-    /// Before the first byte of an input; where the limits or the framing are not allowed, a handle that has ended.
+    /// Before the first byte of an input; where the limits or the framing are not allowed, a handle that has ended. No record is ready.
     pub fn begun(framing: u32, max_depth: u32, max_bytes: u64) -> RecordHandle
         ensures { IsBegun framing max_depth max_bytes result }
     {
@@ -62,7 +62,8 @@ impl RecordHandle {
         }
     }
 
-    /// As `begun`, whatever the handle was. Where it has a checker of records, little is written.
+    /// As `begun`, whatever the handle was: a record that is not pulled yet is forgotten. Where it has a checker of records, little is
+    /// written.
     pub fn begin_again(&mut self, framing: u32, max_depth: u32, max_bytes: u64) -> u32
         ensures begun { IsBegun framing max_depth max_bytes self.new }
         ensures status { BegunStatus framing max_depth max_bytes result }
@@ -73,6 +74,7 @@ impl RecordHandle {
                 DONE
             }
             _ => {
+                self.ready = false;
                 self.ended = true;
                 LIMITS
             }

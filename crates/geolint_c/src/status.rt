@@ -6,7 +6,7 @@ pub const DONE: u32 = 0;
 /// Of a piece: the input is refused, and so is every input that begins so.
 pub const REFUSED: u32 = 1;
 
-/// The handle has ended: nothing was changed.
+/// The handle has ended, and stays so until it is begun again.
 pub const ENDED: u32 = 2;
 
 /// The limits are not allowed: nothing can be checked under them.

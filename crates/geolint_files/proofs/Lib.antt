@@ -1,3 +1,5 @@
+mod AddedInTurn
 mod Common
 mod Runs
 mod Walks
+mod LinesRead

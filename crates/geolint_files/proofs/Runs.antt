@@ -3,3 +3,4 @@ pub mod WorstOutcome
 pub mod ToldFiles
 pub mod ListedFiles
 pub mod FollowedFiles
+pub mod NamedFiles

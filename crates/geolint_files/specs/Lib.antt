@@ -1,4 +1,5 @@
 pub mod Words
+pub mod Named
 pub mod Outcome
 pub mod Run
 pub mod Walk
@@ -6,4 +7,6 @@ pub mod Told
 pub mod Listed
 pub mod Internal
 pub mod JoinedRun
+pub mod JoinReport
 pub mod AskedLine
+pub mod SplitLine

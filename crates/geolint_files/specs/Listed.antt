@@ -12,10 +12,10 @@ use Rattle.geolint_report.specs.declared.every.tally.Tally.{Tally}
 use Rattle.geolint_report.specs.declared.judge.Reading.{Reading}
 use Rattle.report_forms.specs.declared.options.Every.{Every}
 use Rattle.report_forms.specs.declared.options.Options.{Options}
-use Rattle.geolint_report.specs.Every.{AreNotesBy}
+use Rattle.geolint_report.specs.Every.{AreNotesBy, is_no_text}
 use Rattle.geolint_report.specs.Marks.{IsMarkBy}
 use Rattle.geolint_report.specs.Judged.{Finds, framing_in}
-use Rattle.geolint_files.specs.Run.{FeatureLine, feature_line, others_line, ToldFile, listed}
+use Rattle.geolint_files.specs.Run.{FeatureLine, feature_line, others_line, ToldFile, judged, listed}
 use Rattle.geolint_files.specs.Told.{reading_of, HasSites, IsToldOnce, IsToldTwice}
 
 -- ---- what is asked
@@ -93,12 +93,23 @@ IsSpotBy had note None = ⊤
 IsSpotBy had note (Some mark) = IsMarkBy None had note.told.place mark × (mark.path ≡ None)
 
 -- What is reported of a source that had these bytes: of its places at most the lines and columns.
--- Where its features are not reported, it is as of a file of which only the report is asked.
+-- Of a text that is refused no feature is reported.
 abbrev pub IsListedOnce : Reading → Asked → Allowed → List ℕ → Option (List ℕ) → (failed now_failed : ℕ) → ToldFile → Type 0
 IsListedOnce reading asked limits name had failed now_failed (listed report lines tally) =
-    (report.name.now ≡ name) × (report.sites ≡ None) × (now_failed ≡ failed) × ((left : Option (List ℕ)) × Finds reading limits had left report.finding)
+    (is_no_text report.finding ≡ false) × (report.name.now ≡ name) × (report.sites ≡ None) × (now_failed ≡ failed) × ((left : Option (List ℕ)) × Finds reading limits had left report.finding)
     × AreListed (IsMarkedBy (IsSpotBy had)) (framing_in reading) asked limits name had lines tally
+IsListedOnce reading asked limits name had failed now_failed (judged report) =
+    (is_no_text report.finding ≡ true) × IsToldOnce reading limits name had failed now_failed (judged report)
 IsListedOnce reading asked limits name had failed now_failed file = IsToldOnce reading limits name had failed now_failed file
+
+-- where its features are asked for, and where they are not
+abbrev pub IsOnceBy : Option Asked → Reading → Allowed → List ℕ → Option (List ℕ) → (failed now_failed : ℕ) → ToldFile → Type 0
+IsOnceBy (Some asked) reading = IsListedOnce reading asked
+IsOnceBy None reading = IsToldOnce reading
+
+-- what is reported of a source of this name
+abbrev pub IsOnce : Options → List ℕ → Option (List ℕ) → (failed now_failed : ℕ) → ToldFile → Type 0
+IsOnce options name = IsOnceBy (asked_for options name) (reading_of options name) options.limits name
 
 -- ---- a source that is read again
 
@@ -135,8 +146,17 @@ ArePlacedLines reading asked most limits name text notes count lines =
 -- `text` are the bytes of the source from the first one on
 abbrev pub IsListedTwice : Reading → Asked → ℕ → Allowed → List ℕ → Option (List ℕ) → Option (List ℕ) → (failed now_failed : ℕ) → ToldFile → Type 0
 IsListedTwice reading asked most limits name had text failed now_failed (listed report lines tally) =
-    (report.name.now ≡ name) × ((left : Option (List ℕ)) × Finds reading limits had left report.finding)
+    (is_no_text report.finding ≡ false) × (report.name.now ≡ name) × ((left : Option (List ℕ)) × Finds reading limits had left report.finding)
     × ((middle : ℕ) × HasSites reading limits text failed middle report)
     × ((notes : List Note) × (count : ℕ) × AreNotesBy (framing_in reading) asked notes count tally limits had
     × ArePlacedLines reading asked most limits name text notes count lines)
+IsListedTwice reading asked most limits name had text failed now_failed (judged report) =
+    (is_no_text report.finding ≡ true) × IsToldTwice reading limits name had text failed now_failed (judged report)
 IsListedTwice reading asked most limits name had text failed now_failed file = IsToldTwice reading limits name had text failed now_failed file
+
+abbrev pub IsTwiceBy : Option Asked → ℕ → Reading → Allowed → List ℕ → Option (List ℕ) → Option (List ℕ) → (failed now_failed : ℕ) → ToldFile → Type 0
+IsTwiceBy (Some asked) most reading = IsListedTwice reading asked most
+IsTwiceBy None most reading = IsToldTwice reading
+
+abbrev pub IsTwice : Options → List ℕ → Option (List ℕ) → Option (List ℕ) → (failed now_failed : ℕ) → ToldFile → Type 0
+IsTwice options name = IsTwiceBy (asked_for options name) options.most (reading_of options name) options.limits name

@@ -143,13 +143,3 @@ pub record IsWholeReport (options : Options) (style : Style) (files : List ToldF
   pub written : Written
   pub files_told : AddsFiles options style files (begun options.format) written
   pub whole : bytes ≡ written.bytes ++ (end_of options.format written.unread ++ summary_in options files)
-
--- a run that ended: the report of all its files went out, and the outcome is the worst of theirs; without a file only where that is allowed
-pub record IsRun (options : Options) (allows_empty : Bool) (held holds : Option (List ℕ)) (outcome : Outcome) : Type 0 where
-  pub files : List ToldFile
-  pub some : files ≡ [] → allows_empty ≡ true
-  pub style : Style
-  pub bytes : List ℕ
-  pub whole : IsWholeReport options style files bytes
-  pub out : Appends held holds bytes
-  pub worst_is : outcome ≡ worst_of options files

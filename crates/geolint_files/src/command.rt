@@ -80,7 +80,7 @@ const VALUED: CommandOption = CommandOption {
 };
 
 /// The options.
-static OPTIONS: [CommandOption; 19] = [
+static OPTIONS: [CommandOption; 20] = [
     CommandOption {
         name: "strict",
         help: "A valid file with a warning does not pass",
@@ -181,6 +181,13 @@ static OPTIONS: [CommandOption; 19] = [
             "ndjson",
         ],
         ..FLAG
+    },
+    CommandOption {
+        name: "file",
+        value_name: &["PATH"],
+        help: "With --join, find lines and columns in this file, if it is as it was: the path that each --part had",
+        needs: &["join"],
+        ..VALUED
     },
     CommandOption {
         name: "files-from",

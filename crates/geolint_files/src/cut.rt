@@ -1,34 +1,32 @@
 //! Checks a file of records in parts, and joins their lines.
 //!
-//! No contract can say what an open file gives. Those here say which part a line is of and with which options, and that what is
-//! joined is the verdict of the file, with the notes on its records that are asked for, if the lines are true.
+//! No contract can say what an open file gives. Those here say which part a line is of and with which options, what it says of a
+//! source of bytes, and that what is reported is what the lines say together of the file, if they are true.
 
-ghost use Rattle.std.specs.Prelude.{◌≡◌, ◌⊎◌, ℕ, List, IfOk, None, Some};
+ghost use Rattle.std.specs.Prelude.{◌≡◌, ◌-◌, ◌≤◌, ℕ, List, IfOk, IfSome, OnOk, get_or, length, string_bytes, vec_len};
+ghost use Rattle.std.specs.Io.KnownBytes.{Appends};
 ghost use Rattle.std.specs.List.{All};
 ghost use Rattle.gj_json.specs.Limits.{Allowed};
-ghost use Rattle.geolint_report.specs.declared.every.listing.Asked.{Asked};
-ghost use Rattle.geolint_report.specs.declared.every.listing.Notes.{Notes};
 ghost use Rattle.gj_join.specs.Joined.{IsVerdictOf};
 ghost use Rattle.gj_rules.specs.declared.records.framing.Framing.{Framing};
-ghost use Rattle.part_lines.specs.Lines.{IsLineOf, IsListedLineOf};
-ghost use Rattle.part_lines.specs.LineObject.{IsLineIn};
+ghost use Rattle.geolint_report.specs.declared.judge.Finding.{Finding};
+ghost use Rattle.part_lines.specs.Lines.{IsLike, IsLineOf, IsListedLineOf};
 ghost use Rattle.part_lines.specs.LineText.{line_text};
 ghost use Rattle.part_lines.specs.declared.line.PartLine.{PartLine};
-ghost use Rattle.serde_json.specs.Data.{Data};
-ghost use Rattle.serde_json.specs.Read.{read};
 ghost use Rattle.sequence_parts.specs.Checked.{AreNotesIf};
-ghost use Rattle.geolint_files.specs.AskedLine.{IsAskedLine};
 ghost use Rattle.geolint_files.specs.Listed.{asked_in};
+ghost use Rattle.geolint_files.specs.AskedLine.{IsAskedLine, IsReadLine, listed_of};
+ghost use Rattle.geolint_files.specs.JoinReport.{AreJoined, IsJoinReport, joined_options};
+ghost use Rattle.geolint_files.specs.JoinedRun.{IsJoinedRun};
 
 use crate::files::{look_up, reason};
-use crate::outcome::Outcome;
-use crate::run::{Failure, asked_in, tell_joined};
+use crate::run::{Ended, Failure, asked_in, tell_joined};
 use crate::walk::framing_by;
 use crate::words::Order;
 use geolint_report::every::listing::{Asked, Notes};
 use geolint_report::progress::Meter;
 use geolint_report::source::{FileSource, Rewind};
-use gj_rules::SeqVerdict;
+use gj_rules::{Framing, SeqVerdict};
 use part_lines::{
     FileState, Listed, NoLine, PartLine, Refusal, Settings, join_lines, join_notes, put_line,
     read_line,
@@ -38,56 +36,114 @@ use report_forms::options::Options;
 use sequence_parts::{Share, check_part};
 use std::alloc::{AllocError, Global};
 use std::fs::{File, Metadata};
-use std::io::{self, BufWriter, ErrorKind, Read, Write};
+use std::io::{self, ErrorKind, Read, Write};
 use std::os::unix::fs::MetadataExt;
-use std::str;
+
+/// The most bytes that a line has. One with the 65,536 findings that are held has less.
+const MOST_IN_LINE: usize = 8 << 20;
+
+/// The most bytes that all lines have together.
+const MOST_READ: u64 = 256 << 20;
+
+const LONG_LINE: &str = "this line has more than 8 MiB, and no line of a part has";
+
+const TOO_MUCH: &str =
+    "the lines have more than 256 MiB together: give each --part a smaller --most";
+
+const OTHER_FILE: &str =
+    "the lines are of another file than --file names: give the path as each --part had it";
 
 // ---- one part
 
-/// Checks a part of the file that is named, and writes its line. A failure is reported, and the answer is the status.
-pub fn check_share(rt: &HostRuntime, order: &Order, share: Share) -> io::Result<()> {
+/// Checks a part of the file that is named, and writes its line.
+pub fn check_share<W: Write>(
+    rt: &HostRuntime,
+    order: &Order,
+    share: Share,
+    out: &mut W,
+) -> io::Result<()>
+    ensures { OnOk result ((line : PartLine) × IsAskedLine order.now.options share line.file line
+        × Appends (W.contents out.old) (W.contents out.new) (line_text line)) }
+{
     let name: &[u8] = match order.paths.as_slice().first() {
         Some(path) => path.as_slice(),
         None => b"-",
     };
-    let line = line_of(rt, order, share, name)?;
-    let mut out = rt.stdout();
-    out.write_all(line.as_slice())?;
-    out.flush()
-}
-
-/// The line of a part of a file.
-fn line_of(rt: &HostRuntime, order: &Order, share: Share, name: &[u8]) -> io::Result<Vec<u8>>
-    ensures { IfOk result (λ bytes. (line : PartLine) × IsAskedLine order.now.options share line × (bytes.items ≡ line_text line)) }
-{
-    let alloc = rt.alloc();
-    let options = &order.options;
-    let Some(framing) = framing_by(options.framing, name) else {
+    let Some(framing) = framing_by(order.options.framing, name) else {
         return Err(io::Error::from(ErrorKind::InvalidInput));
     };
-    let (spelled, _) = look_up(rt, name)?;
+    let (file, state) = open_regular(rt, name)?;
+    let mut meter = Meter::new(rt.clone()?);
+    let options = &order.options;
+    let source = FileSource::new(file);
+    let line = line_of(
+        rt.alloc(),
+        options,
+        share,
+        framing,
+        state,
+        source,
+        &mut meter,
+    );
+    meter.clear();
+    match line {
+        Ok(line) => put_share(rt.alloc(), &line, out),
+        Err(error) => Err(error),
+    }
+}
+
+/// Writes the line of a part.
+fn put_share<W: Write>(alloc: Global, line: &PartLine, out: &mut W) -> io::Result<()>
+    ensures { OnOk result (Appends (W.contents out.old) (W.contents out.new) (line_text line.now)) }
+{
+    let bytes = text_of(alloc, line)?;
+    out.write_all(bytes.as_slice())?;
+    out.flush()?;
+    Ok(())
+}
+
+/// Opens a regular file, and says what the system shows of it. It is looked at before, since a pipe would keep the call waiting,
+/// and again when it is open.
+fn open_regular(rt: &HostRuntime, name: &[u8]) -> io::Result<(File, FileState)> {
+    let (spelled, before) = look_up(rt, name)?;
+    if !before.is_file() {
+        return Err(io::Error::from(ErrorKind::NotSeekable));
+    }
     let file = spelled.open(rt)?;
     let metadata = file.metadata()?;
     if !metadata.is_file() {
         return Err(io::Error::from(ErrorKind::NotSeekable));
     }
-    let mut meter = Meter::new(rt.clone()?);
-    let size = metadata.len();
+    let state = state_of(rt.alloc(), spelled.as_str(), &metadata)?;
+    Ok((file, state))
+}
+
+/// The line of a part of a source, which has as many bytes as the file.
+fn line_of<S: Rewind + Drop>(
+    alloc: Global,
+    options: &Options,
+    share: Share,
+    framing: Framing,
+    file: FileState,
+    source: S,
+    meter: &mut Meter,
+) -> io::Result<PartLine>
+    ensures asked { IfOk result (IsAskedLine options.now share file) }
+    ensures read { IfOk result (λ line. IfSome (S.text source) (λ text. length text ≡ file.size → IsReadLine framing options.now share text line)) }
+{
     let asked = asked_in(options);
-    let checked = check_part(
+    let found = check_part(
         alloc,
-        FileSource::new(file),
-        size,
+        source,
+        file.size,
         share,
         framing,
         options.limits,
         asked,
-        &mut meter,
-    );
-    meter.clear();
-    let found = checked?;
-    let line = PartLine {
-        file: state_of(alloc, spelled.as_str(), &metadata)?,
+        meter,
+    )?;
+    Ok(PartLine {
+        file,
         settings: Settings {
             framing,
             limits: options.limits,
@@ -97,14 +153,12 @@ fn line_of(rt: &HostRuntime, order: &Order, share: Share, name: &[u8]) -> io::Re
         share,
         checked: found.part,
         listed: listed_of(asked, found.notes),
-    };
-    text_of(alloc, &line)
+    })
 }
 
 /// The notes of a part, with what was asked for.
 fn listed_of(asked: Option<Asked>, notes: Option<Notes>) -> Option<Listed>
-    ensures both { (what : Asked) (found : Notes) → asked ≡ Some what → notes ≡ Some found → result ≡ Some (record { asked = what; notes = found }) }
-    ensures none { (asked ≡ None) ⊎ (notes ≡ None) → result ≡ None }
+    ensures { result ≡ listed_of asked notes }
 {
     match (asked, notes) {
         (Some(asked), Some(notes)) => Some(Listed { asked, notes }),
@@ -166,8 +220,14 @@ impl Given {
 pub enum NotJoined {
     /// A file of lines cannot be read.
     Unread(usize, io::Error),
+    /// All lines together are too long.
+    TooMuch,
+    /// A line is too long.
+    LongLine(Origin),
     /// A line is not that of a part.
     NoLine(Origin, NoLine),
+    /// The lines are not of the file that is named.
+    OtherFile,
     Refused(Option<Origin>, Refusal),
     Memory,
     /// The report is not written.
@@ -180,34 +240,67 @@ impl From<AllocError> for NotJoined {
     }
 }
 
-/// Joins the lines of the files that are named, and reports the file of which they are.
-pub fn join_all(rt: &HostRuntime, order: &Order) -> Result<Outcome, NotJoined> {
+/// Joins the lines of the files that are named, and reports the file of which they are. The report goes to the writer.
+pub fn join_all<W: Write + Drop>(
+    rt: &HostRuntime,
+    order: &Order,
+    out: W,
+) -> Result<Ended<W>, NotJoined>
+    ensures { IfOk result (λ ended. (lines : List PartLine)
+        × IsJoinReport order.now.options lines (W.contents out) (W.contents ended.out) ended.outcome) }
+{
     let given = given_lines(rt, order)?;
-    let (verdict, notes) = match join_given(rt.alloc(), order, &given) {
-        Ok(found) => found,
-        Err(refusal) => return Err(NotJoined::Refused(origin_of(&given, refusal), refusal)),
+    let source = source_of(rt, order, &given)?;
+    report_given(rt, order, &given, source, out)
+}
+
+/// Joins these lines, and reports the file. Its places have lines and columns where its source is there.
+fn report_given<W: Write + Drop, S: Rewind + Drop>(
+    rt: &HostRuntime,
+    order: &Order,
+    given: &Given,
+    source: Option<S>,
+    out: W,
+) -> Result<Ended<W>, NotJoined>
+    ensures { IfOk result
+        (λ ended. IsJoinReport order.now.options given.now.lines.items (W.contents out) (W.contents ended.out) ended.outcome) }
+{
+    let Some(line) = given.lines.as_slice().first() else {
+        return Err(NotJoined::Refused(None, Refusal::None));
     };
-    match given.lines.as_slice().first() {
-        Some(line) => report(rt, order, line, verdict, notes),
-        None => Err(NotJoined::Refused(None, Refusal::None)),
-    }
+    let found = join_given(rt.alloc(), &order.options, given)?;
+    report(rt, order, line, found.0, found.1, source, out)
 }
 
 /// The verdict of the file, and the notes on its records where these are asked for.
 fn join_given(
     alloc: Global,
-    order: &Order,
+    options: &Options,
     given: &Given,
-) -> Result<(SeqVerdict, Option<Notes>), Refusal>
-    ensures verdict { IfOk result (λ found. (framing : Framing) (limits : Allowed) (text : List ℕ)
-        → All (IsLineOf framing limits text) given.now.lines.items → IsVerdictOf framing limits text found.0) }
-    ensures notes { IfOk result (λ found. (framing : Framing) (limits : Allowed) (text : List ℕ)
-        → All (IsListedLineOf framing limits text) given.now.lines.items
-        → AreNotesIf framing limits (asked_in order.now.options) text found.1) }
+) -> Result<(SeqVerdict, Option<Notes>), NotJoined>
+    ensures joined { IfOk result (λ found. AreJoined options.now given.now.lines.items found.0 found.1) }
+    ensures alike { IfOk result (λ found. (none : PartLine) → All (IsLike (get_or given.now.lines.items 0 none)) given.now.lines.items) }
 {
-    let lines = given.lines.as_slice();
+    match join_listed(alloc, options, given.lines.as_slice()) {
+        Ok(found) => Ok(found),
+        Err(refusal) => Err(NotJoined::Refused(origin_of(given, refusal), refusal)),
+    }
+}
+
+/// Joins the lines, and where that is asked for what they list.
+fn join_listed(
+    alloc: Global,
+    options: &Options,
+    lines: &[PartLine],
+) -> Result<(SeqVerdict, Option<Notes>), Refusal>
+    ensures whole { IfOk result (λ found. (framing : Framing) (limits : Allowed) (text : List ℕ)
+        → All (IsLineOf framing limits text) lines.now → IsVerdictOf framing limits text found.0) }
+    ensures notes { IfOk result (λ found. (framing : Framing) (limits : Allowed) (text : List ℕ)
+        → All (IsListedLineOf framing limits text) lines.now → AreNotesIf framing limits (asked_in options.now) text found.1) }
+    ensures alike { IfOk result (λ found. (none : PartLine) → All (IsLike (get_or lines.now 0 none)) lines.now) }
+{
     let verdict = join_lines(alloc, lines)?;
-    match asked_in(&order.options) {
+    match asked_in(options) {
         Some(asked) => Ok((verdict, Some(join_notes(alloc, lines, asked)?))),
         None => Ok((verdict, None)),
     }
@@ -230,36 +323,39 @@ fn given_lines(rt: &HostRuntime, order: &Order) -> Result<Given, NotJoined> {
         lines: Vec::new(rt.alloc()),
         origins: Vec::new(rt.alloc()),
     };
+    let mut used = 0u64;
     for (path, name) in order.paths.as_slice().iter().enumerate() {
-        let bytes = match read_named(rt, name.as_slice()) {
-            Ok(bytes) => bytes,
+        let bytes = match read_named(rt, name.as_slice(), used) {
+            Ok(Some(bytes)) => bytes,
+            Ok(None) => return Err(NotJoined::TooMuch),
             Err(error) => return Err(NotJoined::Unread(path, error)),
         };
+        used = used.saturating_add(bytes.len() as u64);
         add_lines(rt.alloc(), path, bytes.as_slice(), &mut given)?;
     }
     Ok(given)
 }
 
-fn read_named(rt: &HostRuntime, name: &[u8]) -> io::Result<Vec<u8>> {
+fn read_named(rt: &HostRuntime, name: &[u8], used: u64) -> io::Result<Option<Vec<u8>>> {
     if name == b"-".as_slice() {
-        return read_whole(rt.alloc(), rt.stdin());
+        return read_whole(rt.alloc(), rt.stdin(), used);
     }
     let (spelled, _) = look_up(rt, name)?;
-    read_whole(rt.alloc(), spelled.open(rt)?)
+    read_whole(rt.alloc(), spelled.open(rt)?, used)
 }
 
-fn read_whole<R: Read + Drop>(alloc: Global, reader: R) -> io::Result<Vec<u8>> {
-    let mut reader = reader;
+/// All bytes of a reader. None where there are too many, after so many others.
+fn read_whole<R: Read + Drop>(alloc: Global, reader: R, used: u64) -> io::Result<Option<Vec<u8>>>
+    ensures { IfOk result (λ found. IfSome found (λ bytes. vec_len bytes ≤ MOST_READ - used)) }
+{
+    let room = MOST_READ.saturating_sub(used);
     let mut bytes = Vec::new(alloc);
-    let mut piece = [0; 8192];
-    for _ in 0..u64::MAX {
-        let count = reader.read(&mut piece)?;
-        if count == 0 {
-            break;
-        }
-        bytes.extend_from_slice(&piece[..count])?;
+    reader.take(room + 1).read_to_end(&mut bytes)?;
+    if bytes.len() as u64 > room {
+        Ok(None)
+    } else {
+        Ok(Some(bytes))
     }
-    Ok(bytes)
 }
 
 /// Adds the lines of a file. Empty ones are passed over.
@@ -267,11 +363,15 @@ fn add_lines(alloc: Global, path: usize, bytes: &[u8], given: &mut Given) -> Res
     let mut number = 0u64;
     for text in bytes.split(|byte| *byte == b'\n') {
         number = number.saturating_add(1);
-        if text.trim_ascii().is_empty() {
+        let text = text.trim_ascii();
+        if text.is_empty() {
             continue;
         }
         let origin = Origin { path, line: number };
-        match read_bytes(alloc, text) {
+        if text.len() > MOST_IN_LINE {
+            return Err(NotJoined::LongLine(origin));
+        }
+        match read_line(alloc, text) {
             Ok(line) => given.add(line, origin)?,
             Err(why) => return Err(NotJoined::NoLine(origin, why)),
         }
@@ -279,23 +379,19 @@ fn add_lines(alloc: Global, path: usize, bytes: &[u8], given: &mut Given) -> Res
     Ok(())
 }
 
-fn read_bytes(alloc: Global, text: &[u8]) -> Result<PartLine, NoLine>
-    ensures { IfOk result (λ line. (it : Data) × (read text.now ≡ Some it) × IsLineIn it line) }
-{
-    match str::from_utf8(text) {
-        Ok(text) => read_line(alloc, text),
-        Err(_) => Err(NoLine::NoPart),
-    }
-}
-
-/// Reports the file of the lines. Its places have lines and columns where it is there, and is as it was.
-fn report(
+/// Reports the file of the lines.
+fn report<W: Write + Drop, S: Rewind + Drop>(
     rt: &HostRuntime,
     order: &Order,
     line: &PartLine,
     verdict: SeqVerdict,
     notes: Option<Notes>,
-) -> Result<Outcome, NotJoined> {
+    source: Option<S>,
+    out: W,
+) -> Result<Ended<W>, NotJoined>
+    ensures { IfOk result (λ ended. IsJoinedRun (joined_options order.now.options line.now.settings) notes (string_bytes line.now.file.path)
+        (Finding.Sequence verdict) (W.contents out) (W.contents ended.out) ended.outcome) }
+{
     let alloc = rt.alloc();
     let asked = &order.options;
     let joined = Order {
@@ -318,34 +414,30 @@ fn report(
         allows_empty: false,
         parts: None,
         cut: None,
+        joined: None,
     };
-    let out = match BufWriter::new(alloc, rt.stdout()) {
-        Ok(out) => out,
-        Err(_) => return Err(NotJoined::Memory),
-    };
-    let source = source_of(rt, line);
     let name = line.file.path.as_bytes();
     match tell_joined(rt, &joined, name, verdict, notes, source, out) {
-        Ok(ended) => Ok(ended.outcome),
+        Ok(ended) => Ok(ended),
         Err(failure) => Err(NotJoined::Report(failure)),
     }
 }
 
-/// The file of a line, where it is there and is as it was.
-fn source_of(rt: &HostRuntime, line: &PartLine) -> Option<FileSource> {
-    let file = open_as_it_was(rt, line).ok()?;
-    Some(FileSource::new(file?))
-}
-
-fn open_as_it_was(rt: &HostRuntime, line: &PartLine) -> io::Result<Option<File>> {
-    let (spelled, _) = look_up(rt, line.file.path.as_bytes())?;
-    let file = spelled.open(rt)?;
-    let metadata = file.metadata()?;
-    let state = state_of(rt.alloc(), spelled.as_str(), &metadata)?;
-    if metadata.is_file() && state == line.file {
-        Ok(Some(file))
-    } else {
-        Ok(None)
+/// The file that is named beside the lines, where it is there and is as it was. No other is opened, whatever the lines name.
+fn source_of(
+    rt: &HostRuntime,
+    order: &Order,
+    given: &Given,
+) -> Result<Option<FileSource>, NotJoined> {
+    let (Some(name), Some(line)) = (&order.joined, given.lines.as_slice().first()) else {
+        return Ok(None);
+    };
+    if name.as_slice() != line.file.path.as_bytes() {
+        return Err(NotJoined::OtherFile);
+    }
+    match open_regular(rt, name.as_slice()) {
+        Ok((file, state)) if state == line.file => Ok(Some(FileSource::new(file))),
+        _ => Ok(None),
     }
 }
 
@@ -362,6 +454,9 @@ pub fn put_unchecked(
     let text = match error.kind() {
         ErrorKind::NotSeekable => String::from_str(rt.alloc(), "not a regular file")?,
         ErrorKind::InvalidData => String::from_str(rt.alloc(), "it has changed")?,
+        ErrorKind::UnexpectedEof => {
+            String::from_str(rt.alloc(), "its bytes could not all be read")?
+        }
         _ => reason(rt.alloc(), error)?,
     };
     out.extend_from_slice(text.as_bytes())?;
@@ -390,6 +485,18 @@ pub fn put_not_joined(
         NotJoined::Unread(path, error) => {
             put_named(order, *path, out)?;
             reason(alloc, error)?
+        }
+        NotJoined::TooMuch => {
+            out.extend_from_slice(b"geolint-files: ")?;
+            String::from_str(alloc, TOO_MUCH)?
+        }
+        NotJoined::LongLine(origin) => {
+            put_origin(rt, order, *origin, out)?;
+            String::from_str(alloc, LONG_LINE)?
+        }
+        NotJoined::OtherFile => {
+            out.extend_from_slice(b"geolint-files: ")?;
+            String::from_str(alloc, OTHER_FILE)?
         }
         NotJoined::NoLine(origin, why) => {
             put_origin(rt, order, *origin, out)?;
@@ -427,6 +534,8 @@ fn no_line_text(why: NoLine) -> &'static str {
     match why {
         NoLine::NoPart => "this is not the line of a part",
         NoLine::OtherVersion => "this line is of another version of geolint-files",
+        NoLine::Altered =>
+            "this line is not as it was written: its checksum is another. Check the part again",
         NoLine::Memory => "out of memory",
     }
 }

@@ -77,6 +77,13 @@ impl Spelled {
         fs::open(rt, self.text.as_str())
     }
 
+    /// Opens it, and looks at what was opened: between a look at a name and this, another file can take the name.
+    pub fn open_and_look(&self, rt: &HostRuntime) -> io::Result<(File, Metadata)> {
+        let file = self.open(rt)?;
+        let metadata = file.metadata()?;
+        Ok((file, metadata))
+    }
+
     /// The names of a folder's entries, in the order of their bytes.
     pub fn entries(&self, rt: &HostRuntime) -> io::Result<Vec<Vec<u8>>> {
         let path = format!(in rt.alloc(); "{}/", self.text)?;

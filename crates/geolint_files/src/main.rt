@@ -5,13 +5,14 @@
 //! and the part of the line around each place that is reported. Both take fixed memory, however long a file or a line of it is.
 //!
 //! No clause of this file says what goes to a terminal or ends the process: [`judge_all`] says what the report is, and
-//! [`Outcome::status`] which status follows.
+//! `run_order` which status follows.
 #![tactic(auto)]
 
-ghost use Rattle.std.specs.Prelude.{◌≡◌, ◌≢◌, ◌↔◌, IfErr, IsTrue, OnOk};
+ghost use Rattle.std.specs.Prelude.{◌≡◌, ◌≢◌, ◌↔◌, ◌⊎◌, IfErr, IfOk, IsTrue, None, OnOk};
 ghost use Rattle.std.specs.IoError.{error_kind};
 ghost use Rattle.std.specs.declared.io.ErrorKind.TheVariants.{BrokenPipe};
 ghost use Rattle.geolint_files.specs.declared.NoOrder.{NoOrder};
+ghost use Rattle.geolint_files.specs.Named.{IsOutcome, IsStatus};
 
 mod arguments;
 mod command;
@@ -72,7 +73,9 @@ fn main(rt: HostRuntime) -> ExitCode {
 }
 
 /// The status of a run. Where the features of a file are to be split, and were not, nothing is checked.
-fn run_order(rt: &HostRuntime, order: &Order) -> u8 {
+fn run_order(rt: &HostRuntime, order: &Order) -> u8
+    ensures { order.now.parts ≡ None → order.now.cut ≡ None → IsStatus order.now result }
+{
     if let Some(parts) = &order.parts
         && !set_apart(rt, order, parts)
     {
@@ -91,7 +94,7 @@ fn run_order(rt: &HostRuntime, order: &Order) -> u8 {
 
 /// The status of a call that checks one part: 0 where its line is written, whatever was found.
 fn run_share(rt: &HostRuntime, order: &Order, share: Share) -> u8 {
-    match check_share(rt, order, share) {
+    match check_share(rt, order, share, &mut rt.stdout()) {
         Ok(()) => 0,
         Err(error) if has_no_reader(&error) => NO_READER,
         Err(error) => {
@@ -104,8 +107,12 @@ fn run_share(rt: &HostRuntime, order: &Order, share: Share) -> u8 {
 
 /// The status of a call that joins the lines of parts.
 fn run_join(rt: &HostRuntime, order: &Order) -> u8 {
-    match join_all(rt, order) {
-        Ok(outcome) => outcome.status(),
+    let joined = match BufWriter::new(rt.alloc(), rt.stdout()) {
+        Ok(out) => join_all(rt, order, out),
+        Err(_) => Err(NotJoined::Memory),
+    };
+    match joined {
+        Ok(ended) => ended.outcome.status(),
         Err(NotJoined::Report(failure)) => end_by(rt, &failure),
         Err(why) => {
             let mut line = Vec::new(rt.alloc());
@@ -127,13 +134,17 @@ fn say(rt: &HostRuntime, line: &[u8], put: io::Result<()>) -> u8 {
 }
 
 /// The report goes to standard output.
-fn judge_to_output(rt: &HostRuntime, order: &Order) -> Result<Outcome, Failure> {
+fn judge_to_output(rt: &HostRuntime, order: &Order) -> Result<Outcome, Failure>
+    ensures { IfOk result (IsOutcome order.now) }
+{
     let out = BufWriter::new(rt.alloc(), rt.stdout())?;
     Ok(judge_all(rt, order, out)?.outcome)
 }
 
 /// Says what ends the run, and answers the status. As is usual, nothing is said of a closed pipe.
-fn end_by(rt: &HostRuntime, failure: &Failure) -> u8 {
+fn end_by(rt: &HostRuntime, failure: &Failure) -> u8
+    ensures { (result ≡ 2) ⊎ (result ≡ 141) }
+{
     let _ = match failure {
         Failure::Write(error) if has_no_reader(error) => return NO_READER,
         Failure::Write(error) => eprintln!(rt;

@@ -1,4 +1,7 @@
 //! Splits the features or the records of a file into files, and says how many each has.
+ghost use Rattle.std.specs.Prelude.{OnOk};
+ghost use Rattle.geolint_report.specs.Line.{Adds};
+ghost use Rattle.geolint_files.specs.SplitLine.{part_name, count_in, only_before, missing, written_line};
 
 use crate::files::{is_memory, reason, spell};
 use crate::walk::framing_by;
@@ -6,7 +9,7 @@ use crate::words::{Order, Parts};
 use geolint_report::line::{put, put_number};
 use gj_rules::Verdict;
 use report_forms::formats::put_name;
-use split_files::{Counts, Order as SplitOrder, Part, Stop, Undone, Whole, Written, split_file};
+use split_files::{Order as SplitOrder, Part, Stop, Undone, Whole, Written, split_file};
 use std::alloc::AllocError;
 use std::io::{self, ErrorKind, Write};
 
@@ -55,34 +58,61 @@ fn write_parts(
     ))
 }
 
-/// Puts how many features or records each file has.
+/// Puts how many features or records each file has, and whether some are missing.
 fn put_written(
     written: &Written,
     path: &[u8],
     parts: &Parts,
     line: &mut Vec<u8>,
-) -> Result<(), AllocError> {
-    put(line, b"geolint-files: ")?;
-    put_number(line, written.counts.valid)?;
+) -> Result<(), AllocError>
+    ensures { OnOk result (Adds line.old line.new (written_line written.now parts.now.prefix.items path.now)) }
+{
+    let counts = written.counts;
+    put_count(b"geolint-files: ", counts.valid, parts, Part::Valid, line)?;
+    put_count(b", ", counts.broken, parts, Part::Broken, line)?;
+    put_missing(written.whole, path, line)
+}
+
+/// Puts how many a part has.
+fn put_count(
+    before: &[u8],
+    count: u64,
+    parts: &Parts,
+    part: Part,
+    line: &mut Vec<u8>,
+) -> Result<(), AllocError>
+    ensures { OnOk result (Adds line.old line.new (count_in before.now count parts.now.prefix.items part)) }
+{
+    put(line, before)?;
+    put_number(line, count)?;
     put(line, b" in ")?;
-    put_part(Part::Valid, parts, line)?;
-    put(line, b", ")?;
-    put_number(line, written.counts.broken)?;
-    put(line, b" in ")?;
-    put_part(Part::Broken, parts, line)?;
-    match written.whole {
+    put_part(part, parts, line)
+}
+
+/// Puts that features or records are missing, where they are, and ends the line.
+fn put_missing(whole: Whole, path: &[u8], line: &mut Vec<u8>) -> Result<(), AllocError>
+    ensures { OnOk result (Adds line.old line.new (missing whole path.now)) }
+{
+    match whole {
         Whole::Text(Verdict::NotJson(_)) => {
-            put(line, b"; these are the features before the place where ")?;
-            put_name(path, line)?;
-            put(line, b" is not JSON\n")
+            put_before(b"features", path, b" is not JSON\n", line)
         }
         Whole::Records(input) if input.is_cut => {
-            put(line, b"; these are the records before the place where ")?;
-            put_name(path, line)?;
-            put(line, b" is too long\n")
+            put_before(b"records", path, b" is too long\n", line)
         }
         _ => put(line, b"\n"),
     }
+}
+
+/// Puts that these are only those before a place, and why.
+fn put_before(what: &[u8], path: &[u8], why: &[u8], line: &mut Vec<u8>) -> Result<(), AllocError>
+    ensures { OnOk result (Adds line.old line.new (only_before what.now path.now why.now)) }
+{
+    put(line, b"; these are the ")?;
+    put(line, what)?;
+    put(line, b" before the place where ")?;
+    put_name(path, line)?;
+    put(line, why)
 }
 
 /// Puts why the features or the records were not split, or not all.
@@ -105,21 +135,28 @@ fn put_undone(
         }
         Undone::Memory => put(line, b"out of memory")?,
         Undone::Open(error) => put_of_file(rt, path, error, line)?,
-        Undone::NotRegular => {
-            put_name(path, line)?;
+        Undone::NotRegular(part) => {
+            match part {
+                Some(part) => put_part(*part, parts, line)?,
+                None => put_name(path, line)?,
+            }
             put(line, b": --split needs a regular file")?;
         }
-        Undone::Changed => put_changed(path, line)?,
-        Undone::Stopped(stop, counts) => {
-            match stop {
-                Stop::Read(error) => put_of_file(rt, path, error, line)?,
-                Stop::Shorter | Stop::NoEnd => put_changed(path, line)?,
-                Stop::Write(error) => {
-                    put(line, b"a file of --split cannot be written: ")?;
-                    put_reason(rt, error, line)?;
-                }
-            }
-            put_counts(*counts, line)?;
+        Undone::IsSource(part) => {
+            put_part(*part, parts, line)?;
+            put(
+                line,
+                b": this is the file to be split; another prefix keeps it",
+            )?;
+        }
+        Undone::Stopped(Stop::Read(error)) => put_of_file(rt, path, error, line)?,
+        Undone::Stopped(Stop::Changed) => {
+            put_name(path, line)?;
+            put(line, b": the file changed while it was read")?;
+        }
+        Undone::Stopped(Stop::Write(error)) => {
+            put(line, b"a file of --split cannot be written: ")?;
+            put_reason(rt, error, line)?;
         }
     }
     put(line, b"\n")
@@ -137,23 +174,10 @@ fn put_of_file(
     put_reason(rt, error, line)
 }
 
-/// Puts that a file changed while it was read.
-fn put_changed(path: &[u8], line: &mut Vec<u8>) -> Result<(), AllocError> {
-    put_name(path, line)?;
-    put(line, b": the file changed while it was read")
-}
-
-/// Puts how many features or records are left, all of them whole.
-fn put_counts(counts: Counts, line: &mut Vec<u8>) -> Result<(), AllocError> {
-    put(line, b"; ")?;
-    put_number(line, counts.valid)?;
-    put(line, b" valid and ")?;
-    put_number(line, counts.broken)?;
-    put(line, b" broken ones were written whole")
-}
-
 /// Puts the name of a file that is written.
-fn put_part(part: Part, parts: &Parts, line: &mut Vec<u8>) -> Result<(), AllocError> {
+fn put_part(part: Part, parts: &Parts, line: &mut Vec<u8>) -> Result<(), AllocError>
+    ensures { OnOk result (Adds line.old line.new (part_name parts.now.prefix.items part)) }
+{
     put_name(parts.prefix.as_slice(), line)?;
     put(line, part.ending().as_bytes())
 }

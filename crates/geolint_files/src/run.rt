@@ -1,11 +1,12 @@
 //! Checks what the words name, file by file, and reports each.
-ghost use Rattle.std.specs.Prelude.{◌≡◌, [], List, map, IfOk, OnOk, true, false};
+ghost use Rattle.std.specs.Prelude.{◌≡◌, ◌↔◌, [], List, map, IfOk, IsTrue, OnOk, false};
 ghost use Rattle.std.specs.List.{list_any};
 ghost use Rattle.geolint_report.specs.Line.{Adds};
 ghost use Rattle.geolint_report.specs.Tallies.{IsTotal};
 ghost use Rattle.report_forms.specs.FileCounts.{Counts};
 ghost use Rattle.report_forms.specs.declared.formats.lines.Style.{Style};
-ghost use Rattle.geolint_files.specs.Run.{ToldFile, IsRun, finding_in, tallies_in, whole_summary};
+ghost use Rattle.geolint_files.specs.Run.{ToldFile, finding_in, tallies_in, whole_summary};
+ghost use Rattle.geolint_files.specs.Named.{IsRun};
 ghost use Rattle.geolint_files.specs.Walk.{first_named, is_input, is_input_path, takes_input_twice};
 
 mod features;
@@ -36,7 +37,7 @@ use report_forms::items::put_items;
 use report_forms::options::{Every, Format, Options};
 use report_forms::summary::Summary;
 use std::alloc::AllocError;
-use std::fs::{File, Metadata};
+use std::fs::Metadata;
 use std::io::{self, ErrorKind, IsTerminal, Read, Write};
 use std::os::unix::fs::MetadataExt;
 use std::{env, mem};
@@ -71,6 +72,9 @@ impl From<io::Error> for Failure {
 /// What a list says of standard input.
 const NO_INPUT: &str = "a list cannot name standard input; ./- is a file of that name";
 
+/// What is said of a device, a FIFO or a socket in a folder or a list.
+const NO_FILE: &str = "no regular file; it is read where it is given by name";
+
 /// What is said of a name with NUL, where names end with LF.
 const NO_NUL: &str = "a name in a list has no NUL; --null takes names that end with it";
 
@@ -81,7 +85,7 @@ pub fn judge_all<W: Write + Drop>(
     order: &Order,
     out: W,
 ) -> Result<Ended<W>, Failure>
-    ensures { IfOk result (λ ended. IsRun order.now.options order.now.allows_empty (W.contents out) (W.contents ended.out) ended.outcome) }
+    ensures { IfOk result (λ ended. IsRun order.now (W.contents out) (W.contents ended.out) ended.outcome) }
 {
     if names_input(order) {
         return Err(Failure::BothFromInput);
@@ -102,7 +106,7 @@ pub fn judge_all<W: Write + Drop>(
 
 /// Whether there was no file, and that is not allowed.
 fn lacks_files(summary: &Summary, allows_empty: bool) -> bool
-    ensures { Counts summary.now [] → result ≡ false → allows_empty ≡ true }
+    ensures { (files : List ToldFile) → Counts summary.now (map finding_in files) → IsTrue result ↔ ((files ≡ []) × (allows_empty ≡ false)) }
 {
     summary.is_empty() && !allows_empty
 }
@@ -156,8 +160,6 @@ pub struct Ended<W> {
 struct Run<'a, W> {
     rt: HostRuntime,
     options: Options,
-    /// The endings of names that are taken in a folder beside the usual ones.
-    endings: &'a [Vec<u8>],
     /// The files that are passed over.
     others: Others,
     /// One for all files, each of which begins it anew.
@@ -191,7 +193,7 @@ fn style_of(rt: &HostRuntime, is_terminal: bool) -> Style
 }
 
 impl<'a, W: Write + Drop> Run<'a, W> {
-    ghost use Rattle.std.specs.Prelude.{◌≡◌, [], ℕ, List, Option, None, IfOk, OnOk, IsSomeAnd, map};
+    ghost use Rattle.std.specs.Prelude.{◌≡◌, ◌∷◌, [], ℕ, Bool, List, Vec, Option, None, IfOk, OnOk, IsSomeAnd, map, true};
     ghost use Rattle.std.specs.Io.KnownBytes.{Appends, Keeps};
     ghost use Rattle.geolint_report.specs.declared.report.Report.{Report};
     ghost use Rattle.geolint_report.specs.Line.{Adds};
@@ -206,11 +208,14 @@ impl<'a, W: Write + Drop> Run<'a, W> {
     ghost use Rattle.geolint_files.specs.Internal.RunState.{HasTold, IsFresh, TellsFile, TellsFiles, SameTold, Unchanged};
     ghost use Rattle.geolint_files.specs.Run.{ToldFile, judged, not_read, finding_in, tallies_in, IsWholeReport, end_of, summary_in};
     ghost use Rattle.geolint_files.specs.Told.{reading_of, framing_by, IsToldOnce, IsToldTwice, HasSites};
+    ghost use Rattle.geolint_files.specs.Listed.{IsOnce, IsTwice};
+    ghost use Rattle.geolint_files.specs.Named.{AreOf, AreOfList, AreOfOrder, GoesOn, name_in, next_in};
+    ghost use Rattle.std.specs.declared.alloc.Global.{Global};
 
     /// A run that has reported nothing yet. An error is answered where there is no memory.
     fn new(
         rt: &HostRuntime,
-        order: &'a Order,
+        order: &Order,
         linter: &'a mut Linter,
         out: W,
     ) -> Result<Run<'a, W>, Failure>
@@ -221,7 +226,6 @@ impl<'a, W: Write + Drop> Run<'a, W> {
         Ok(Run {
             rt: rt.clone()?,
             options: order.options,
-            endings: order.endings.as_slice(),
             others: Others::new(rt.alloc()),
             linter,
             style: style_of(rt, is_terminal),
@@ -260,14 +264,15 @@ impl<'a, W: Write + Drop> Run<'a, W> {
 
     /// Checks what the words name, and what a list does.
     fn judge_order(&mut self, order: &Order) -> Result<(), Failure>
-        ensures { OnOk result (TellsFiles W.contents self.old self.new) }
+        ensures { OnOk result ((files : List ToldFile) × AreOfOrder order.now files × TellsFiles W.contents files self.old self.new) }
     {
         self.expect(order);
+        let endings = order.endings.as_slice();
         for path in &order.paths {
-            self.judge_path(path.as_slice())?;
+            self.judge_path(path.as_slice(), endings, true)?;
         }
         match &order.list {
-            Some(list) => self.judge_list(list.as_slice(), order.name_end),
+            Some(list) => self.judge_list(list.as_slice(), order.name_end, endings),
             None => Ok(()),
         }
     }
@@ -349,19 +354,25 @@ impl<'a, W: Write + Drop> Run<'a, W> {
     }
 
     /// Checks each path of a list. One that cannot be opened, or read to its end, is reported as a file is.
-    fn judge_list(&mut self, list: &[u8], name_end: NameEnd) -> Result<(), Failure>
-        ensures { OnOk result (TellsFiles W.contents self.old self.new) }
+    fn judge_list(
+        &mut self,
+        list: &[u8],
+        name_end: NameEnd,
+        endings: &[Vec<u8>],
+    ) -> Result<(), Failure>
+        ensures { OnOk result ((files : List ToldFile) × AreOfList endings.now list.now name_end None files
+            × TellsFiles W.contents files self.old self.new) }
     {
         if list == b"-".as_slice() {
             let input = self.rt.stdin();
-            return self.judge_names(input, list, name_end);
+            return self.judge_names(input, list, name_end, endings);
         }
         let opened = match spell(self.rt.alloc(), list) {
             Ok(spelled) => spelled.open(&self.rt),
             Err(error) => Err(error),
         };
         match opened {
-            Ok(file) => self.judge_names(file, list, name_end),
+            Ok(file) => self.judge_names(file, list, name_end, endings),
             Err(error) => self.tell_unread(list, &error),
         }
     }
@@ -372,65 +383,91 @@ impl<'a, W: Write + Drop> Run<'a, W> {
         reader: R,
         list: &[u8],
         name_end: NameEnd,
+        endings: &[Vec<u8>],
     ) -> Result<(), Failure>
-        ensures { OnOk result (TellsFiles W.contents self.old self.new) }
+        ensures { OnOk result ((files : List ToldFile) × AreOfList endings.now list.now name_end (R.remaining reader) files
+            × TellsFiles W.contents files self.old self.new) }
     {
         let mut names = Names::new(reader, name_end);
         let mut name = Vec::new(self.rt.alloc());
         for _ in 0..u64::MAX {
             match names.next_into(&mut name) {
-                Ok(Listed::End) => break,
-                Ok(listed) => self.judge_listed(name.as_slice(), listed)?,
+                Ok(listed) => match listed {
+                    Listed::End => return Ok(()),
+                    _ => self.judge_listed(name.as_slice(), listed, endings)?,
+                },
                 Err(error) => return self.tell_unread(list, &error),
             }
         }
-        Ok(())
+        // No list has so many names.
+        Err(Failure::Memory)
     }
 
     /// Checks what a list names, which are files and folders alone.
-    fn judge_listed(&mut self, name: &[u8], listed: Listed) -> Result<(), Failure>
-        ensures { OnOk result (TellsFiles W.contents self.old self.new) }
+    fn judge_listed(
+        &mut self,
+        name: &[u8],
+        listed: Listed,
+        endings: &[Vec<u8>],
+    ) -> Result<(), Failure>
+        ensures { OnOk result ((files : List ToldFile) × AreOf endings.now ((name.now, true) ∷ []) files
+            × TellsFiles W.contents files self.old self.new) }
     {
         if listed == Listed::NameWithNul {
             self.tell_unread(name, &io::Error::new(ErrorKind::InvalidInput, NO_NUL))
         } else if name == b"-".as_slice() {
             self.tell_unread(name, &io::Error::new(ErrorKind::InvalidInput, NO_INPUT))
         } else {
-            self.judge_path(name)
+            self.judge_path(name, endings, false)
         }
     }
 
-    /// Checks a file, or the files of a folder.
-    fn judge_path(&mut self, path: &[u8]) -> Result<(), Failure>
-        ensures { OnOk result (TellsFiles W.contents self.old self.new) }
+    /// Checks a file, or the files of a folder. A stream is one where `takes_streams`.
+    fn judge_path(
+        &mut self,
+        path: &[u8],
+        endings: &[Vec<u8>],
+        takes_streams: bool,
+    ) -> Result<(), Failure>
+        ensures { OnOk result ((files : List ToldFile) × AreOf endings.now ((path.now, true) ∷ []) files
+            × TellsFiles W.contents files self.old self.new) }
     {
         if path == b"-".as_slice() {
             let input = self.rt.stdin();
-            return self.judge_stream(path, input);
+            return self.judge_stream(path, &mut FromRead::new(input));
         }
         let mut walk = Walk::of(&self.rt, path)?;
         for _ in 0..u64::MAX {
             match walk.next_pending() {
-                Some(pending) => self.look_at(&pending, &mut walk)?,
-                None => break,
+                Some(pending) => self.look_at(&pending, endings, takes_streams, &mut walk)?,
+                None => return Ok(()),
             }
         }
-        Ok(())
+        // No walk is so long.
+        Err(Failure::Memory)
     }
 
     /// Checks what a name leads to, or puts a folder's entries on the walk. What cannot be looked at is reported: it could be a
     /// folder with files. For a link that leads nowhere, only the name counts.
-    fn look_at(&mut self, pending: &Pending, walk: &mut Walk) -> Result<(), Failure>
-        ensures { OnOk result (TellsFiles W.contents self.old self.new) }
+    fn look_at(
+        &mut self,
+        pending: &Pending,
+        endings: &[Vec<u8>],
+        takes_streams: bool,
+        walk: &mut Walk,
+    ) -> Result<(), Failure>
+        ensures { OnOk result ((files : List ToldFile)
+            × GoesOn endings.now ((pending.now.name.items, pending.now.is_given) ∷ next_in walk.old) (next_in walk.new) files
+            × TellsFiles W.contents files self.old self.new) }
     {
         let name = pending.name.as_slice();
-        let is_wanted = pending.is_given || is_taken(name, self.endings);
+        let is_wanted = pending.is_given || is_taken(name, endings);
         match look_up(&self.rt, name) {
             Ok((spelled, metadata)) => {
                 if metadata.is_dir() {
                     self.enter(name, &spelled, &metadata, walk)
-                } else if is_wanted && (metadata.is_file() || pending.is_given) {
-                    self.judge_named(name, &spelled, &metadata)
+                } else if is_wanted {
+                    self.judge_named(name, &spelled, &metadata, pending.is_given && takes_streams)
                 } else {
                     self.pass_over(name, &metadata)
                 }
@@ -453,32 +490,45 @@ impl<'a, W: Write + Drop> Run<'a, W> {
         metadata: &Metadata,
         walk: &mut Walk,
     ) -> Result<(), Failure>
-        ensures { OnOk result (TellsFiles W.contents self.old self.new) }
+        ensures { OnOk result ((files : List ToldFile)
+            × ((endings : List (Vec ℕ Global)) (is_given : Bool) → GoesOn endings ((name.now, is_given) ∷ next_in walk.old) (next_in walk.new) files)
+            × TellsFiles W.contents files self.old self.new) }
     {
-        if walk.enters(metadata.dev(), metadata.ino())? {
-            match spelled.entries(&self.rt) {
-                Ok(entries) => walk.push_entries(&self.rt, name, entries.as_slice())?,
-                Err(error) => self.tell_unread(name, &error)?,
-            }
+        if !walk.enters(metadata.dev(), metadata.ino())? {
+            return Ok(());
         }
-        Ok(())
+        match spelled.entries(&self.rt) {
+            Ok(entries) => {
+                walk.push_entries(&self.rt, name, entries.as_slice())?;
+                Ok(())
+            }
+            Err(error) => self.tell_unread(name, &error),
+        }
     }
 
-    /// Checks what a name leads to, which is no folder. What cannot be opened is reported.
+    /// Checks what a name leads to, which is no folder. What cannot be opened is reported, and so is a device or a FIFO but where
+    /// a stream is taken: it could have no end, or no bytes for ever. Its kind is looked at again once it is open.
     fn judge_named(
         &mut self,
         name: &[u8],
         spelled: &Spelled,
         metadata: &Metadata,
+        takes_streams: bool,
     ) -> Result<(), Failure>
-        ensures { OnOk result (TellsFiles W.contents self.old self.new) }
+        ensures { OnOk result ((file : ToldFile) × (name_in file ≡ name.now) × TellsFile W.contents file self.old self.new) }
     {
-        match spelled.open(&self.rt) {
-            Ok(file) => {
-                if metadata.is_file() {
-                    self.judge_file(name, file)
+        let opened = match takes_streams || metadata.is_file() {
+            true => spelled.open_and_look(&self.rt),
+            false => Err(no_file()),
+        };
+        match opened {
+            Ok((file, now)) => {
+                if now.is_file() {
+                    self.judge_file(name, &mut FileSource::new(file))
+                } else if takes_streams {
+                    self.judge_stream(name, &mut FromRead::new(file))
                 } else {
-                    self.judge_stream(name, file)
+                    self.tell_unread(name, &no_file())
                 }
             }
             Err(error) => self.tell_unread(name, &error),
@@ -487,7 +537,7 @@ impl<'a, W: Write + Drop> Run<'a, W> {
 
     /// Counts a file that is not taken.
     fn pass_over(&mut self, name: &[u8], metadata: &Metadata) -> Result<(), Failure>
-        ensures { OnOk result (TellsFiles W.contents self.old self.new) }
+        ensures { OnOk result (TellsFiles W.contents [] self.old self.new) }
     {
         if metadata.is_file() {
             self.others.add(name)?;
@@ -514,25 +564,27 @@ impl<'a, W: Write + Drop> Run<'a, W> {
         framing_by(self.options.framing, name)
     }
 
-    /// Checks what can be read once only.
-    fn judge_stream<R: Read + Drop>(&mut self, name: &[u8], reader: R) -> Result<(), Failure>
-        ensures { OnOk result (TellsFiles W.contents self.old self.new) }
+    /// Checks what can be read once only, and its features where these are asked for.
+    fn judge_stream<S: Source>(&mut self, name: &[u8], source: &mut S) -> Result<(), Failure>
+        ensures { OnOk result ((file : ToldFile)
+            × IsOnce self.old.options name.now (S.remaining source.old) (S.failed_reads source.old) (S.failed_reads source.new) file
+            × (name_in file ≡ name.now) × TellsFile W.contents file self.old self.new) }
     {
-        let mut source = FromRead::new(reader);
         match self.asked_for(name) {
-            Some(asked) => self.list_once(name, &mut source, asked),
-            None => self.judge_once(name, &mut source),
+            Some(asked) => self.list_once(name, source, asked),
+            None => self.judge_once(name, source),
         }
     }
 
-    /// Checks a file, and reads it again for the lines of what is reported.
-    fn judge_file(&mut self, name: &[u8], file: File) -> Result<(), Failure>
-        ensures { OnOk result (TellsFiles W.contents self.old self.new) }
+    /// Checks what can be read again, which it is for the lines of what is reported, and its features where these are asked for.
+    fn judge_file<S: Rewind>(&mut self, name: &[u8], source: &mut S) -> Result<(), Failure>
+        ensures { OnOk result ((file : ToldFile)
+            × IsTwice self.old.options name.now (S.remaining source.old) (S.text source.old) (S.failed_reads source.old) (S.failed_reads source.new) file
+            × (name_in file ≡ name.now) × TellsFile W.contents file self.old self.new) }
     {
-        let mut source = FileSource::new(file);
         match self.asked_for(name) {
-            Some(asked) => self.list_twice(name, &mut source, asked),
-            None => self.judge_twice(name, &mut source),
+            Some(asked) => self.list_twice(name, source, asked),
+            None => self.judge_twice(name, source),
         }
     }
 
@@ -699,8 +751,7 @@ impl<'a, W: Write + Drop> Run<'a, W> {
 
     /// Reports a file that could not be opened or read. Each is reported on standard error.
     fn tell_unread(&mut self, name: &[u8], error: &io::Error) -> Result<(), Failure>
-        ensures told { OnOk result ((reason : List ℕ) × TellsFile W.contents (not_read name.now reason) self.old self.new) }
-        ensures some { OnOk result (TellsFiles W.contents self.old self.new) }
+        ensures { OnOk result ((reason : List ℕ) × TellsFile W.contents (not_read name.now reason) self.old self.new) }
     {
         self.progress.clear();
         self.outcome.add(Outcome::Unread);
@@ -762,6 +813,10 @@ fn put_summary(
         Every::Nothing => Ok(()),
         _ => put_items(tally, line),
     }
+}
+
+fn no_file() -> io::Error {
+    io::Error::new(ErrorKind::InvalidInput, NO_FILE)
 }
 
 /// How many bytes the paths have, where each is a file. The system says it, so no clause does.

@@ -56,6 +56,8 @@ pub struct Order {
     pub parts: Option<Parts>,
     /// What is asked for of the parts of a file.
     pub cut: Option<Cut>,
+    /// The file whose parts are joined, where it may be opened.
+    pub joined: Option<Vec<u8>>,
 }
 
 /// The files that the features of a file are split into.
@@ -121,7 +123,7 @@ fn order_of<'a>(alloc: Global, given: &ArgMatches<'a>) -> Result<Order, Wrong<'a
         Ok(cut) => cut,
         Err(word) => return Err(Wrong::Word(word, FOR_PART)),
     };
-    let list = list_in(alloc, given)?;
+    let list = name_in(alloc, given, "files-from")?;
     let paths = named_in(alloc, given, list.is_some())?;
     Ok(Order {
         options,
@@ -133,6 +135,7 @@ fn order_of<'a>(alloc: Global, given: &ArgMatches<'a>) -> Result<Order, Wrong<'a
         allows_empty: given.get_flag("allow-empty"),
         parts: parts_in(alloc, given)?,
         cut,
+        joined: name_in(alloc, given, "file")?,
     })
 }
 
@@ -141,9 +144,13 @@ fn invalid(alloc: Global, word: &str, option: &str) -> Result<String, AllocError
     format!(in alloc; "invalid value '{word}' for {option}")
 }
 
-/// The file with more names.
-fn list_in(alloc: Global, given: &ArgMatches<'_>) -> Result<Option<Vec<u8>>, AllocError> {
-    match given.get_str("files-from") {
+/// The file that an option names.
+fn name_in(
+    alloc: Global,
+    given: &ArgMatches<'_>,
+    option: &str,
+) -> Result<Option<Vec<u8>>, AllocError> {
+    match given.get_str(option) {
         Some(name) => Ok(Some(to_bytes(alloc, name)?)),
         None => Ok(None),
     }

@@ -119,6 +119,11 @@ abbrev pub ListsBy : Option Framing → Allowed → Option (List ℕ) → Listin
 ListsBy framing limits None listing = ⊤
 ListsBy framing limits (Some bytes) listing = ListsIn framing limits bytes listing
 
+-- what is no JSON text
+abbrev pub is_no_text : Finding → Bool
+is_no_text (Finding.Text (NotJson fault)) = true
+is_no_text finding = false
+
 -- of what is no JSON text nothing is said
 abbrev pub ListsFor : Option Framing → Finding → Allowed → Option (List ℕ) → Listing → Type 0
 ListsFor framing (Finding.Text (NotJson fault)) limits had listing = ⊤

@@ -190,7 +190,7 @@ impl Rewind for FileSource {
     }
 
     fn read_from(&mut self, place: u64, piece: &mut [u8]) -> io::Result<usize> {
-        match self.file.read_at(piece, place) {
+        match fill_from(&self.file, place, piece) {
             Ok(count) => Ok(count),
             Err(error) => {
                 self.failed_reads = self.failed_reads.saturating_add(1);
@@ -200,7 +200,7 @@ impl Rewind for FileSource {
     }
 
     fn peek(&self, place: u64, piece: &mut [u8]) -> usize {
-        self.file.read_at(piece, place).unwrap_or(0)
+        fill_from(&self.file, place, piece).unwrap_or(0)
     }
 
     fn expect_unchanged(&mut self) -> io::Result<()> {
@@ -211,4 +211,19 @@ impl Rewind for FileSource {
             Err(io::Error::from(ErrorKind::InvalidData))
         }
     }
+}
+
+/// Reads from a place on until the piece is full or the file ends: one read may give less.
+fn fill_from(file: &File, place: u64, piece: &mut [u8]) -> io::Result<usize>
+    ensures { ReadsAtMost result piece.new }
+{
+    let mut count = 0;
+    for _turn in 0..piece.len() {
+        let more = file.read_at(&mut piece[count..], place.saturating_add(count as u64))?;
+        if more == 0 {
+            break;
+        }
+        count += more;
+    }
+    Ok(count)
 }

@@ -19,12 +19,38 @@ pub fn front(bytes: &[u8], count: usize) -> &[u8] {
     }
 }
 
-/// How many bytes the string has that begins with the first byte; or the number or the word, up to what ends one.
+/// How many bytes the string, the array or the object has that begins with the first byte; or the number or the word, up to what
+/// ends one.
 fn value_length(bytes: &[u8]) -> usize {
     match bytes {
         [b'"', rest @ ..] => string_length(rest).saturating_add(1),
+        [b'[' | b'{', ..] => nested_length(bytes),
         _ => word_length(bytes),
     }
+}
+
+/// How many bytes there are up to the bracket that closes the first one, and with it.
+fn nested_length(bytes: &[u8]) -> usize {
+    let mut levels = 0u64;
+    let mut string_end = 0;
+    for at in 0..bytes.len() {
+        if at >= string_end {
+            match bytes[at] {
+                b'"' => {
+                    string_end = string_length(&bytes[at + 1..])
+                        .saturating_add(at)
+                        .saturating_add(1);
+                }
+                b'[' | b'{' => levels = levels.saturating_add(1),
+                b']' | b'}' => levels = levels.saturating_sub(1),
+                _ => {}
+            }
+            if levels == 0 {
+                return at + 1;
+            }
+        }
+    }
+    bytes.len()
 }
 
 fn word_length(bytes: &[u8]) -> usize {

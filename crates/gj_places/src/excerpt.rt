@@ -2,7 +2,7 @@
 
 ghost use Rattle.std.specs.Prelude.{◌≡◌, ◌++◌, IfOk, OnOk, string_bytes, encode_utf8_all};
 ghost use Rattle.gj_places.specs.Lines.{last_line};
-ghost use Rattle.gj_places.specs.Excerpts.{last_of, without_return, harmless, characters_of, cut_front, cut_back};
+ghost use Rattle.gj_places.specs.Excerpts.{last_of, without_return, harmless, is_harmful, characters_of, cut_front, cut_back};
 
 use arrayvec::ArrayVec;
 use memchr::memrchr;
@@ -177,17 +177,30 @@ fn characters_of(alloc: Global, bytes: &[u8]) -> Result<Vec<char>, AllocError>
     Ok(shown)
 }
 
-/// What is shown for a character: itself, where it moves no cursor and turns no direction of writing.
+/// What is shown for a character: itself, where it does no harm.
 fn harmless(c: char) -> char
     ensures { result ≡ harmless c }
 {
     match c {
         '\t' => ' ',
-        '\0'..='\u{1F}' | '\u{7F}'..='\u{9F}' => HARMLESS,
-        '\u{200B}'..='\u{200F}' | '\u{2028}'..='\u{202E}' | '\u{2060}'..='\u{2069}' => HARMLESS,
-        '\u{61C}' | '\u{FEFF}' => HARMLESS,
+        _ if is_harmful(c) => HARMLESS,
         _ => c,
     }
+}
+
+/// Whether a character moves a cursor, turns the direction of writing, begins a line or has no width.
+pub fn is_harmful(c: char) -> bool
+    ensures { result ≡ is_harmful c }
+{
+    matches!(c,
+        '\0'..='\u{1F}'
+        | '\u{7F}'..='\u{9F}'
+        | '\u{61C}'
+        | '\u{200B}'..='\u{200F}'
+        | '\u{2028}'..='\u{202E}'
+        | '\u{2060}'..='\u{2069}'
+        | '\u{FEFF}'
+    )
 }
 
 /// Appends the last of the characters.

@@ -10,7 +10,7 @@ mod lines;
 mod recent;
 mod string;
 
-pub use excerpt::{Excerpt, Shown};
+pub use excerpt::{Excerpt, Shown, is_harmful};
 pub use lines::Lines;
 pub use recent::Recent;
 pub use string::json_string;

@@ -24,7 +24,7 @@ pub fn copy_between<R: Ranges, W: Write>(
     while at < end {
         match source.read_at(at, &mut piece) {
             Err(error) => return Err(Stop::Read(error)),
-            Ok(0) => return Err(Stop::Shorter),
+            Ok(0) => return Err(Stop::Changed),
             Ok(count) => {
                 let due = count_within(count, end - at);
                 match out.write_all(&piece[..due]) {

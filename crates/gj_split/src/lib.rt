@@ -10,6 +10,7 @@
 
 mod copy;
 pub mod laws;
+mod lines;
 mod ranges;
 mod reading;
 mod records;
@@ -19,4 +20,4 @@ mod splitter;
 pub use ranges::{Ranges, Stop};
 pub use reading::split;
 pub use records::{Input, split_records};
-pub use splitter::{BrokenList, Counts, Ended, Outputs};
+pub use splitter::{Counts, Ended, Outputs};

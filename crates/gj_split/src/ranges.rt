@@ -24,10 +24,8 @@ pub trait Ranges {
 pub enum Stop {
     /// The text could not be read.
     Read(io::Error),
-    /// A byte that was read before is no longer there.
-    Shorter,
-    /// The linter does not say where an array or an object among the features ends.
-    NoEnd,
+    /// The text is not the one that was read before: a byte is no longer there, or another is.
+    Changed,
     /// A write failed.
     Write(io::Error),
 }

@@ -11,7 +11,7 @@ ghost use Rattle.gj_split.specs.Split.{split_of, IsValidSequence};
 
 use crate::laws::valid_apart;
 use crate::ranges::{Ranges, Stop};
-use crate::splitter::{BrokenList, Ended, Outputs, Splitter, Stopping};
+use crate::splitter::{Ended, Outputs, Splitter, Stopping};
 use gj_json::{Limits, one_refusal};
 use gj_rules::{FeatureLinter, FeatureSink, Progress, Verdict};
 use std::io::Write;
@@ -24,7 +24,7 @@ const PIECE: usize = 16384;
 ///
 /// Of a text that is refused as JSON, it writes the features before the refusal. Where a read or a write fails, no more
 /// is written: each record that is counted is whole, and the last of a writer may be cut off.
-pub fn split<R: Ranges, V: Write + Drop, B: Write + Drop, L: BrokenList + Drop>(
+pub fn split<R: Ranges, V: Write + Drop, B: Write + Drop, L: Write + Drop>(
     source: &R,
     limits: Limits,
     outputs: Outputs<V, B, L>,
@@ -62,25 +62,25 @@ fn feed_all<R: Ranges, S: FeatureSink + Stopping>(
             Ok(0) => return None,
             Ok(count) => {
                 match at.checked_add(count as u64) {
-                    None => return Some(Stop::Shorter),
+                    None => return Some(Stop::Changed),
                     Some(next) => at = next,
                 }
                 match linter.feed(&piece[..count]) {
                     Progress::Refused(_fault) => return None,
                     Progress::Open => {
                         if linter.sink().has_stopped() {
-                            return Some(Stop::Shorter);
+                            return Some(Stop::Changed);
                         }
                     }
                 }
             }
         }
     }
-    Some(Stop::Shorter)
+    Some(Stop::Changed)
 }
 
 /// Ends a split after the last byte, after the byte that was refused, or after a write that failed.
-fn finished<'a, R: Ranges, V: Write + Drop, B: Write + Drop, L: BrokenList + Drop>(
+fn finished<'a, R: Ranges, V: Write + Drop, B: Write + Drop, L: Write + Drop>(
     linter: FeatureLinter<Splitter<'a, R, V, B, L>>,
 ) -> Ended<Verdict, V, B, L>
     ensures verdict { IfOk result.outcome (λ verdict. (bytes : List ℕ) →
@@ -95,7 +95,7 @@ fn finished<'a, R: Ranges, V: Write + Drop, B: Write + Drop, L: BrokenList + Dro
 }
 
 /// Ends a split after a read or a write that failed. A failure of the linter's sink comes first.
-fn stopped<'a, R: Ranges, V: Write + Drop, B: Write + Drop, L: BrokenList + Drop>(
+fn stopped<'a, R: Ranges, V: Write + Drop, B: Write + Drop, L: Write + Drop>(
     linter: FeatureLinter<Splitter<'a, R, V, B, L>>,
     stop: Stop,
 ) -> Ended<Verdict, V, B, L>

@@ -10,7 +10,7 @@ ghost use Rattle.gj_split.specs.Split.{IsValidSequence};
 
 use crate::laws::valid_records_apart;
 use crate::ranges::{Ranges, Stop};
-use crate::splitter::{BrokenList, Ended, Outputs, Splitter, Stopping};
+use crate::splitter::{Ended, Outputs, Splitter, Stopping};
 use gj_json::Limits;
 use gj_rules::record_laws::one_finding;
 use gj_rules::{Framing, RecordSink, Records, SeqVerdict};
@@ -33,7 +33,7 @@ pub struct Input {
 ///
 /// Where a read or a write fails, no more is written: each record that is counted is whole, and the last of a writer may be
 /// cut off.
-pub fn split_records<R: Ranges, V: Write + Drop, B: Write + Drop, L: BrokenList + Drop>(
+pub fn split_records<R: Ranges, V: Write + Drop, B: Write + Drop, L: Write + Drop>(
     source: &R,
     framing: Framing,
     limits: Limits,
@@ -78,12 +78,12 @@ fn feed_records<R: Ranges, S: RecordSink + Stopping>(
             Ok(0) => return None,
             Ok(count) => {
                 match at.checked_add(count as u64) {
-                    None => return Some(Stop::Shorter),
+                    None => return Some(Stop::Changed),
                     Some(next) => at = next,
                 }
                 records.feed(&piece[..count], sink);
                 if sink.has_stopped() {
-                    return Some(Stop::Shorter);
+                    return Some(Stop::Changed);
                 }
                 if records.is_over() {
                     return None;
@@ -91,11 +91,11 @@ fn feed_records<R: Ranges, S: RecordSink + Stopping>(
             }
         }
     }
-    Some(Stop::Shorter)
+    Some(Stop::Changed)
 }
 
 /// Ends a split after the last byte, or after one beyond the limit.
-fn finished_records<'a, R: Ranges, V: Write + Drop, B: Write + Drop, L: BrokenList + Drop>(
+fn finished_records<'a, R: Ranges, V: Write + Drop, B: Write + Drop, L: Write + Drop>(
     records: Records,
     splitter: Splitter<'a, R, V, B, L>,
 ) -> Ended<Input, V, B, L>

@@ -98,10 +98,10 @@ pub fn expect_flat<R: Ranges>(source: &R, place: u64) -> Result<(), Stop>
     let mut first = [0; 1];
     match source.read_at(place, &mut first) {
         Err(error) => Err(Stop::Read(error)),
-        Ok(0) => Err(Stop::Shorter),
+        Ok(0) => Err(Stop::Changed),
         Ok(_count) => {
             if is_opening(first[0]) {
-                Err(Stop::NoEnd)
+                Err(Stop::Changed)
             } else {
                 Ok(())
             }
@@ -125,11 +125,11 @@ pub fn end_of_value<R: Ranges>(source: &R, place: u64) -> Result<u64, Stop>
     for _turn in 0..u64::MAX {
         match source.read_at(at, &mut piece) {
             Err(error) => return Err(Stop::Read(error)),
-            Ok(0) => return Err(Stop::Shorter),
+            Ok(0) => return Err(Stop::Changed),
             Ok(count) => {
                 let scanned = scan.over(&piece[..count]);
                 match at.checked_add(scanned.count as u64) {
-                    None => return Err(Stop::Shorter),
+                    None => return Err(Stop::Changed),
                     Some(next) => at = next,
                 }
                 match scanned.scan {
@@ -139,5 +139,5 @@ pub fn end_of_value<R: Ranges>(source: &R, place: u64) -> Result<u64, Stop>
             }
         }
     }
-    Err(Stop::Shorter)
+    Err(Stop::Changed)
 }

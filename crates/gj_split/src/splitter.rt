@@ -1,12 +1,14 @@
 //! Writes each feature, or each record of an input, that a linter reports.
-ghost use Rattle.std.specs.Prelude.{◌≡◌, ℕ, List, [], ◌∷◌, Some, OnOk, IfOk};
+ghost use Rattle.std.specs.Prelude.{◌≡◌, ℕ, List, [], ◌∷◌, Some, OnOk, IfOk, is_some};
 ghost use Rattle.std.specs.Io.KnownBytes.{Appends, Keeps};
 ghost use Rattle.gj_split.specs.Internal.HeldRecords.{WritesRecord};
 ghost use Rattle.gj_split.specs.Internal.ToldFeatures.{told_end, EndsKnown};
+ghost use Rattle.gj_split.specs.Lines.{feature_line, record_line};
 ghost use Rattle.gj_split.specs.RecordSplit.{found_text};
 ghost use Rattle.gj_split.specs.Split.{bytes_between, record_of};
 
 use crate::copy::copy_between;
+use crate::lines::{put_feature, put_record};
 use crate::ranges::{Ranges, Stop};
 use crate::scan::{end_of_value, expect_flat};
 use gj_rules::{Feature, FeatureSink, Record, RecordSink, Verdict};
@@ -15,25 +17,12 @@ use std::io::{self, Write};
 /// The byte before a record (RFC 8142, section 2): RS.
 const SEPARATOR: u8 = 0x1E;
 
-/// Receives each feature with a fault, or each record of an input that is not valid, after it is written.
-pub trait BrokenList {
-    fn add(&mut self, feature: &Feature) -> io::Result<()>;
-
-    fn add_record(&mut self, found: &Record) -> io::Result<()>;
-
-    /// Passes on what it holds, where it holds anything back.
-    fn flush(&mut self) -> io::Result<()>;
-}
-
-/// The number of records that are written whole.
+/// The number of records that were written.
 #[derive(Clone, Copy, Debug, Default, PartialEq, Eq)]
 pub struct Counts {
     pub valid: u64,
     pub broken: u64,
 }
-
-/// The writers are flushed each time this many records were written.
-const FLUSHED: u64 = 256;
 
 /// The writers of the records.
 #[derive(Drop)]
@@ -42,6 +31,7 @@ pub struct Outputs<V, B, L> {
     pub valid: V,
     /// Each other one.
     pub broken: B,
+    /// A line for each of these.
     pub list: L,
 }
 
@@ -50,7 +40,6 @@ pub struct Outputs<V, B, L> {
 pub struct Ended<T, V, B, L> {
     /// What the text or the input is, or why it was not read to its end.
     pub outcome: Result<T, Stop>,
-    /// The number of records that are written whole. Where the split was stopped, those before the last flush.
     pub counts: Counts,
     pub outputs: Outputs<V, B, L>,
 }
@@ -66,12 +55,10 @@ pub struct Splitter<'a, R, V, B, L> {
     source: &'a R,
     outputs: Outputs<V, B, L>,
     counts: Counts,
-    /// Those before the last flush.
-    flushed: Counts,
     stop: Option<Stop>,
 }
 
-impl<'a, R: Ranges, V: Write, B: Write, L: BrokenList> Splitter<'a, R, V, B, L> {
+impl<'a, R: Ranges, V: Write, B: Write, L: Write> Splitter<'a, R, V, B, L> {
     ghost use Rattle.std.specs.Prelude.{◌≡◌, OnOk, IfOk, Ok, ◌++◌, ◌∷◌, List, ℕ, [], None};
     ghost use Rattle.gj_rules.specs.declared.feature.Feature.{Feature};
     ghost use Rattle.gj_rules.specs.declared.records.record.Record.{Record};
@@ -88,7 +75,6 @@ impl<'a, R: Ranges, V: Write, B: Write, L: BrokenList> Splitter<'a, R, V, B, L> 
             source,
             outputs,
             counts: Counts::default(),
-            flushed: Counts::default(),
             stop: None,
         }
     }
@@ -102,7 +88,6 @@ impl<'a, R: Ranges, V: Write, B: Write, L: BrokenList> Splitter<'a, R, V, B, L> 
             source,
             outputs,
             counts: Counts::default(),
-            flushed: Counts::default(),
             stop: None,
         }
     }
@@ -126,42 +111,21 @@ impl<'a, R: Ranges, V: Write, B: Write, L: BrokenList> Splitter<'a, R, V, B, L> 
         };
         Ended {
             outcome,
-            counts: self.flushed,
+            counts: self.counts,
             outputs: self.outputs,
         }
     }
 
-    /// Flushes the writers once in a while: what stops the split then leaves the records before.
-    fn flush_at_times(&mut self)
-        ensures features { (features : List Feature) →
-            Holds R.text self.old.stop (V.contents self.old.outputs.valid) (B.contents self.old.outputs.broken) self.old.counts features →
-            Holds R.text self.new.stop (V.contents self.new.outputs.valid) (B.contents self.new.outputs.broken) self.new.counts features }
-        ensures records { (records : List Record) →
-            HoldsRecords R.text self.old.stop (V.contents self.old.outputs.valid) (B.contents self.old.outputs.broken) self.old.counts records →
-            HoldsRecords R.text self.new.stop (V.contents self.new.outputs.valid) (B.contents self.new.outputs.broken) self.new.counts records }
-    {
-        let count = self.counts.valid.saturating_add(self.counts.broken);
-        if count % FLUSHED == 0 {
-            if let Err(error) = self.flush() {
-                self.stop = Some(Stop::Write(error));
-            }
-        }
-    }
-
-    /// Flushes the writers, and notes what they have then passed on. Each record that is not valid is listed before it is.
+    /// Flushes the writers.
     fn flush(&mut self) -> io::Result<()>
         ensures valid { Keeps (V.contents self.old.outputs.valid) (V.contents self.new.outputs.valid) }
         ensures broken { Keeps (B.contents self.old.outputs.broken) (B.contents self.new.outputs.broken) }
         ensures counts { self.new.counts ≡ self.old.counts }
-        ensures flushed { OnOk result (self.new.flushed ≡ self.old.counts) }
         ensures stop { self.new.stop ≡ self.old.stop }
     {
         self.outputs.valid.flush()?;
-        self.flushed.valid = self.counts.valid;
-        self.outputs.list.flush()?;
         self.outputs.broken.flush()?;
-        self.flushed.broken = self.counts.broken;
-        Ok(())
+        self.outputs.list.flush()
     }
 
     /// Writes a feature, and counts it once it is written.
@@ -171,6 +135,7 @@ impl<'a, R: Ranges, V: Write, B: Write, L: BrokenList> Splitter<'a, R, V, B, L> 
             Holds R.text self.old.stop (V.contents self.old.outputs.valid) (B.contents self.old.outputs.broken) self.old.counts features →
             Holds R.text self.new.stop (V.contents self.new.outputs.valid) (B.contents self.new.outputs.broken)
             self.new.counts (features ++ feature.now ∷ [])) }
+        ensures listed { OnOk result (Appends (L.contents self.old.outputs.list) (L.contents self.new.outputs.list) (feature_line feature.now)) }
     {
         match feature.fault {
             None => {
@@ -181,7 +146,7 @@ impl<'a, R: Ranges, V: Write, B: Write, L: BrokenList> Splitter<'a, R, V, B, L> 
             Some(_) => {
                 write_record(self.source, feature, &mut self.outputs.broken)?;
                 self.counts.broken = self.counts.broken.saturating_add(1);
-                match self.outputs.list.add(feature) {
+                match put_feature(feature, &mut self.outputs.list) {
                     Ok(()) => Ok(()),
                     Err(error) => Err(Stop::Write(error)),
                 }
@@ -196,6 +161,7 @@ impl<'a, R: Ranges, V: Write, B: Write, L: BrokenList> Splitter<'a, R, V, B, L> 
             HoldsRecords R.text self.old.stop (V.contents self.old.outputs.valid) (B.contents self.old.outputs.broken) self.old.counts records →
             HoldsRecords R.text self.new.stop (V.contents self.new.outputs.valid) (B.contents self.new.outputs.broken)
             self.new.counts (records ++ found.now ∷ [])) }
+        ensures listed { OnOk result (Appends (L.contents self.old.outputs.list) (L.contents self.new.outputs.list) (record_line found.now)) }
     {
         match found.verdict {
             Verdict::Valid(_) => {
@@ -206,7 +172,7 @@ impl<'a, R: Ranges, V: Write, B: Write, L: BrokenList> Splitter<'a, R, V, B, L> 
             _ => {
                 write_found(self.source, found, &mut self.outputs.broken)?;
                 self.counts.broken = self.counts.broken.saturating_add(1);
-                match self.outputs.list.add_record(found) {
+                match put_record(found, &mut self.outputs.list) {
                     Ok(()) => Ok(()),
                     Err(error) => Err(Stop::Write(error)),
                 }
@@ -215,31 +181,29 @@ impl<'a, R: Ranges, V: Write, B: Write, L: BrokenList> Splitter<'a, R, V, B, L> 
     }
 }
 
-impl<'a, R: Ranges, V: Write, B: Write, L: BrokenList> FeatureSink for Splitter<'a, R, V, B, L> {
+impl<'a, R: Ranges, V: Write, B: Write, L: Write> FeatureSink for Splitter<'a, R, V, B, L> {
     ghost use Rattle.gj_split.specs.Internal.HeldRecords.{Holds};
 
     ghost told = { λ s features. Holds R.text s.stop (V.contents s.outputs.valid) (B.contents s.outputs.broken) s.counts features };
 
     fn tell_feature(&mut self, feature: &Feature) {
         if self.stop.is_none() {
-            match self.put(feature) {
-                Ok(()) => self.flush_at_times(),
-                Err(stop) => self.stop = Some(stop),
+            if let Err(stop) = self.put(feature) {
+                self.stop = Some(stop);
             }
         }
     }
 }
 
-impl<'a, R: Ranges, V: Write, B: Write, L: BrokenList> RecordSink for Splitter<'a, R, V, B, L> {
+impl<'a, R: Ranges, V: Write, B: Write, L: Write> RecordSink for Splitter<'a, R, V, B, L> {
     ghost use Rattle.gj_split.specs.Internal.HeldOfRecords.{HoldsRecords};
 
     ghost told = { λ s records. HoldsRecords R.text s.stop (V.contents s.outputs.valid) (B.contents s.outputs.broken) s.counts records };
 
     fn tell_record(&mut self, found: &Record) {
         if self.stop.is_none() {
-            match self.put_record(found) {
-                Ok(()) => self.flush_at_times(),
-                Err(stop) => self.stop = Some(stop),
+            if let Err(stop) = self.put_record(found) {
+                self.stop = Some(stop);
             }
         }
     }
@@ -247,7 +211,9 @@ impl<'a, R: Ranges, V: Write, B: Write, L: BrokenList> RecordSink for Splitter<'
 
 impl<'a, R, V, B, L> Stopping for Splitter<'a, R, V, B, L> {
     /// Whether a read or a write has failed.
-    fn has_stopped(&self) -> bool {
+    fn has_stopped(&self) -> bool
+        ensures { result ≡ is_some self.now.stop }
+    {
         self.stop.is_some()
     }
 }
@@ -284,7 +250,7 @@ fn end_of_text<R: Ranges>(source: &R, found: &Record) -> Result<u64, Stop>
     let mut byte = [0; 1];
     match source.read_at(last, &mut byte) {
         Err(error) => Err(Stop::Read(error)),
-        Ok(0) => Err(Stop::Shorter),
+        Ok(0) => Err(Stop::Changed),
         Ok(_count) => {
             if byte[0] == b'\n' {
                 Ok(last)
@@ -303,7 +269,7 @@ fn end_of<R: Ranges>(source: &R, feature: &Feature) -> Result<u64, Stop>
     match feature.close {
         Some(close) => match close.checked_add(1) {
             Some(end) => Ok(end),
-            None => Err(Stop::Shorter),
+            None => Err(Stop::Changed),
         },
         None => {
             expect_flat(source, feature.place)?;

@@ -104,11 +104,13 @@ NextOf-over E end [] name count has is_empty (Some all) (Some rest) (Some left) 
     let here : names_from (end_byte end) [] rest ≡ [] = rw nothing (names-none (end_byte end) []) in
     let over : names_in end all ≡ [] = names ∙ here in
     let after : names_in end left ≡ [] = rw none (names_in-from end [] ∙ names-none (end_byte end) []) in
-    NextIn-end end all left name has is_empty (nul ∙ nul-empty) (empty ∙ ap (λ (l : List ℕ). length l == 0) (is ∙ given-empty)) over after (is ∙ given-empty)
+    let empty_left : length left ≡ 0 = ap (λ (l : List ℕ). length l) none in
+    (omega (arith, empty_left), NextIn-end end all left name has is_empty (nul ∙ nul-empty) (empty ∙ ap (λ (l : List ℕ). length l == 0) (is ∙ given-empty)) over after (is ∙ given-empty))
 NextOf-over E end (byte ∷ begun) name count has is_empty (Some all) (Some rest) (Some left) (names, long) (nothing, none) is nul empty = λ few.
     let here : names_from (end_byte end) (byte ∷ begun) rest ≡ (byte ∷ begun) ∷ [] = rw nothing (names-none (end_byte end) (byte ∷ begun)) in
     let after : names_in end left ≡ [] = rw none (names_in-from end [] ∙ names-none (end_byte end) []) in
-    named end all left begun name byte has is_empty (names ∙ (here ∙ ap (λ (l : List (List ℕ)). (byte ∷ begun) ∷ l) (sym after))) is nul empty
+    let empty_left : length left ≡ 0 = ap (λ (l : List ℕ). length l) none in
+    (omega (arith, empty_left), named end all left begun name byte has is_empty (names ∙ (here ∙ ap (λ (l : List (List ℕ)). (byte ∷ begun) ∷ l) (sym after))) is nul empty)
 
 -- a byte ends the name
 pub NextOf-ended : (E : Type 0) (end : NameEnd) (begun name : List ℕ) (count byte : ℕ) (has is_empty : Bool) (old before after : Option (List ℕ))
@@ -122,5 +124,8 @@ NextOf-ended E end [] name count byte has is_empty (Some all) (Some rest) (Some 
 NextOf-ended E end (first ∷ begun) name count byte has is_empty (Some all) (Some rest) (Some left) (names, long) took ends some is nul empty = λ few.
     let here : names_from (end_byte end) (first ∷ begun) rest ≡ (first ∷ begun) ∷ names_from (end_byte end) [] left =
     rw took (names-end (end_byte end) (first ∷ begun) byte left ends) in
-    named end all left begun name first has is_empty
-    (names ∙ (here ∙ ap (λ (l : List (List ℕ)). (first ∷ begun) ∷ l) (sym (names_in-from end left)))) is nul empty
+    let shorter : length rest ≡ suc (length left) = ap (λ (l : List ℕ). length l) took in (
+      omega (arith, long, shorter),
+      named end all left begun name first has is_empty
+          (names ∙ (here ∙ ap (λ (l : List (List ℕ)). (first ∷ begun) ∷ l) (sym (names_in-from end left)))) is nul empty,
+    )

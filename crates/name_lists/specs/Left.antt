@@ -1,5 +1,5 @@
 -- What is left of a list, and what a call takes from it.
-use Rattle.std.specs.Prelude.{◌≡◌, ◌<◌, ◌^◌, ◌-◌, ℕ, true, false, List, [], ◌∷◌, length, take, drop, ⊤, Option, Some, None, Result, Ok, Err}
+use Rattle.std.specs.Prelude.{◌≡◌, ◌<◌, ◌≤◌, ◌^◌, ◌-◌, ℕ, true, false, List, [], ◌∷◌, length, take, drop, ⊤, Option, Some, None, Result, Ok, Err}
 use Rattle.std.specs.Io.KnownBytes.{prepend_known}
 use Rattle.name_lists.specs.declared.listed.Listed.{Listed}
 use Rattle.name_lists.specs.declared.listed.Listed.TheVariants.{Name, NameWithNul, End}
@@ -27,6 +27,6 @@ NextIn end all rest End name = (names_in end all ≡ []) × (names_in end rest �
 
 -- of a list of fewer than 2^64 - 1 bytes
 abbrev pub NextOf : {E : Type 0} → Option (List ℕ) → Option (List ℕ) → NameEnd → Result Listed E → List ℕ → Type 0
-NextOf (Some all) (Some rest) end (Ok listed) name = length all < 2 ^ 64 - 1 → NextIn end all rest listed name
+NextOf (Some all) (Some rest) end (Ok listed) name = length all < 2 ^ 64 - 1 → (length rest ≤ length all) × NextIn end all rest listed name
 NextOf (Some all) None end result name = ⊥
 NextOf old new end result name = ⊤

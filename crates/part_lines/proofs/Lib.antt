@@ -7,6 +7,7 @@ mod WrittenItems
 mod ReadItems
 mod ReadTexts
 mod MembersRead
+mod SealedLines
 mod LinesRead
 mod LinesAgree
 mod LinesBack

@@ -1,5 +1,5 @@
 -- A written line is read as what it was written for.
-use Rattle.part_lines.proofs.Common.{arith, ◌≡◌, ◌<◌, ◌≤◌, ℕ, refl, ap, sym, ◌∙◌, Bool, true, false, Some, List, [], ◌∷◌, ◌++◌, length, map, replicate}
+use Rattle.part_lines.proofs.Common.{arith, ◌≡◌, ◌<◌, ◌≤◌, ℕ, refl, ap, sym, subst, ◌∙◌, Bool, true, false, Some, List, [], ◌∷◌, ◌++◌, length, map, replicate}
 use Rattle.part_lines.proofs.Common.{codes, flat_map, All, Kind, Warnings, code_name, Code, Note, PartLine}
 use Rattle.std.proofs.Common.{◌^◌, suc, zero, min, cond, None, Option, filter, string_bytes}
 use Rattle.std.specs.Prelude.{option_and_then, unwrap_or, ◌==◌, if◌then◌else◌}
@@ -23,7 +23,9 @@ use Rattle.gj_coords.specs.declared.kind_warnings.KindWarnings.{KindWarnings}
 use Rattle.geolint_report.specs.Items.{item_number}
 use Rattle.report_forms.specs.Passing.{contains}
 use Rattle.part_lines.specs.Lines.{framing_word, every_word}
-use Rattle.part_lines.specs.LineText.{line_text}
+use Rattle.part_lines.specs.LineText.{body_text, line_text}
+use Rattle.part_lines.specs.Sealed.{body_in, object_in, sealed}
+use Rattle.part_lines.proofs.SealedLines.{body-there}
 use Rattle.part_lines.specs.LineObject.{number_in, text_in, array_in, IsKindName, AreWarnings, AreWarningsOf, IsVerdictIn, AreNotes, IsListedIf, IsLineIn}
 use Rattle.part_lines.specs.Writable.{AreWritableWarnings, IsWritableVerdict, AreWritableNotes, IsWritableIf, IsWritable}
 use Rattle.report_forms.specs.declared.options.Kinds.{Kinds}
@@ -49,7 +51,7 @@ array-there name it ds is = ap (λ o. option_and_then as_array o) is
 -- those before the verdict
 abbrev HeadIn : PartLine → Members → Type 0
 HeadIn line ms =
-    (get_member (codes "geolint_part") ms ≡ Some (num 1)) × (get_member (codes "part") ms ≡ Some (num line.share.number))
+    (get_member (codes "geolint_part") ms ≡ Some (num 2)) × (get_member (codes "part") ms ≡ Some (num line.share.number))
     × (get_member (codes "parts") ms ≡ Some (num line.share.parts)) × (get_member (codes "path") ms ≡ Some (string (string_bytes line.file.path)))
     × (get_member (codes "size") ms ≡ Some (num line.file.size)) × (get_member (codes "modified") ms ≡ Some (string (string_bytes line.file.modified)))
     × (get_member (codes "framing") ms ≡ Some (string (framing_word line.settings.framing)))
@@ -329,7 +331,7 @@ line-said line fits =
     let (version, part, parts, path, size, modified, framing, bytes, strict, allow, begin, end) =
     head-in line line.checked.begin line.checked.verdict line.listed in
     record {
-      version = number-there (codes "geolint_part") it 1 version;
+      version = number-there (codes "geolint_part") it 2 version;
       file = record {
         path = text-there (codes "path") it _ path;
         size = number-there (codes "size") it _ size;
@@ -357,11 +359,17 @@ line-said line fits =
     }
 
 pub line-read : (line : PartLine) → IsWritable line
-    → (text : List ℕ) × (it : Data) × (line_text line ≡ text ++ codes "\n") × (read text ≡ Some it) × IsLineIn it line
-line-read line fits = (
-  object-text line (codes "}"),
-  object (line-members line),
-  text-ends line,
-  read-text 3 (object-text line (codes "}")) (object (line-members line)) (omega arith) (object-read line fits),
-  line-said line fits,
-)
+    → (text : List ℕ) × (it : Data) × (line_text line ≡ text ++ codes "\n") × (text ≡ sealed (body_in text)) × (read (object_in text) ≡ Some it)
+    × IsLineIn it line
+line-read line fits =
+    let body = body_text line in
+    let there : body ≡ body_in (sealed body) = sym (body-there body) in
+    let same : object-text line (codes "}") ≡ object_in (sealed body) = sym (text-ends line) ∙ ap (λ (l : List ℕ). l ++ codes "}") there in (
+      sealed body,
+      object (line-members line),
+      refl,
+      ap sealed there,
+      subst (λ (l : List ℕ). read l ≡ Some (object (line-members line))) same
+          (read-text 3 (object-text line (codes "}")) (object (line-members line)) (omega arith) (object-read line fits)),
+      line-said line fits,
+    )

@@ -26,7 +26,7 @@ use Rattle.report_forms.specs.Passing.{contains}
 use Rattle.part_lines.specs.Lines.{framing_word, every_word}
 use Rattle.part_lines.specs.LineText.{place_text, file_text, code_string, allowed_kind, allowed_text, settings_text, warning_text, warning_if, kind_texts}
 use Rattle.part_lines.specs.LineText.{warnings_text, fault_text, valid_text, count_text, count_texts, rule_counts, kind_counts, cause_counts, counts_text}
-use Rattle.part_lines.specs.LineText.{tally_text, note_text, note_texts, notes_text, listed_text, listed_text_of, broken_text, verdict_text, line_text}
+use Rattle.part_lines.specs.LineText.{tally_text, note_text, note_texts, notes_text, listed_text, listed_text_of, broken_text, verdict_text, body_text}
 use Rattle.part_lines.specs.Internal.JsonTexts.{Reads, ReadsItems, ReadsMembers}
 use Rattle.part_lines.specs.Writable.{Fits, IsWritableVerdict, AreWritableNotes, IsWritableListed, IsWritableIf, IsWritable}
 use Rattle.part_lines.specs.declared.line.FileState.{FileState}
@@ -465,7 +465,7 @@ listed-read-if begin None more found all fits h = h
 abbrev pub head-members : PartLine → Members
 head-members line =
     put (codes "end") (num line.checked.end) (put (codes "begin") (num line.checked.begin) (settings-members line.settings (file-members line.file
-    (put (codes "parts") (num line.share.parts) (put (codes "part") (num line.share.number) (put (codes "geolint_part") (num 1) no_members))))))
+    (put (codes "parts") (num line.share.parts) (put (codes "part") (num line.share.number) (put (codes "geolint_part") (num 2) no_members))))))
 
 abbrev pub line-members : PartLine → Members
 line-members line = listed-members-if line.checked.begin line.listed (verdict-members line.checked.begin line.checked.verdict (head-members line))
@@ -473,28 +473,27 @@ line-members line = listed-members-if line.checked.begin line.listed (verdict-me
 -- the text without its LF
 abbrev pub object-text : PartLine → List ℕ → List ℕ
 object-text line tail =
-    codes "{\"geolint_part\":1,\"part\":" ++ (decimal line.share.number ++ (codes ",\"parts\":" ++ (decimal line.share.parts ++ (file_text line.file
+    codes "{\"geolint_part\":2,\"part\":" ++ (decimal line.share.number ++ (codes ",\"parts\":" ++ (decimal line.share.parts ++ (file_text line.file
     ++ (settings_text line.settings ++ (codes ",\"begin\":" ++ (decimal line.checked.begin ++ (codes ",\"end\":" ++ (decimal line.checked.end
     ++ (verdict_text line.checked.begin line.checked.verdict ++ (listed_text_of line.checked.begin line.listed ++ tail)))))))))))
 
 then-ends : (first rest whole end : List ℕ) → rest ++ end ≡ whole → (first ++ rest) ++ end ≡ first ++ whole
 then-ends first rest whole end is = append_assoc first rest end ∙ ap (λ (l : List ℕ). first ++ l) is
 
-pub text-ends : (line : PartLine) → line_text line ≡ object-text line (codes "}") ++ codes "\n"
-unfolding line_text
+pub text-ends : (line : PartLine) → body_text line ++ codes "}" ≡ object-text line (codes "}")
+unfolding body_text
 text-ends line =
-    let end = codes "\n" in
+    let end = codes "}" in
     let verdict = verdict_text line.checked.begin line.checked.verdict in
     let listed = listed_text_of line.checked.begin line.listed in
-    sym (ap (λ (l : List ℕ). codes "{\"geolint_part\":1,\"part\":" ++ l)
+    ap (λ (l : List ℕ). codes "{\"geolint_part\":2,\"part\":" ++ l)
     (then-ends (decimal line.share.number) _ _ end (ap (λ (l : List ℕ). codes ",\"parts\":" ++ l)
     (then-ends (decimal line.share.parts) _ _ end
     (then-ends (file_text line.file) _ _ end
     (then-ends (settings_text line.settings) _ _ end (ap (λ (l : List ℕ). codes ",\"begin\":" ++ l)
     (then-ends (decimal line.checked.begin) _ _ end (ap (λ (l : List ℕ). codes ",\"end\":" ++ l)
     (then-ends (decimal line.checked.end) _ _ end
-    (then-ends verdict _ _ end
-    (then-ends listed (codes "}") (codes "}\n") end refl))))))))))))
+    (then-ends verdict listed _ end refl))))))))))
 
 pub object-read : (line : PartLine) → IsWritable line → Reads 3 (object-text line (codes "}")) (object (line-members line))
 unfolding escape_byte digits
@@ -502,7 +501,7 @@ object-read line fits =
     let begin = line.checked.begin in
     let bytes : Fits line.settings.limits.bytes = omega (arith, fits.limits.most_bytes) in
     reads-object 2 _ _
-    (one 2 false (codes "geolint_part") (codes "\"geolint_part\":") (decimal 1) _ (num 1) no_members _ refl (reads-number 2 1 (omega arith))
+    (one 2 false (codes "geolint_part") (codes "\"geolint_part\":") (decimal 2) _ (num 2) no_members _ refl (reads-number 2 2 (omega arith))
     (one 2 true (codes "part") (codes ",\"part\":") (decimal line.share.number) _ (num line.share.number) _ _ refl
     (reads-number 2 line.share.number fits.number)
     (one 2 true (codes "parts") (codes ",\"parts\":") (decimal line.share.parts) _ (num line.share.parts) _ _ refl (reads-number 2 line.share.parts fits.parts)

@@ -1,4 +1,5 @@
 pub mod Lines
+pub mod Sealed
 pub mod LineText
 pub mod LineObject
 pub mod Writable

@@ -139,7 +139,7 @@ IsListedIf it begin None = get (codes "every") it ≡ None
 -- ---- the line
 
 pub record IsLineIn (it : Data) (line : PartLine) : Type 0 where
-  pub version : number_in (codes "geolint_part") it ≡ Some 1
+  pub version : number_in (codes "geolint_part") it ≡ Some 2
   pub file : IsFileIn it line.file
   pub settings : IsSettingsIn it line.settings
   pub share : IsShareIn it line.share

@@ -1,4 +1,4 @@
--- The text of a line, byte by byte: one object of JSON with no space, and LF.
+-- The text of a line, byte by byte: one object of JSON with no space, whose last member is a checksum, and LF.
 use Rattle.std.specs.Prelude.{ℕ, ◌+◌, List, [], ◌∷◌, ◌++◌, Option, Some, None, codes, string_bytes, get_or, nat_lt, if◌then◌else◌}
 use Rattle.std.specs.Fmt.{decimal}
 use Rattle.std.specs.Io.Iter.{u64_saturate}
@@ -24,6 +24,7 @@ use Rattle.report_forms.specs.Forms.Json.{with_commas}
 use Rattle.report_forms.specs.Passing.{contains}
 use Rattle.report_forms.specs.declared.options.Kinds.{Kinds}
 use Rattle.part_lines.specs.Lines.{every_word, framing_word}
+use Rattle.part_lines.specs.Sealed.{sealed}
 use Rattle.part_lines.specs.declared.line.FileState.{FileState}
 use Rattle.part_lines.specs.declared.line.Listed.{Listed}
 use Rattle.part_lines.specs.declared.line.PartLine.{PartLine}
@@ -144,8 +145,12 @@ listed_text_of begin None = []
 
 -- ---- the line
 
-unfoldable pub line_text : PartLine → List ℕ
-line_text line =
-    codes "{\"geolint_part\":1,\"part\":" ++ (decimal line.share.number ++ (codes ",\"parts\":" ++ (decimal line.share.parts ++ (file_text line.file
+-- up to its checksum
+unfoldable pub body_text : PartLine → List ℕ
+body_text line =
+    codes "{\"geolint_part\":2,\"part\":" ++ (decimal line.share.number ++ (codes ",\"parts\":" ++ (decimal line.share.parts ++ (file_text line.file
     ++ (settings_text line.settings ++ (codes ",\"begin\":" ++ (decimal line.checked.begin ++ (codes ",\"end\":" ++ (decimal line.checked.end
-    ++ (verdict_text line.checked.begin line.checked.verdict ++ (listed_text_of line.checked.begin line.listed ++ codes "}\n")))))))))))
+    ++ (verdict_text line.checked.begin line.checked.verdict ++ listed_text_of line.checked.begin line.listed))))))))))
+
+abbrev pub line_text : PartLine → List ℕ
+line_text line = sealed (body_text line) ++ codes "\n"

@@ -1,5 +1,6 @@
 //! Reads the line of a part.
 
+ghost use Rattle.std.specs.Str.{IsUtf8};
 ghost use Rattle.std.specs.Prelude.{◌≡◌, ◌≢◌, ◌<◌, ◌^◌, ◌++◌, ℕ, Bool, IfSome, IsSome, IfOk, Some, None, Err, option_map, map, codes, replicate};
 ghost use Rattle.std.specs.List.{All};
 ghost use Rattle.gj_coords.specs.Warnings.{warning_at};
@@ -24,6 +25,7 @@ ghost use Rattle.part_lines.specs.LineObject.{IsPlaceIn, IsRecordIn, IsWarningIn
 ghost use Rattle.part_lines.specs.LineObject.{IsNoteIn, AreNotes, AreNotesIn, IsListedIn, IsListedIf};
 ghost use Rattle.part_lines.specs.Agreed.{Agree};
 ghost use Rattle.part_lines.specs.LineText.{line_text};
+ghost use Rattle.part_lines.specs.Sealed.{body_in, object_in, sealed};
 ghost use Rattle.part_lines.specs.Lines.{every_word, framing_word};
 ghost use Rattle.part_lines.specs.Writable.{IsWritable};
 ghost use Rattle.part_lines.specs.declared.line.FileState.{FileState};
@@ -34,6 +36,7 @@ ghost use Rattle.sequence_parts.specs.declared.ranges.Share.{Share};
 
 use crate::laws::{members_say_one_line, written_lines_are_read};
 use crate::line::{FileState, Listed, PartLine, Settings};
+use crate::sealing::unsealed;
 use crate::warnings::warnings_at;
 use geolint_report::every::listing::{Asked, Item, Note, Notes};
 use geolint_report::every::tally::Tally;
@@ -46,9 +49,10 @@ use report_forms::options::Kinds;
 use sequence_parts::{CheckedPart, Share};
 use serde_json::Value;
 use std::alloc::{AllocError, Global};
+use std::str;
 
 /// The form that is written and read.
-const VERSION: u64 = 1;
+const VERSION: u64 = 2;
 
 /// Why a line is not read.
 #[derive(Clone, Copy)]
@@ -57,6 +61,8 @@ pub enum NoLine {
     NoPart,
     /// It is one of another version.
     OtherVersion,
+    /// Its checksum is not that of its bytes.
+    Altered,
     Memory,
 }
 
@@ -71,24 +77,58 @@ impl From<AllocError> for NoLine {
     }
 }
 
-/// Reads the line of a part, with or without its LF.
-pub fn read_line(alloc: Global, text: &str) -> Result<PartLine, NoLine>
-    ensures line { IfOk result (λ line. (it : Data) × (read text.now ≡ Some it) × IsLineIn it line) }
-    ensures refused { result ≡ Err NoLine.NoPart → (it : Data) → read text.now ≡ Some it → (line : PartLine) → line.listed ≡ None → ¬ (IsLineIn it line) }
-    ensures version { result ≡ Err NoLine.OtherVersion → (it : Data) → read text.now ≡ Some it → number_in (codes "geolint_part") it ≢ Some 1 }
+/// Reads the line of a part, without its LF.
+pub fn read_line(alloc: Global, text: &[u8]) -> Result<PartLine, NoLine>
+    ensures sealed { IfOk result (λ line. text.now ≡ sealed (body_in text.now)) }
+    ensures line { IfOk result (λ line. (it : Data) × (read (object_in text.now) ≡ Some it) × IsLineIn it line) }
+    ensures altered { result ≡ Err NoLine.Altered → text.now ≢ sealed (body_in text.now) }
+    ensures refused { result ≡ Err NoLine.NoPart → text.now ≡ sealed (body_in text.now) → IsUtf8 (object_in text.now) → (it : Data)
+        → read (object_in text.now) ≡ Some it → (line : PartLine) → line.listed ≡ None → ¬ (IsLineIn it line) }
+    ensures version { result ≡ Err NoLine.OtherVersion → text.now ≡ sealed (body_in text.now) → (it : Data) → read (object_in text.now) ≡ Some it
+        → number_in (codes "geolint_part") it ≢ Some 2 }
     ensures written { IfOk result (λ line. (written : PartLine) → IsWritable written → line_text written ≡ text.now ++ codes "\n" → Agree written line) }
 {
     written_lines_are_read();
     members_say_one_line();
+    match unsealed(alloc, text)? {
+        Some(object) => read_object(alloc, object.as_slice()),
+        None => Err(why_unsealed(alloc, text)),
+    }
+}
+
+/// Why a text has no right checksum: it is no line, one of another version, or one that was altered.
+fn why_unsealed(alloc: Global, text: &[u8]) -> NoLine {
+    match parse(alloc, text) {
+        Ok(value) => match number_of(&value, "geolint_part") {
+            Some(VERSION) => NoLine::Altered,
+            Some(_) => NoLine::OtherVersion,
+            None => NoLine::NoPart,
+        },
+        Err(why) => why,
+    }
+}
+
+/// Reads the object of a line.
+fn read_object(alloc: Global, text: &[u8]) -> Result<PartLine, NoLine>
+    ensures line { IfOk result (λ line. (it : Data) × (read text.now ≡ Some it) × IsLineIn it line) }
+    ensures altered { result ≢ Err NoLine.Altered }
+    ensures refused { result ≡ Err NoLine.NoPart → IsUtf8 text.now → (it : Data) → read text.now ≡ Some it → (line : PartLine) → line.listed ≡ None
+        → ¬ (IsLineIn it line) }
+    ensures version { result ≡ Err NoLine.OtherVersion → (it : Data) → read text.now ≡ Some it → number_in (codes "geolint_part") it ≢ Some 2 }
+{
     let value = parse(alloc, text)?;
     read_value(alloc, &value)
 }
 
-fn parse(alloc: Global, text: &str) -> Result<Value, NoLine>
-    ensures value { IfOk result (λ value. read text.now ≡ Some (view value)) }
-    ensures refused { result ≡ Err NoLine.NoPart → read text.now ≡ None }
+fn parse(alloc: Global, bytes: &[u8]) -> Result<Value, NoLine>
+    ensures value { IfOk result (λ value. read bytes.now ≡ Some (view value)) }
+    ensures refused { result ≡ Err NoLine.NoPart → IsUtf8 bytes.now → read bytes.now ≡ None }
     ensures version { result ≢ Err NoLine.OtherVersion }
+    ensures altered { result ≢ Err NoLine.Altered }
 {
+    let Ok(text) = str::from_utf8(bytes) else {
+        return Err(NoLine::NoPart);
+    };
     match Value::from_str(alloc, text) {
         Ok(value) => Ok(value),
         Err(error) if error.is_memory() => Err(NoLine::Memory),
@@ -99,7 +139,8 @@ fn parse(alloc: Global, text: &str) -> Result<Value, NoLine>
 fn read_value(alloc: Global, value: &Value) -> Result<PartLine, NoLine>
     ensures line { IfOk result (IsLineIn (view value.now)) }
     ensures refused { result ≡ Err NoLine.NoPart → (line : PartLine) → line.listed ≡ None → ¬ (IsLineIn (view value.now) line) }
-    ensures version { result ≡ Err NoLine.OtherVersion → number_in (codes "geolint_part") (view value.now) ≢ Some 1 }
+    ensures version { result ≡ Err NoLine.OtherVersion → number_in (codes "geolint_part") (view value.now) ≢ Some 2 }
+    ensures altered { result ≢ Err NoLine.Altered }
 {
     match number_of(value, "geolint_part") {
         Some(VERSION) => {}
@@ -420,6 +461,7 @@ fn read_listed_if(alloc: Global, value: &Value, begin: u64) -> Result<Option<Lis
     ensures listed { IfOk result (IsListedIf (view value.now) begin) }
     ensures refused { result ≡ Err NoLine.NoPart → get (codes "every") (view value.now) ≢ None }
     ensures version { result ≢ Err NoLine.OtherVersion }
+    ensures altered { result ≢ Err NoLine.Altered }
 {
     if value.get("every").is_none() {
         return Ok(None);

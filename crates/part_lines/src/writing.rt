@@ -9,7 +9,7 @@ ghost use Rattle.geolint_report.specs.Slots.{slot_of};
 ghost use Rattle.geolint_report.specs.declared.texts.TheConstants.{RULES, CAUSES};
 ghost use Rattle.geolint_report.specs.Line.{Adds};
 ghost use Rattle.json.specs.Print.{quoted};
-ghost use Rattle.part_lines.specs.LineText.{line_text, file_text, settings_text, allowed_text, allowed_kind, code_string, place_text};
+ghost use Rattle.part_lines.specs.LineText.{line_text, body_text, file_text, settings_text, allowed_text, allowed_kind, code_string, place_text};
 ghost use Rattle.part_lines.specs.LineText.{verdict_text, valid_text, broken_text, record_text, fault_text, warnings_text, kind_texts, warning_text};
 ghost use Rattle.part_lines.specs.LineText.{listed_text, listed_text_of, tally_text, counts_text, rule_counts, kind_counts};
 ghost use Rattle.part_lines.specs.LineText.{cause_counts, count_texts, count_text, notes_text, note_texts, note_text};
@@ -17,6 +17,7 @@ ghost use Rattle.part_lines.specs.Lines.{every_word, framing_word};
 ghost use Rattle.report_forms.specs.Internal.WrittenCommas.{is_none_yet, next_items, comma_unless};
 
 use crate::line::{FileState, Listed, PartLine, Settings};
+use crate::sealing::put_seal;
 use geolint_report::every::listing::{Item, Note};
 use geolint_report::every::tally::Tally;
 use geolint_report::line::{put, put_number, put_truth};
@@ -32,7 +33,18 @@ use std::alloc::{AllocError, Global};
 pub fn put_line(alloc: Global, line: &PartLine, out: &mut Vec<u8>) -> Result<(), AllocError>
     ensures { OnOk result (Adds out.old out.new (line_text line.now)) }
 {
-    put(out, b"{\"geolint_part\":1,\"part\":")?;
+    let mut body = Vec::new(alloc);
+    put_body(alloc, line, &mut body)?;
+    put_seal(alloc, &mut body)?;
+    put(&mut body, b"\n")?;
+    put(out, body.as_slice())
+}
+
+/// Appends it up to its checksum.
+fn put_body(alloc: Global, line: &PartLine, out: &mut Vec<u8>) -> Result<(), AllocError>
+    ensures { OnOk result (Adds out.old out.new (body_text line.now)) }
+{
+    put(out, b"{\"geolint_part\":2,\"part\":")?;
     put_number(out, line.share.number)?;
     put(out, b",\"parts\":")?;
     put_number(out, line.share.parts)?;
@@ -43,8 +55,7 @@ pub fn put_line(alloc: Global, line: &PartLine, out: &mut Vec<u8>) -> Result<(),
     put(out, b",\"end\":")?;
     put_number(out, line.checked.end)?;
     put_verdict(&line.checked.verdict, line.checked.begin, out)?;
-    put_listed_if(&line.listed, line.checked.begin, out)?;
-    put(out, b"}\n")
+    put_listed_if(&line.listed, line.checked.begin, out)
 }
 
 fn put_file(alloc: Global, file: &FileState, out: &mut Vec<u8>) -> Result<(), AllocError>

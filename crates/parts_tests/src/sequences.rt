@@ -394,6 +394,44 @@ fn parts_of_lines_are_one_reading(rt: HostRuntime) -> io::Result<()> {
     are_one_reading(&rt, &rt, &LINE_INPUTS, Framing::Lines)
 }
 
+/// Nothing is found of a part where the source ends before it should.
+#[test]
+fn short_sources_have_no_such_part(rt: HostRuntime) -> io::Result<()> {
+    for (number, given) in SHORT.iter() {
+        let Some(share) = Share::new(*number, 3) else {
+            return Err(io::Error::from(io::ErrorKind::InvalidInput));
+        };
+        let mut meter = Meter::new(rt.clone()?);
+        let source = Bytes {
+            bytes: &POINTS[..*given],
+            place: 0,
+        };
+        let found = check_part(
+            rt.alloc(),
+            source,
+            116,
+            share,
+            Framing::Sequence,
+            limits_of(1 << 20),
+            None,
+            &mut meter,
+        );
+        match found {
+            Ok(_) => holds(&rt, false, "a part of a source that ends early"),
+            Err(error) => holds(
+                &rt,
+                error.kind() == io::ErrorKind::UnexpectedEof,
+                "another error of a source that ends early",
+            ),
+        }
+    }
+    Ok(())
+}
+
+/// The number of a part of three, and how many bytes the source gives: none after the first or second record, within the part's range,
+/// and before its end.
+static SHORT: [(u64, usize); 5] = [(1, 38), (1, 20), (2, 38), (2, 60), (3, 78)];
+
 /// Parts that are not those of a text, one after the other, are refused.
 #[test]
 fn parts_out_of_order_are_refused(rt: HostRuntime) -> io::Result<()> {
@@ -482,7 +520,7 @@ fn is_written_so(rt: &impl Abort, alloc: Global, line: &PartLine, wanted: &str) 
     let mut written = Vec::new(alloc);
     put_line(alloc, line, &mut written)?;
     holds(rt, written.as_slice() == wanted.as_bytes(), wanted);
-    match read_line(alloc, wanted) {
+    match read_line(alloc, wanted.as_bytes().trim_ascii_end()) {
         Ok(read) => {
             let mut again = Vec::new(alloc);
             put_line(alloc, &read, &mut again)?;
@@ -515,14 +553,14 @@ static WRITTEN: [Written; 2] = [
             (Kind::W1, 7),
             (Kind::W5, 25),
         ],
-        "{\"geolint_part\":1,\"part\":2,\"parts\":2,\"path\":\"a \\\"b\\\".geojsons\",\"size\":116,\"modified\":\"17.000000005\",\"framing\":\"seq\",\"max_bytes\":1000,\"strict\":true,\"allow\":[\"W4\",\"W9\"],\"begin\":40,\"end\":99,\"records\":12,\"warnings\":[{\"kind\":\"W1\",\"count\":1,\"at\":47},{\"kind\":\"W5\",\"count\":3,\"at\":60}]}\n",
+        "{\"geolint_part\":2,\"part\":2,\"parts\":2,\"path\":\"a \\\"b\\\".geojsons\",\"size\":116,\"modified\":\"17.000000005\",\"framing\":\"seq\",\"max_bytes\":1000,\"strict\":true,\"allow\":[\"W4\",\"W9\"],\"begin\":40,\"end\":99,\"records\":12,\"warnings\":[{\"kind\":\"W1\",\"count\":1,\"at\":47},{\"kind\":\"W5\",\"count\":3,\"at\":60}],\"sha256\":\"c4d4a2aa9afd6bb77b56044cd2d10280461852b3b66e21f913c01d2129e672f0\"}\n",
     ),
     (
         Framing::Lines,
         3,
         Some((Rule::G15, 5)),
         &[],
-        "{\"geolint_part\":1,\"part\":2,\"parts\":2,\"path\":\"a \\\"b\\\".geojsons\",\"size\":116,\"modified\":\"17.000000005\",\"framing\":\"ndjson\",\"max_bytes\":1000,\"strict\":true,\"allow\":[\"W4\",\"W9\"],\"begin\":40,\"end\":99,\"record\":3,\"fault\":\"G15\",\"at\":45}\n",
+        "{\"geolint_part\":2,\"part\":2,\"parts\":2,\"path\":\"a \\\"b\\\".geojsons\",\"size\":116,\"modified\":\"17.000000005\",\"framing\":\"ndjson\",\"max_bytes\":1000,\"strict\":true,\"allow\":[\"W4\",\"W9\"],\"begin\":40,\"end\":99,\"record\":3,\"fault\":\"G15\",\"at\":45,\"sha256\":\"aa2e53f2adc402d2471438f4f5efac2de5260882eb948e56ba3de440b3fcbf4f\"}\n",
     ),
 ];
 
@@ -533,6 +571,22 @@ fn lines_are_read_as_they_are_written(rt: HostRuntime) -> io::Result<()> {
         let mut line = line_of(&rt, 2, part_with(verdict))?;
         line.settings.framing = *framing;
         is_written_so(&rt, rt.alloc(), &line, wanted)?;
+    }
+    Ok(())
+}
+
+/// A line is refused where any byte of it is another.
+#[test]
+fn altered_lines_are_refused(rt: HostRuntime) -> io::Result<()> {
+    let wanted = LISTED.as_bytes().trim_ascii_end();
+    for index in 0..wanted.len() {
+        let mut text = Vec::from_slice(rt.alloc(), wanted)?;
+        text[index] ^= 1;
+        holds(
+            &rt,
+            read_line(rt.alloc(), text.as_slice()).is_err(),
+            "an altered line",
+        );
     }
     Ok(())
 }
@@ -601,7 +655,7 @@ static NOTED: [(u64, Code, u64); 2] = [
 ];
 
 const LISTED: &str =
-    "{\"geolint_part\":1,\"part\":2,\"parts\":2,\"path\":\"a \\\"b\\\".geojsons\",\"size\":116,\"modified\":\"17.000000005\",\"framing\":\"seq\",\"max_bytes\":1000,\"strict\":true,\"allow\":[\"W4\",\"W9\"],\"begin\":40,\"end\":99,\"records\":1,\"warnings\":[],\"every\":\"warnings\",\"most\":5,\"items\":1,\"items_broken\":1,\"counts\":[{\"code\":\"G15\",\"count\":1},{\"code\":\"W3\",\"count\":1}],\"findings\":7,\"listed\":[{\"record\":2,\"code\":\"G15\",\"at\":45},{\"record\":9,\"code\":\"W3\",\"at\":99}]}\n";
+    "{\"geolint_part\":2,\"part\":2,\"parts\":2,\"path\":\"a \\\"b\\\".geojsons\",\"size\":116,\"modified\":\"17.000000005\",\"framing\":\"seq\",\"max_bytes\":1000,\"strict\":true,\"allow\":[\"W4\",\"W9\"],\"begin\":40,\"end\":99,\"records\":1,\"warnings\":[],\"every\":\"warnings\",\"most\":5,\"items\":1,\"items_broken\":1,\"counts\":[{\"code\":\"G15\",\"count\":1},{\"code\":\"W3\",\"count\":1}],\"findings\":7,\"listed\":[{\"record\":2,\"code\":\"G15\",\"at\":45},{\"record\":9,\"code\":\"W3\",\"at\":99}],\"sha256\":\"221f70bdb61f68523178b75eeaece1a3be5ed19ea86ba18625153146289d558a\"}\n";
 
 /// A part that lists what is found in its records.
 #[test]

@@ -1,7 +1,10 @@
 -- Lemmas on the counts of files.
 use Rattle.report_forms.proofs.Common.{arith, refl, ◌&&◌, length, ◌≡◌, ◌<◌, ◌+◌, ℕ, Bool, true, false, List, [], ◌∷◌, ◌++◌, get_or, ap, sym, ◌∙◌}
 use Rattle.report_forms.proofs.Common.{kinds, Kind, Cause, Code}
-use Rattle.std.specs.Prelude.{is_none, is_some}
+use Rattle.std.specs.Prelude.{cond, is_none, is_some}
+use Rattle.std.specs.Io.Iter.{u64_saturate}
+use Rattle.std.specs.List.{count_by}
+use Rattle.std.proofs.lemmas.List.Sums.{sum_by-cons}
 use Rattle.std.proofs.Common.{not, nat_le, ◌≢◌, inl, inr, map, ◌≤◌}
 use Rattle.std.proofs.Common.{Option, Some, None}
 use Rattle.std.proofs.lemmas.Bool.Decides.{nat_tests, eqb_tells}
@@ -20,7 +23,7 @@ use Rattle.geolint_report.specs.declared.report.Told.{Told}
 use Rattle.geolint_report.specs.Finding.{fault_of, warnings_of}
 use Rattle.geolint_report.specs.Texts.{is_cause, cause_number, code_number}
 use Rattle.report_forms.specs.declared.summary.Summary.{Summary}
-use Rattle.report_forms.specs.Counts.{is_valid, is_warned, is_broken, is_refused, is_not_valid, warns, tells}
+use Rattle.report_forms.specs.Counts.{of_fault, of_warnings, is_valid, is_warned, is_broken, is_refused, is_not_valid, warns, tells}
 use Rattle.geolint_report.specs.Slots.{same, slot_of, more}
 use Rattle.geolint_report.proofs.CodeSlots.{below, above, more-counted}
 use Rattle.report_forms.specs.FileCounts.{Counts}
@@ -193,3 +196,34 @@ Counts-unread old files unread is counts = record {
   codes = λ code small. more-counted (tells code) files None false (get_or old.counts (slot_of code) 0) (get_or old.counts (slot_of code) 0) refl
       (counts.codes code small) refl;
 }
+
+-- ---- no file
+
+counted : (p : Option Finding → Bool) (file : Option Finding) (rest : List (Option Finding)) (count : ℕ) → count ≡ u64_saturate (count_by p (file ∷ rest))
+    → p file ≡ true → count ≡ 0 → ⊥
+counted p file rest count is one none =
+    let here : ◌≡◌ {A = ℕ} (cond (p file) 1 0) 1 = ap (λ (b : Bool). cond b 1 0) one in
+    let all : count_by p (file ∷ rest) ≡ cond (p file) 1 0 + count_by p rest = sum_by-cons (λ (f : Option Finding). cond (p f) 1 0) file rest in
+    absurd (omega (arith, is, none, here, all))
+
+-- where each count is 0 there is no file: each file is of one kind
+pub none-counted : (summary : Summary) (files : List (Option Finding)) → Counts summary files → summary.valid ≡ 0 → summary.warned ≡ 0 → summary.broken ≡ 0
+    → summary.refused ≡ 0 → summary.not_valid ≡ 0 → summary.unread ≡ 0 → files ≡ []
+none-counted summary [] counts v w b r n u = refl
+none-counted summary (None ∷ rest) counts v w b r n u = absurd (counted (λ (f : Option Finding). is_none f) None rest summary.unread counts.unread refl u)
+none-counted summary (Some finding ∷ rest) counts v w b r n u = absurd (by-fault (fault_of finding) (warnings_of finding) refl refl)
+  where
+    by-cause : (told : Told) (c : Bool) → fault_of finding ≡ Some told → is_cause told.code ≡ c → ⊥
+    by-cause told true is c = counted is_refused (Some finding) rest summary.refused counts.refused (ap (of_fault is_cause) is ∙ c) r
+    by-cause told false is c =
+        counted is_broken (Some finding) rest summary.broken counts.broken (ap (of_fault (λ code. not (is_cause code))) is ∙ ap not c) b
+
+    by-warnings : (warnings : Warnings) (none : Bool) → warnings_of finding ≡ Some warnings → none_in warnings ≡ none → ⊥
+    by-warnings warnings true is none = counted is_valid (Some finding) rest summary.valid counts.valid (ap (of_warnings none_in) is ∙ none) v
+    by-warnings warnings false is none =
+        counted is_warned (Some finding) rest summary.warned counts.warned (ap (of_warnings (λ warnings. not (none_in warnings))) is ∙ ap not none) w
+
+    by-fault : (fault : Option Told) (warnings : Option Warnings) → fault_of finding ≡ fault → warnings_of finding ≡ warnings → ⊥
+    by-fault (Some told) warnings is are = by-cause told (is_cause told.code) is refl
+    by-fault None (Some warnings) is are = by-warnings warnings (none_in warnings) are refl
+    by-fault None None is are = counted is_not_valid (Some finding) rest summary.not_valid counts.not_valid (rw (is, are) refl) n

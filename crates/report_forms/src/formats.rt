@@ -4,7 +4,7 @@ ghost use Rattle.std.specs.List.{flat_map};
 ghost use Rattle.gj_json.specs.Path.{steps_of};
 ghost use Rattle.geolint_report.specs.Line.{Adds};
 ghost use Rattle.report_forms.specs.Forms.Messages.{and_record, and_times, path_behind, and_path, level_of, step_text, steps_text, path_text};
-ghost use Rattle.report_forms.specs.Names.{shown_name, shown_text, shown_char, by_number, digit_in, unread_line};
+ghost use Rattle.report_forms.specs.Names.{shown_name, shown_bytes, begins_command, shown_text, shown_char, by_number, digit_in, unread_line};
 
 pub mod github;
 pub mod json;
@@ -14,6 +14,7 @@ pub mod text;
 
 use geolint_report::line::{put, put_all};
 use gj_json::{Path, PathStep};
+use gj_places::is_harmful;
 use itoa::Buffer;
 use std::alloc::AllocError;
 
@@ -102,10 +103,29 @@ pub fn level(fails: bool) -> &'static [u8]
     }
 }
 
-/// Puts a name as it is, but for control characters, which a terminal would obey and a reader of lines would take for the
-/// end of one, and for bytes that are no Unicode text: of these the number, as `\x0a`.
+/// Puts a name, an `id` or what was found, as it is, but for characters that a terminal or a reader of lines would obey, for
+/// bytes that are no Unicode text, and for a first byte with which a line could be a command to a runner of jobs: of these the
+/// number, as `\x0a`.
+#[tactic(auto, unfolding(crate::specs::Names::shown_name))]
 pub fn put_name(name: &[u8], line: &mut Vec<u8>) -> Result<(), AllocError>
     ensures { OnOk result (Adds line.old line.new (shown_name name.now)) }
+{
+    if begins_command(name) {
+        put_number_of(name[0], line)?;
+        put_bytes(&name[1..], line)
+    } else {
+        put_bytes(name, line)
+    }
+}
+
+fn begins_command(name: &[u8]) -> bool
+    ensures { result ≡ begins_command name.now }
+{
+    matches!(name, [b' ' | b'#' | b':', ..])
+}
+
+fn put_bytes(name: &[u8], line: &mut Vec<u8>) -> Result<(), AllocError>
+    ensures { OnOk result (Adds line.old line.new (shown_bytes name.now)) }
 {
     for chunk in name.utf8_chunks() {
         put_text(chunk.valid(), line)?;
@@ -139,7 +159,7 @@ fn put_char(c: char, line: &mut Vec<u8>) -> Result<(), AllocError>
 {
     let mut room = [0; 4];
     let bytes = c.encode_utf8(&mut room).as_bytes();
-    if c.is_control() {
+    if is_harmful(c) {
         put_numbers(bytes, line)
     } else {
         put(line, bytes)

@@ -25,7 +25,7 @@ pub struct Summary {
 }
 
 impl Summary {
-    ghost use Rattle.std.specs.Prelude.{◌≡◌, ◌++◌, ◌∷◌, [], List, Option, Some, None, true, false, not};
+    ghost use Rattle.std.specs.Prelude.{◌≡◌, ◌↔◌, ◌++◌, ◌∷◌, [], IsTrue, List, Option, Some, None, true, false, not};
     ghost use Rattle.gj_coords.specs.Internal.KeptWarnings.{none_in};
     ghost use Rattle.geolint_report.specs.declared.judge.Finding.{Finding};
     ghost use Rattle.geolint_report.specs.Slots.{same};
@@ -51,7 +51,7 @@ impl Summary {
 
     /// Whether there was no file.
     pub fn is_empty(&self) -> bool
-        ensures { Counts self.now [] → result ≡ true }
+        ensures { (files : List (Option Finding)) → Counts self.now files → IsTrue result ↔ (files ≡ []) }
     {
         self.valid == 0
             && self.warned == 0

@@ -54,7 +54,7 @@ struct Bounds {
 
 /// Checks the bytes of a part of a source of `size` bytes, and no others. The limit on the bytes is that of the whole.
 ///
-/// An error is returned where a read failed, or where the source has changed.
+/// An error is returned where a read failed, where the source has changed, or where it gave no byte before the end of the part.
 pub fn check_part<S: Rewind + Drop>(
     alloc: Global,
     source: S,
@@ -162,6 +162,9 @@ fn check_bytes<S: Rewind + Drop>(
     let mut window = Window::new(source, bounds.begin, bounds.end);
     let found = find(alloc, &mut window, left, framing, asked, meter)?;
     window.source.expect_unchanged()?;
+    if window.is_short {
+        return Err(io::Error::from(ErrorKind::UnexpectedEof));
+    }
     match found.0 {
         Finding::Sequence(verdict) => Ok((verdict, found.1)),
         _ => Err(io::Error::from(ErrorKind::InvalidData)),

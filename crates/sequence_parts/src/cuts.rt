@@ -1,8 +1,7 @@
 //! Where an input of records may be cut.
 
-ghost use Rattle.std.specs.Prelude.{◌≡◌, ◌<◌, ◌≤◌, min, IfOk, IfSome};
+ghost use Rattle.std.specs.Prelude.{◌≡◌, ◌<◌, ◌≤◌, min, IfOk, IfSome, OnOk};
 ghost use Rattle.std.specs.Option.{SomeIff};
-ghost use Rattle.geolint_report.specs.Judged.{CountsFailure};
 ghost use Rattle.gj_join.specs.Parts.{may_begin};
 ghost use Rattle.sequence_parts.specs.Cuts.{IsFirstCut};
 ghost use Rattle.sequence_parts.specs.Internal.Begins.{IsFirstBegin};
@@ -10,13 +9,13 @@ ghost use Rattle.sequence_parts.specs.Internal.Begins.{IsFirstBegin};
 use geolint_report::source::Rewind;
 use gj_json::Limits;
 use gj_rules::Framing;
-use std::io;
+use std::io::{self, ErrorKind};
 
 /// The most bytes that are looked at together.
 const PIECE: usize = 16384;
 
 /// The first of the places from `from` up to `until` where the input may be cut: before an RS that no other precedes, or after
-/// an LF.
+/// an LF. The source has bytes up to `until`: where it gives none before, the error says so.
 pub fn find_cut<S: Rewind>(
     source: &mut S,
     from: u64,
@@ -28,13 +27,13 @@ pub fn find_cut<S: Rewind>(
     ensures cut { IfOk result (λ cut. IfSome (S.text source.old) (λ text. IsFirstCut framing limits text from until cut)) }
     ensures range { IfOk result (λ cut. IfSome cut (λ place. (from ≤ place) × (place < until))) }
     ensures text { S.text source.new ≡ S.text source.old }
-    ensures failed { CountsFailure (S.failed_reads source.old) (S.failed_reads source.new) result }
+    ensures unfailed { OnOk result (S.failed_reads source.new ≡ S.failed_reads source.old) }
 {
     let until = lesser(until, limits.bytes());
     let separator = framing.separator();
     let mut byte = [0];
     if source.read_from(from - 1, &mut byte)? == 0 {
-        return Ok(None);
+        return Err(io::Error::from(ErrorKind::UnexpectedEof));
     }
     let mut follows_separator = byte[0] == separator;
     let mut place = from;
@@ -42,7 +41,7 @@ pub fn find_cut<S: Rewind>(
     while place < until {
         let count = source.read_from(place, &mut piece)?;
         if count == 0 {
-            return Ok(None);
+            return Err(io::Error::from(ErrorKind::UnexpectedEof));
         }
         let read = &piece[..count];
         if let Some(index) = first_begin(framing, read, follows_separator) {

@@ -1,3 +1,3 @@
 pub mod Parts
-pub mod Lines
+pub mod Judged
 pub mod SplitSources

@@ -30,22 +30,31 @@ impl FileRanges {
         }
     }
 
-    /// Whether the file is unchanged, as far as its metadata shows.
-    pub fn is_unchanged(&self) -> bool {
-        match self.file.metadata() {
-            Ok(after) => are_alike(&self.before, &after),
-            Err(_) => false,
-        }
+    /// What was known of the file before it was read.
+    pub fn before(&self) -> &Metadata
+        ensures { result.now ≡ known_before self.now }
+    {
+        &self.before
+    }
+
+    /// What is known of it now.
+    pub fn metadata(&self) -> io::Result<Metadata> {
+        self.file.metadata()
     }
 }
 
-/// Whether a file has the same length and the same time of change.
-fn are_alike(before: &Metadata, after: &Metadata) -> bool
+/// Whether a file is unchanged, as far as these show: it has the same length and the same time of change.
+pub fn are_alike(before: &Metadata, after: &Metadata) -> bool
     ensures { IsTrue result → metadata_len before.now ≡ metadata_len after.now }
 {
     before.len() == after.len()
         && before.mtime() == after.mtime()
         && before.mtime_nsec() == after.mtime_nsec()
+}
+
+/// Whether both are of the same file. No clause says which file a number is of.
+pub fn is_same_file(one: &Metadata, other: &Metadata) -> bool {
+    one.dev() == other.dev() && one.ino() == other.ino()
 }
 
 impl Ranges for FileRanges {

@@ -6,11 +6,12 @@
 #![tactic(auto)]
 
 mod file_ranges;
-mod finding_list;
+mod judged;
 mod part_file;
 mod source;
 mod writing;
 
 pub use gj_split::{Counts, Input, Stop};
+pub use part_file::Part;
 pub use source::{Whole, split_source};
-pub use writing::{Order, Part, Undone, Written, split_file};
+pub use writing::{Order, Undone, Written, split_file};

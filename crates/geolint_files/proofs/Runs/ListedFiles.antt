@@ -1,11 +1,12 @@
 -- A run that has told lines of the features of its last file.
 use Rattle.geolint_files.proofs.Common.{arith, ◌≡◌, ◌-◌, ◌++◌, ◌∷◌, [], List, ℕ, length, refl, sym, subst, ap, ◌∙◌, Bool, map, Option, Some, None, Vec}
 use Rattle.geolint_files.proofs.Common.{Global, StandBy, Finding, Reading, Report, Log, Options, Summary, Counts, Outcome, framing_in}
-use Rattle.std.proofs.Common.{zero, suc, ◌<◌, ◌≤◌, ◌+◌, take, get_or, append_assoc, append-nil, length-append, ◌^◌}
+use Rattle.std.proofs.Common.{true, false, not, zero, suc, ◌<◌, ◌≤◌, ◌+◌, take, get_or, append_assoc, append-nil, length-append, ◌^◌}
 use Rattle.std.specs.Io.Iter.{u64_saturate}
 use Rattle.std.specs.Io.KnownBytes.{Appends, Keeps}
 use Rattle.std.proofs.KnownBytes.{Appends-trans, Appends-kept, Keeps-refl}
 use Rattle.std.proofs.lemmas.List.{map-append, take_more, take_all}
+use Rattle.std.proofs.lemmas.Bool.{true≢false}
 use Rattle.std.proofs.lemmas.Option.{none-some}
 use Rattle.gj_json.specs.Limits.{Allowed}
 use Rattle.gj_rules.specs.declared.records.framing.Framing.{Framing}
@@ -294,6 +295,15 @@ asked-every options reading asked is nothing = by-reading reading (asked_in opti
 -- nothing is asked of features where only yes or no is asked
 pub asked-slowly : (reading : Reading) (given : Option Asked) (asked : Asked) → asked_when reading given ≡ Some asked → reading ≡ Reading.Quick → ⊥
 asked-slowly reading given asked is quick = none-some asked (sym (ap (λ (r : Reading). asked_when r given) quick) ∙ is)
+
+-- notes are given exactly of what is a text
+pub text-noted : (b : Bool) → true ≡ not b → b ≡ false
+text-noted true is = absurd (true≢false is)
+text-noted false is = refl
+
+pub refused-unnoted : (b : Bool) → false ≡ not b → b ≡ true
+refused-unnoted true is = refl
+refused-unnoted false is = absurd (true≢false (sym is))
 
 pub others_of-some : (name : List ℕ) (count : ℕ) → 0 < count → others_of name count ≡ others_line name count ∷ []
 others_of-some name zero some = absurd (omega (arith, some))

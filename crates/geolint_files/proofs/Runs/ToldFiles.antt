@@ -120,26 +120,23 @@ TellsFile-after contents file old middle new same told = record {
       told.tells held options style files (HasTold-moved contents held options style files old middle same has);
 }
 
-pub TellsFiles-none : {W : Type 0} (contents : W → Option (List ℕ)) (old new : Run W) → Unchanged old new → TellsFiles contents old new
+pub TellsFiles-none : {W : Type 0} (contents : W → Option (List ℕ)) (old new : Run W) → Unchanged old new → TellsFiles contents [] old new
 TellsFiles-none contents old new same = record {
-  tells = λ held options style files has. (
-    [],
-    subst (λ (all : List ToldFile). HasTold contents held options style all new) (sym (append-nil files))
-        (HasTold-moved contents held options style files old new same has),
-  );
+  tells = λ held options style files has.
+      subst (λ (all : List ToldFile). HasTold contents held options style all new) (sym (append-nil files))
+      (HasTold-moved contents held options style files old new same has);
 }
 
 pub TellsFiles-one : {W : Type 0} (contents : W → Option (List ℕ)) (file : ToldFile) (old new : Run W) → TellsFile contents file old new
-    → TellsFiles contents old new
-TellsFiles-one contents file old new told = record { tells = λ held options style files has. (file ∷ [], told.tells held options style files has) }
+    → TellsFiles contents (file ∷ []) old new
+TellsFiles-one contents file old new told = record { tells = told.tells }
 
-pub TellsFiles-then : {W : Type 0} (contents : W → Option (List ℕ)) (old middle new : Run W)
-    → TellsFiles contents old middle → TellsFiles contents middle new → TellsFiles contents old new
-TellsFiles-then contents old middle new first second = record {
+pub TellsFiles-then : {W : Type 0} (contents : W → Option (List ℕ)) (more rest : List ToldFile) (old middle new : Run W)
+    → TellsFiles contents more old middle → TellsFiles contents rest middle new → TellsFiles contents (more ++ rest) old new
+TellsFiles-then contents more rest old middle new first second = record {
   tells = λ held options style files has.
-      let (more, then) = first.tells held options style files has in
-      let (rest, end) = second.tells held options style (files ++ more) then in
-      (more ++ rest, subst (λ (all : List ToldFile). HasTold contents held options style all new) (append_assoc files more rest) end);
+      subst (λ (all : List ToldFile). HasTold contents held options style all new) (append_assoc files more rest)
+      (second.tells held options style (files ++ more) (first.tells held options style files has));
 }
 
 pub unchanged : {W : Type 0} (run : Run W) → Unchanged run run

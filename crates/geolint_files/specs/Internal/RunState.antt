@@ -61,10 +61,10 @@ ToldFurther contents reading asked most limits name text held told old new =
     × (told ≡ u64_saturate (held + length (joined further)))
     × ((lines : List FeatureLine) × AreEntriesOf (IsPlaced (framing_in reading) text) name (joined further) lines × TellsLines contents lines old new)
 
--- it reported some more, or none
-pub record TellsFiles {W : Type 0} (contents : W → Option (List ℕ)) (old new : Run W) : Type 0 where
+-- it reported these
+pub record TellsFiles {W : Type 0} (contents : W → Option (List ℕ)) (more : List ToldFile) (old new : Run W) : Type 0 where
   pub tells : (held : Option (List ℕ)) (options : Options) (style : Style) (files : List ToldFile)
-      → HasTold contents held options style files old → (more : List ToldFile) × HasTold contents held options style (files ++ more) new
+      → HasTold contents held options style files old → HasTold contents held options style (files ++ more) new
 
 -- it reported none
 pub record SameTold {W : Type 0} (old new : Run W) : Type 0 where

@@ -1,8 +1,8 @@
 //! The features or records of a file in which something is found, as the linter reports them: as many are kept as are asked for, and all are counted.
-ghost use Rattle.std.specs.Prelude.{◌≡◌, ℕ, List, Option, IfOk, IfSome};
+ghost use Rattle.std.specs.Prelude.{◌≡◌, ℕ, List, Option, IfOk, IfSome, is_some, not};
 ghost use Rattle.gj_json.specs.Limits.{Allowed};
 ghost use Rattle.gj_rules.specs.declared.records.framing.Framing.{Framing};
-ghost use Rattle.geolint_report.specs.Every.{ListsFor, AreNotesBy, item_of};
+ghost use Rattle.geolint_report.specs.Every.{ListsFor, AreNotesBy, is_no_text, item_of};
 
 use crate::every::tally::Tally;
 use crate::judge::Finding;
@@ -111,7 +111,8 @@ pub fn notes_for(
     listing: Listing,
     asked: Asked,
 ) -> Result<Option<Notes>, AllocError>
-    ensures { IfOk result
+    ensures some { IfOk result (λ found. is_some found ≡ not (is_no_text finding)) }
+    ensures notes { IfOk result
         (λ found. IfSome found (λ notes. (framing : Option Framing) (limits : Allowed) (had : Option (List ℕ)) → ListsFor framing finding limits had listing
         → AreNotesBy framing asked notes.notes.items notes.count notes.tally limits had)) }
 {

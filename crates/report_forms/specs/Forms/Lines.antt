@@ -122,8 +122,8 @@ pub record IsShown (excerpt : Excerpt) (text : List ℕ) (columns : ℕ) : Type 
 -- that text, and a caret under the character at the place
 unfoldable pub lines_excerpt : Style → List ℕ → ℕ → List ℕ
 lines_excerpt style text columns =
-    codes "    "
-    ++ (text ++ (codes "\n    " ++ (replicate columns 32 ++ (beginning Part.Caret style ++ (codes "^" ++ (ending style ++ codes "\n"))))))
+    codes "  | "
+    ++ (text ++ (codes "\n  | " ++ (replicate columns 32 ++ (beginning Part.Caret style ++ (codes "^" ++ (ending style ++ codes "\n"))))))
 
 -- where the line of the fault is known, this excerpt
 abbrev pub IsExcerpt : Style → Option Spot → Option Excerpt → List ℕ → Type 0

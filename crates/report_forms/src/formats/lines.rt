@@ -397,7 +397,7 @@ fn put_end(is_open: bool, line: &mut Vec<u8>) -> Result<(), AllocError>
     if is_open { put(line, b")") } else { Ok(()) }
 }
 
-/// The line around the place, with a caret under the character at it.
+/// The line around the place, with a caret under the character at it. Both begin with a mark, so that no runner of jobs obeys them.
 fn put_excerpt(
     alloc: Global,
     report: &Report<'_>,
@@ -436,9 +436,9 @@ fn put_shown(
 ) -> Result<(), AllocError>
     ensures { OnOk result (Adds line.old line.new (lines_excerpt style text.now columns)) }
 {
-    put(line, b"    ")?;
+    put(line, b"  | ")?;
     put(line, text)?;
-    put(line, b"\n    ")?;
+    put(line, b"\n  | ")?;
     put_spaces(columns, line)?;
     put_beginning(Part::Caret, style, line)?;
     put(line, b"^")?;

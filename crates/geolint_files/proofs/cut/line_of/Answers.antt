@@ -1,17 +1,12 @@
-use Rattle.geolint_files.proofs.Common.{◌≡◌, ℕ, refl, Vec, Global, Options}
-use Rattle.std.specs.Prelude.{Result, Ok, Err, IfOk}
-use Rattle.part_lines.specs.LineText.{line_text}
-use Rattle.part_lines.specs.declared.line.PartLine.{PartLine}
-use Rattle.sequence_parts.specs.declared.ranges.Share.{Share}
-use Rattle.geolint_files.specs.AskedLine.{IsAskedLine}
+use Rattle.geolint_files.proofs.Common.{refl}
+use Rattle.geolint_files.proofs.LinesRead.{line-read}
 use Rattle.geolint_files.proofs.cut.line_of.Goals as goal
 
-asked-text : {E : Type 0} (r : Result (Vec ℕ Global) E) (options : Options) (asked : Share) (line : PartLine) → IfOk r (λ bytes. bytes.items ≡ line_text line)
-    → IsAskedLine options asked line → IfOk r (λ bytes. (line : PartLine) × IsAskedLine options asked line × (bytes.items ≡ line_text line))
-asked-text (Ok bytes) options asked line is right = (line, right, is)
-asked-text (Err error) options asked line is right = is
+pub returns-clause-asked : goal.returns-clause-asked
+returns-clause-asked g c = record { of_file = refl; share = refl; limits = refl; strict = refl; allowed = refl }
 
-pub returns : goal.returns
-returns c =
-    asked-text c.text_of.result c.args.order.now.options c.args.share _ c.text_of.ensures
-    (record { share = refl; limits = refl; strict = refl; allowed = refl })
+pub returns-clause-read : goal.returns-clause-read
+returns-clause-read g c =
+    let found = c.in_ok-found.found in
+    line-read (g.S.Source.text c.args.source) c.args.framing c.args.options.now c.asked_in-asked.result c.args.share found.part found.notes _
+    c.asked_in-asked.ensures refl c.listed_of.ensures refl c.in_ok-found.ensures.bytes c.in_ok-found.ensures.part c.in_ok-found.ensures.notes

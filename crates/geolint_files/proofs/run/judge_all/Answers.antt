@@ -1,6 +1,12 @@
-use Rattle.geolint_files.proofs.Common.{[], List, subst, ap, ◌∙◌, map, Options, Counts}
-use Rattle.geolint_files.specs.Run.{ToldFile, finding_in, worst_of, IsWholeReport}
+use Rattle.geolint_files.proofs.Common.{[], List, Bool, ◌≡◌, refl, sym, subst, ap, ◌∙◌, Options}
+use Rattle.std.proofs.Common.{true, false}
+use Rattle.std.proofs.lemmas.Bool.{true≢false}
+use Rattle.geolint_files.specs.Run.{ToldFile, worst_of, IsWholeReport}
 use Rattle.geolint_files.proofs.run.judge_all.Goals as goal
+
+allowed : (b : Bool) → (b ≡ false → ⊥) → b ≡ true
+allowed true never = refl
+allowed false never = absurd (never refl)
 
 pub returns : goal.returns
 returns g c =
@@ -8,12 +14,14 @@ returns g c =
     let contents = g.W.Write.contents in
     let held = contents c.args.out in
     let begun = c.in_ok-begin.ensures held c.in_ok-run.ensures.fresh in
-    let (files, told) = c.in_ok-judge_order.ensures.tells held run.options run.style [] begun in
+    let (files, of_order, tells) = c.in_ok-judge_order.ensures in
+    let told = tells.tells held run.options run.style [] begun in
     let (bytes, whole, out) = c.in_ok-end.ensures.told held run.options run.style files told in
     record {
       files = files;
-      some = λ none. c.lacks_files.ensures
-          (subst (λ (all : List ToldFile). Counts c.judge_order.new.self.summary (map finding_in all)) none told.summary) c.if-lacks_files.false;
+      of_order = of_order;
+      some = λ none. allowed c.args.order.now.allows_empty
+          (λ refused. true≢false (sym ((c.lacks_files.ensures files told.summary).1 (none, refused)) ∙ c.if-lacks_files.false));
       style = run.style;
       bytes = bytes;
       whole = subst (λ (options : Options). IsWholeReport options run.style files bytes) c.in_ok-run.ensures.options whole;

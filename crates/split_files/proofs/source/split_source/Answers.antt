@@ -1,25 +1,71 @@
-use Rattle.std.proofs.Common.{◌≡◌, false, true, refl, Option, Result, Ok, Err, IsOk, OnOk, sym, subst}
+use Rattle.std.proofs.Common.{◌≡◌, ℕ, List, Option, Result, Ok, Err, IfOk, sym, subst}
+use Rattle.gj_json.specs.Limits.{Allowed}
 use Rattle.gj_rules.specs.declared.records.framing.Framing.{Framing}
-use Rattle.split_files.specs.SplitSources.{IsSplit}
+use Rattle.gj_rules.specs.declared.verdict.Verdict.{Verdict}
+use Rattle.gj_split.specs.Holding.{AreKnown}
+use Rattle.gj_split.specs.declared.records.Input.{Input}
+use Rattle.split_files.specs.declared.source.Whole.{Whole}
+use Rattle.split_files.specs.SplitSources.{IsSplit, IsWhole, as_text, as_records}
 use Rattle.split_files.proofs.source.split_source.Goals as goal
 
--- where the second is an answer, the first is one
-on_first : {T U E F : Type 0} (first : Result T E) (second : Result U F) (X Y : Type 0) → OnOk first X → (IsOk second → IsOk first) → (X → Y) → OnOk second Y
-on_first (Ok v) (Ok u) X Y h k f = f h
-on_first (Err x) (Ok u) X Y h k f = let none : false ≡ true = k refl in cc
-on_first (Ok v) (Err y) X Y h k f = tt
-on_first (Err x) (Err y) X Y h k f = tt
+-- what is said of the first is said of the last, where that is an answer
+of_text : {E : Type 0} (first : Result Verdict E) (second last : Result Whole E) (P : Verdict → Type 0) (Q : Whole → Type 0) → IfOk first P
+    → second ≡ as_text first → IfOk last (λ whole. second ≡ Ok whole) → ((verdict : Verdict) → P verdict → Q (Whole.Text verdict)) → IfOk last Q
+of_text (Ok v) second (Ok w) P Q p e h f = let same : Whole.Text v ≡ w = cc in subst Q same (f v p)
+of_text (Err x) second (Ok w) P Q p e h f = cc
+of_text first second (Err y) P Q p e h f = tt
 
-pub returns-in-None : goal.returns-in-None
-returns-in-None g c =
-    on_first c.split.result.outcome c.of_text.result.outcome _ _ c.split.ensures.apart c.of_text.ensures.ok (λ h bytes k.
-    rw (c.of_text.ensures.outputs, c.of_text.ensures.counts)
-    (subst (λ (f : Option Framing). IsSplit f c.args.limits bytes (g.V.Write.contents c.split.result.outputs.valid)
-    (g.B.Write.contents c.split.result.outputs.broken) c.split.result.counts) (sym c.in-None.is) (λ text a. h bytes text k a)))
+of_records : {E : Type 0} (first : Result Input E) (second last : Result Whole E) (P : Input → Type 0) (Q : Whole → Type 0) → IfOk first P
+    → second ≡ as_records first → IfOk last (λ whole. second ≡ Ok whole) → ((input : Input) → P input → Q (Whole.Records input)) → IfOk last Q
+of_records (Ok v) second (Ok w) P Q p e h f = let same : Whole.Records v ≡ w = cc in subst Q same (f v p)
+of_records (Err x) second (Ok w) P Q p e h f = cc
+of_records first second (Err y) P Q p e h f = tt
 
-pub returns-in-Some : goal.returns-in-Some
-returns-in-Some g c =
-    on_first c.split_records.result.outcome c.of_records.result.outcome _ _ c.split_records.ensures.apart c.of_records.ensures.ok (λ h bytes k.
-    rw (c.of_records.ensures.outputs, c.of_records.ensures.counts)
-    (subst (λ (f : Option Framing). IsSplit f c.args.limits bytes (g.V.Write.contents c.split_records.result.outputs.valid)
-    (g.B.Write.contents c.split_records.result.outputs.broken) c.split_records.result.counts) (sym c.in-Some.is) (λ found a. h bytes found k a)))
+if_both : {T E : Type 0} (outcome : Result T E) (P Q : T → Type 0) → IfOk outcome P → IfOk outcome Q → IfOk outcome (λ v. P v × Q v)
+if_both (Ok v) P Q p q = (p, q)
+if_both (Err x) P Q p q = tt
+
+pub returns-in-None-clause-whole : goal.returns-in-None-clause-whole
+returns-in-None-clause-whole g c =
+    of_text c.split.result.outcome c.of_text.result.outcome c.checked.result.outcome _ _ c.split.ensures.verdict c.of_text.ensures.outcome
+    c.checked.ensures.outcome (λ verdict h bytes k.
+    subst (λ (f : Option Framing). IsWhole f c.args.limits bytes (Whole.Text verdict)) (sym c.in-None.is)
+    (h bytes (subst (λ w. AreKnown g.R.Ranges.text (g.V.Write.contents w) (g.B.Write.contents c.args.outputs.broken) bytes)
+    (sym c.new-valid.ensures.out) k)))
+
+pub returns-in-None-clause-parts : goal.returns-in-None-clause-parts
+returns-in-None-clause-parts g c =
+    of_text c.split.result.outcome c.of_text.result.outcome c.checked.result.outcome _ _ c.split.ensures.apart c.of_text.ensures.outcome
+    c.checked.ensures.outcome (λ verdict h bytes k.
+    rw (c.checked.ensures.valid, c.checked.ensures.broken, c.checked.ensures.counts, c.of_text.ensures.outputs, c.of_text.ensures.counts)
+    (subst (λ (f : Option Framing). IsSplit f c.args.limits bytes (g.V.Write.contents c.split.result.outputs.valid.out)
+    (g.B.Write.contents c.split.result.outputs.broken) c.split.result.counts) (sym c.in-None.is)
+    (λ text a. h bytes text
+    (subst (λ w. AreKnown g.R.Ranges.text (g.V.Write.contents w) (g.B.Write.contents c.args.outputs.broken) bytes)
+    (sym c.new-valid.ensures.out) k) a)))
+
+pub returns-in-Some-clause-whole : goal.returns-in-Some-clause-whole
+returns-in-Some-clause-whole g c =
+    let both = if_both c.split_records.result.outcome _ _ c.split_records.ensures.verdict c.split_records.ensures.cut in
+    of_records c.split_records.result.outcome c.of_records.result.outcome c.checked-in-Some.result.outcome _ _ both c.of_records.ensures.outcome
+    c.checked-in-Some.ensures.outcome (λ input h bytes k.
+    let known = subst (λ w. AreKnown g.R.Ranges.text (g.V.Write.contents w) (g.B.Write.contents c.args.outputs.broken) bytes)
+    (sym c.new-valid.ensures.out) k in
+    subst (λ (f : Option Framing). IsWhole f c.args.limits bytes (Whole.Records input)) (sym c.in-Some.is) (h.0 bytes known, h.1 bytes known))
+
+pub returns-in-Some-clause-parts : goal.returns-in-Some-clause-parts
+returns-in-Some-clause-parts g c =
+    of_records c.split_records.result.outcome c.of_records.result.outcome c.checked-in-Some.result.outcome _ _ c.split_records.ensures.apart
+    c.of_records.ensures.outcome c.checked-in-Some.ensures.outcome (λ input h bytes k.
+    rw (
+      c.checked-in-Some.ensures.valid,
+      c.checked-in-Some.ensures.broken,
+      c.checked-in-Some.ensures.counts,
+      c.of_records.ensures.outputs,
+      c.of_records.ensures.counts,
+    )
+    (subst (λ (f : Option Framing). IsSplit f c.args.limits bytes (g.V.Write.contents c.split_records.result.outputs.valid.out)
+    (g.B.Write.contents c.split_records.result.outputs.broken) c.split_records.result.counts) (sym c.in-Some.is)
+    (λ found a. h bytes found
+    (subst (λ w. AreKnown g.R.Ranges.text (g.V.Write.contents w) (g.B.Write.contents c.args.outputs.broken) bytes)
+    (sym c.new-valid.ensures.out) k) a)))

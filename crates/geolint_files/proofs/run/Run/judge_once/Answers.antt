@@ -34,4 +34,4 @@ returns-in-Err g c =
       (refl, c.in-Err.ensures.failed),
       TellsFile-after g.W.Write.contents _ c.args.self.now _ c.tell_unread.new.self
           (record { same = record { options = refl; style = refl; outcome = refl; summary = refl; tally = refl }; out = refl; log = refl; line = refl }) told.1,
-    )) c.tell_unread.ensures.told
+    )) c.tell_unread.ensures

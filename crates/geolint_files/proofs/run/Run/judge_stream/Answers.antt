@@ -1,11 +1,33 @@
+use Rattle.geolint_files.proofs.Common.{subst, Option, Some, None}
 use Rattle.std.proofs.lemmas.Result.{on_ok_weaker}
-use Rattle.geolint_files.proofs.Runs.ToldFiles.{TellsFiles-one}
+use Rattle.geolint_report.specs.declared.every.listing.Asked.{Asked}
+use Rattle.geolint_files.specs.Listed.{IsOnceBy}
+use Rattle.geolint_files.specs.Told.{reading_of}
+use Rattle.geolint_files.proofs.Runs.NamedFiles.{once-named}
 use Rattle.geolint_files.proofs.run.Run.judge_stream.Goals as goal
 
 pub returns-in-Some : goal.returns-in-Some
 returns-in-Some g c =
-    on_ok_weaker c.list_once.result (λ told. TellsFiles-one g.W.Write.contents told.0 c.args.self.now c.list_once.new.self told.2) c.list_once.ensures
+    let options = c.args.self.now.options in
+    let name = c.args.name.now in
+    on_ok_weaker c.list_once.result (λ told. (
+      told.0,
+      subst (λ (asked : Option Asked). IsOnceBy asked (reading_of options name) options.limits name (g.S.Source.remaining c.args.source.now)
+          (g.S.Source.failed_reads c.args.source.now) (g.S.Source.failed_reads c.list_once.new.source) told.0) c.in-Some.ensures told.1,
+      once-named (Some c.in-Some.asked) (reading_of options name) options.limits name (g.S.Source.remaining c.args.source.now)
+          (g.S.Source.failed_reads c.args.source.now) (g.S.Source.failed_reads c.list_once.new.source) told.0 told.1,
+      told.2,
+    )) c.list_once.ensures
 
-pub returns : goal.returns
-returns g c = on_ok_weaker c.judge_once.result
-    (λ told. TellsFiles-one g.W.Write.contents told.0 c.args.self.now c.judge_once.new.self told.2) c.judge_once.ensures
+pub returns-in-None : goal.returns-in-None
+returns-in-None g c =
+    let options = c.args.self.now.options in
+    let name = c.args.name.now in
+    on_ok_weaker c.judge_once.result (λ told. (
+      told.0,
+      subst (λ (asked : Option Asked). IsOnceBy asked (reading_of options name) options.limits name (g.S.Source.remaining c.args.source.now)
+          (g.S.Source.failed_reads c.args.source.now) (g.S.Source.failed_reads c.judge_once.new.source) told.0) c.in-None.ensures told.1,
+      once-named None (reading_of options name) options.limits name (g.S.Source.remaining c.args.source.now)
+          (g.S.Source.failed_reads c.args.source.now) (g.S.Source.failed_reads c.judge_once.new.source) told.0 told.1,
+      told.2,
+    )) c.judge_once.ensures

@@ -3,7 +3,7 @@ use Rattle.std.proofs.lemmas.Result.{on_ok_weaker}
 use Rattle.geolint_files.specs.Listed.{asked_in, IsListedOnce}
 use Rattle.report_forms.specs.Passing.{passes}
 use Rattle.geolint_files.specs.Told.{reading_of}
-use Rattle.geolint_files.proofs.Runs.ListedFiles.{asked-every, asked-slowly}
+use Rattle.geolint_files.proofs.Runs.ListedFiles.{asked-every, asked-slowly, text-noted, refused-unnoted}
 use Rattle.geolint_files.proofs.Runs.FollowedFiles.{lines-by}
 use Rattle.geolint_files.proofs.Runs.ToldFiles.{TellsFile-after}
 use Rattle.geolint_files.proofs.run.Run.list_once.Goals as goal
@@ -15,7 +15,8 @@ returns-in-Some g c =
     let reading = c.reading-reading.result in
     let finding = c.in-Ok.found.0 in
     let notes = c.in-Some.notes in
-    let kept = rw (c.in-Some.is) at c.in_ok-notes-in-Ok.ensures in
+    let kept = rw (c.in-Some.is) at c.in_ok-notes-in-Ok.ensures.notes in
+    let is_text = text-noted _ (rw (c.in-Some.is) at c.in_ok-notes-in-Ok.ensures.some) in
     let had = g.S.Source.remaining c.args.source.now in
     let failed = g.S.Source.failed_reads c.args.source.now in
     let left = g.S.Source.remaining c.judge_followed.new.reader in
@@ -38,6 +39,7 @@ returns-in-Some g c =
       listed report lines notes.tally,
       subst (λ (r : Reading). IsListedOnce r c.args.asked limits c.args.name.now had failed (g.S.Source.failed_reads c.judge_followed.new.reader)
           (listed report lines notes.tally)) c.reading-reading.ensures (
+            is_text,
             refl,
             refl,
             c.in-Ok.ensures.failed,
@@ -79,7 +81,7 @@ returns-in-Ok g c =
       subst (λ (r : Reading). IsListedOnce r c.args.asked limits c.args.name.now had failed (g.S.Source.failed_reads c.judge_followed.new.reader)
           (judged report))
           c.reading-reading.ensures
-          (refl, refl, refl, c.in-Ok.ensures.failed, (left, c.in-Ok.ensures.found slow)),
+          (refused-unnoted _ (rw (c.in-None.is) at c.in_ok-notes-in-Ok.ensures.some), (refl, refl, refl, c.in-Ok.ensures.failed, (left, c.in-Ok.ensures.found slow))),
       TellsFile-after g.W.Write.contents _ old _ c.tell.new.self
           (record { same = record { options = refl; style = refl; outcome = refl; summary = refl; tally = refl }; out = refl; log = refl; line = refl }) told,
     )) c.tell.ensures
@@ -91,4 +93,4 @@ returns g c =
       (refl, c.in-Err.ensures.failed),
       TellsFile-after g.W.Write.contents _ c.args.self.now _ c.tell_unread.new.self
           (record { same = record { options = refl; style = refl; outcome = refl; summary = refl; tally = refl }; out = refl; log = refl; line = refl }) told.1,
-    )) c.tell_unread.ensures.told
+    )) c.tell_unread.ensures

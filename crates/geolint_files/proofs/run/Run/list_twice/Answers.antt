@@ -1,9 +1,10 @@
-use Rattle.geolint_files.proofs.Common.{refl, subst, sym, ◌≡◌, ◌∙◌, List, ℕ, Option, Finding, Reading, judged, not_read, listed}
+use Rattle.geolint_files.proofs.Common.{refl, ap, subst, sym, ◌≡◌, ◌∙◌, List, ℕ, Option, Finding, Reading, judged, not_read, listed}
 use Rattle.std.proofs.lemmas.Result.{on_ok_weaker}
 use Rattle.geolint_files.specs.Listed.{asked_in, ArePlacedLines, IsListedTwice}
+use Rattle.geolint_report.specs.Every.{is_no_text}
 use Rattle.geolint_report.specs.Judged.{Finds, framing_in}
 use Rattle.geolint_files.specs.Told.{reading_of, HasSites}
-use Rattle.geolint_files.proofs.Runs.ListedFiles.{asked-every, asked-slowly}
+use Rattle.geolint_files.proofs.Runs.ListedFiles.{asked-every, asked-slowly, text-noted, refused-unnoted}
 use Rattle.geolint_files.proofs.Runs.ToldFiles.{TellsFile-after}
 use Rattle.geolint_files.proofs.run.Run.list_twice.Goals as goal
 
@@ -13,7 +14,8 @@ returns-in-Some g c =
     let limits = old.options.limits in
     let reading = c.reading-reading.result in
     let notes = c.in-Some.notes in
-    let kept = rw (c.in-Some.is) at c.in_ok-notes-in-Ok.ensures in
+    let kept = rw (c.in-Some.is) at c.in_ok-notes-in-Ok.ensures.notes in
+    let is_text = text-noted _ (rw (c.in-Some.is) at c.in_ok-notes-in-Ok.ensures.some) in
     let had = g.S.Source.remaining c.args.source.now in
     let left = g.S.Source.remaining c.judge_every.new.reader in
     let text = c.in-Ok.ensures.text in
@@ -31,7 +33,7 @@ returns-in-Some g c =
       subst (λ (r : Reading). IsListedTwice r c.args.asked old.options.most limits c.args.name.now had (g.S.Source.text c.args.source.now)
           (g.S.Source.failed_reads c.args.source.now) (g.S.Source.failed_reads c.list_placed.new.source) (listed report lines notes.tally))
           c.reading-reading.ensures
-          (name, (left, found), (middle, with_sites), (notes.notes.items, notes.count, kept (framing_in reading) limits had c.in-Ok.ensures.listed, placed)),
+          (ap is_no_text finding ∙ is_text, name, (left, found), (middle, with_sites), (notes.notes.items, notes.count, kept (framing_in reading) limits had c.in-Ok.ensures.listed, placed)),
       TellsFile-after g.W.Write.contents _ old _ c.list_placed.new.self
           (record { same = record { options = refl; style = refl; outcome = refl; summary = refl; tally = refl }; out = refl; log = refl; line = refl }) tells,
     )) (c.list_placed.ensures asked)
@@ -57,7 +59,7 @@ returns-in-None g c =
       judged report,
       subst (λ (r : Reading). IsListedTwice r c.args.asked old.options.most limits c.args.name.now had (g.S.Source.text c.args.source.now)
           (failed_reads c.args.source.now) (failed_reads after) (judged report)) c.reading-reading.ensures
-          (name, (left, found), with_sites),
+          (ap is_no_text finding ∙ refused-unnoted _ (rw (c.in-None.is) at c.in_ok-notes-in-Ok.ensures.some), (name, (left, found), with_sites)),
       TellsFile-after g.W.Write.contents _ old _ c.tell_refused.new.self
           (record { same = record { options = refl; style = refl; outcome = refl; summary = refl; tally = refl }; out = refl; log = refl; line = refl }) tells,
     )) c.tell_refused.ensures.told
@@ -69,4 +71,4 @@ returns-in-Err g c =
       (refl, c.in-Err.ensures.failed),
       TellsFile-after g.W.Write.contents _ c.args.self.now _ c.tell_unread.new.self
           (record { same = record { options = refl; style = refl; outcome = refl; summary = refl; tally = refl }; out = refl; log = refl; line = refl }) told.1,
-    )) c.tell_unread.ensures.told
+    )) c.tell_unread.ensures

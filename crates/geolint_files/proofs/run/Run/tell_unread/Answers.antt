@@ -1,12 +1,11 @@
 use Rattle.geolint_files.proofs.Common.{refl, ap, sym, ◌∙◌, subst, ◌++◌, ◌∷◌, [], List, ℕ, None, Vec, Global, Appends, Log, Summary, Counts}
 use Rattle.std.proofs.KnownBytes.{Appends-kept}
-use Rattle.std.proofs.lemmas.Result.{on_ok_weaker}
 use Rattle.report_forms.specs.Forms.{KeepsUnread}
-use Rattle.geolint_files.proofs.Runs.ToldFiles.{on_ok, kept-Appends, TellsFile-of, TellsFiles-one}
+use Rattle.geolint_files.proofs.Runs.ToldFiles.{on_ok, kept-Appends, TellsFile-of}
 use Rattle.geolint_files.proofs.run.Run.tell_unread.Goals as goal
 
-pub returns-clause-told : goal.returns-clause-told
-returns-clause-told g c =
+pub returns : goal.returns
+returns g c =
     let old = c.args.self.now in
     let new = c.show.new.self in
     let contents = g.W.Write.contents in
@@ -41,7 +40,3 @@ returns-clause-told g c =
         };
       }),
     )
-
-pub returns-clause-some : goal.returns-clause-some
-returns-clause-some g c =
-    on_ok_weaker c.show.result (λ told. TellsFiles-one g.W.Write.contents _ c.args.self.now c.show.new.self told.1) (returns-clause-told g c)

@@ -16,11 +16,11 @@ returns c =
     let rest4 : List ℕ = part5 ++ rest5 in
     let part4 : List ℕ = replicate c.args.columns 32 in
     let rest3 : List ℕ = part4 ++ rest4 in
-    let part3 : List ℕ = codes "\n    " in
+    let part3 : List ℕ = codes "\n  | " in
     let rest2 : List ℕ = part3 ++ rest3 in
     let part2 : List ℕ = c.args.text.now in
     let rest1 : List ℕ = part2 ++ rest2 in
-    let part1 : List ℕ = codes "    " in
+    let part1 : List ℕ = codes "  | " in
     after c.put-5.result c.args.line.now.items c.put.new.line.items c.put-5.new.line.items part1 rest1 c.in_ok-put.ensures
     (after c.put-5.result c.put.new.line.items c.put-2.new.line.items c.put-5.new.line.items part2 rest2 c.in_ok-put-2.ensures
     (after c.put-5.result c.put-2.new.line.items c.put-3.new.line.items c.put-5.new.line.items part3 rest3 c.in_ok-put-3.ensures

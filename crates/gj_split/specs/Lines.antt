@@ -1,4 +1,4 @@
--- The line of JSON about a feature or a record of the second file.
+-- The line of JSON about a feature or a record of the second part.
 use Rattle.std.specs.Prelude.{ℕ, List, [], ◌++◌, Option, Some, None, codes}
 use Rattle.std.specs.Fmt.{decimal}
 use Rattle.gj_coords.specs.declared.fault.Fault.{Fault}

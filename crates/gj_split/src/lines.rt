@@ -1,54 +1,43 @@
-//! The faults of what is in the second file: a line of JSON for each feature or record.
+//! The faults of what is in the second part: a line of JSON for each feature or record.
 ghost use Rattle.std.specs.Prelude.{◌≡◌, OnOk};
 ghost use Rattle.std.specs.Io.KnownBytes.{Appends};
-ghost use Rattle.split_files.specs.Lines.{fault_text, refusal_text, cause_number, feature_head, feature_line, record_head, record_line};
+ghost use Rattle.gj_split.specs.Lines.{fault_text, refusal_text, cause_number, feature_head, feature_line, record_head, record_line};
 
 use gj_coords::Fault;
 use gj_json::{Cause, JsonFault};
 use gj_rules::{Feature, Record, Verdict};
-use gj_split::BrokenList;
 use std::io::{self, Write};
 
-/// Writes `{"index":1,"offset":42,"rule":"G6","text":"geometry missing","at":42}` for each feature: the number of
-/// features before it, the byte offset of its first byte in the file, the rule that it breaks, and the byte offset of
-/// the fault. A record has `record`, its number, in place of `index`; where it is not JSON, the cause is the rule.
-#[derive(Drop)]
-pub struct FindingList<W> {
-    /// What the lines are written to.
-    pub out: W,
+/// Writes `{"index":1,"offset":42,"rule":"G6","text":"geometry missing","at":42}` for a feature with a fault: the number of
+/// features before it, the byte offset of its first byte in the text, the rule that it breaks, and the byte offset of the
+/// fault.
+pub fn put_feature<W: Write>(feature: &Feature, out: &mut W) -> io::Result<()>
+    ensures { OnOk result (Appends (W.contents out.old) (W.contents out.new) (feature_line feature.now)) }
+{
+    match feature.fault {
+        Some(fault) => {
+            put_feature_head(feature, out)?;
+            put_fault(fault, out)
+        }
+        None => Ok(()),
+    }
 }
 
-impl<W: Write> BrokenList for FindingList<W> {
-    fn add(&mut self, feature: &Feature) -> io::Result<()>
-        ensures { OnOk result (Appends (W.contents self.old.out) (W.contents self.new.out) (feature_line feature.now)) }
-    {
-        match feature.fault {
-            Some(fault) => {
-                put_feature_head(feature, &mut self.out)?;
-                put_fault(fault, &mut self.out)
-            }
-            None => Ok(()),
+/// Writes the line of a record that is not valid: `record`, its number, stands in place of `index`, and where it is not JSON
+/// the cause in place of the rule.
+pub fn put_record<W: Write>(found: &Record, out: &mut W) -> io::Result<()>
+    ensures { OnOk result (Appends (W.contents out.old) (W.contents out.new) (record_line found.now)) }
+{
+    match found.verdict {
+        Verdict::Valid(_) => Ok(()),
+        Verdict::Broken(fault) => {
+            put_record_head(found, out)?;
+            put_fault(fault, out)
         }
-    }
-
-    fn add_record(&mut self, found: &Record) -> io::Result<()>
-        ensures { OnOk result (Appends (W.contents self.old.out) (W.contents self.new.out) (record_line found.now)) }
-    {
-        match found.verdict {
-            Verdict::Valid(_) => Ok(()),
-            Verdict::Broken(fault) => {
-                put_record_head(found, &mut self.out)?;
-                put_fault(fault, &mut self.out)
-            }
-            Verdict::NotJson(fault) => {
-                put_record_head(found, &mut self.out)?;
-                put_refusal(fault, &mut self.out)
-            }
+        Verdict::NotJson(fault) => {
+            put_record_head(found, out)?;
+            put_refusal(fault, out)
         }
-    }
-
-    fn flush(&mut self) -> io::Result<()> {
-        self.out.flush()
     }
 }
 

@@ -1,12 +1,12 @@
 use Rattle.std.proofs.Common.{arith, ap, sym, ◌∙◌, ◌≡◌, ◌++◌, ℕ, List, length, append_assoc, append-nil}
 use Rattle.std.specs.List.{flat_map}
 use Rattle.std.specs.Str.Chunks.{utf8_chunks_rest}
-use Rattle.report_forms.specs.Names.{by_number, shown_text, shown_name, shown_within}
+use Rattle.report_forms.specs.Names.{by_number, shown_text, shown_bytes, shown_within}
 use Rattle.report_forms.proofs.ShownNames.{shown_chunk, shown_nothing}
-use Rattle.report_forms.proofs.formats.put_name.Goals as goal
+use Rattle.report_forms.proofs.formats.put_bytes.Goals as goal
 
 pub loop-chunk-init : goal.loop-chunk-init
-unfolding shown_name
+unfolding shown_bytes
 loop-chunk-init c =
     let name = c.args.name.now in
     let all : utf8_chunks_rest c.into_iter-chunk-iterator.result ≡ name =
@@ -32,7 +32,7 @@ loop-chunk-preserved c =
     record {
       most = more.0;
       enough = more.1;
-      done = joined _ _ _ _ _ _ _ c.args.line.now.items (shown_name c.args.name.now)
+      done = joined _ _ _ _ _ _ _ c.args.line.now.items (shown_bytes c.args.name.now)
           (c.in_ok-put_text.ensures ∙ ap (λ (text : List ℕ). c.loop-chunk.line.items ++ shown_text text) c.valid.ensures)
           (c.in_ok-put_numbers.ensures ∙ ap (λ (bytes : List ℕ). c.put_text.new.line.items ++ flat_map by_number bytes) c.invalid.ensures)
           more.2 c.loop-chunk.invariant.done;
