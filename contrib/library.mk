@@ -27,7 +27,7 @@ library: $(LIBRARY_BUILD)/libgeolint.a $(LIBRARY_BUILD)/libgeolint.so
 # Proves the crate and those below it, where they are not proved yet.
 sources := $(shell find $(GEOLINT_C)/src $(wildcard $(GEOLINT_ROOT)/crates/gj_*/src) -name '*.rt')
 $(GEOLINT_C)/out/libgeolint_c.a: $(sources)
-	@$(GEOLINT_ROOT)/contrib/library/build
+	@$(GEOLINT_ROOT)/contrib/build geolint_c
 	@touch $@
 
 $(LIBRARY_BUILD)/libgeolint.a: $(GEOLINT_C)/out/libgeolint_c.a
@@ -41,7 +41,8 @@ rust := Cargo.toml build.rs src/lib.rs src/findings.rs src/hints.rs src/places.r
 python := __init__.py __main__.py _build.py _demands.py _findings.py _hints.py _linter.py _native.py _places.py _sources.py _verdict.py dask.py django.py starlette.py py.typed \
 	_command/__init__.py _command/files.py _command/forms.py _command/run.py
 cmake := geolint-config.cmake geolint-config-version.cmake
-filled = sed -e 's|@PREFIX@|$(PREFIX)|; s|@LIBDIR@|$(LIBDIR)|; s|@INCLUDEDIR@|$(INCLUDEDIR)|; s|@VERSION@|$(VERSION)|'
+# $(call fill,TEMPLATE,FILE): both without what stands before them here.
+fill = $(GEOLINT_ROOT)/contrib/library/fill $(GEOLINT_ROOT)/contrib/library/$(1) "$(DESTDIR)$(2)" '$(PREFIX)' '$(LIBDIR)' '$(INCLUDEDIR)' $(VERSION)
 imports = (cd / && $(1) -B -c 'import geolint') 2>/dev/null
 install-library: library
 	$(INSTALL) -d "$(DESTDIR)$(LIBDIR)/pkgconfig" "$(DESTDIR)$(INCLUDEDIR)" "$(DESTDIR)$(PYTHONDIR)"
@@ -55,10 +56,10 @@ install-library: library
 	$(INSTALL) -d "$(DESTDIR)$(PYTHONDIR)/geolint/_command"
 	cd $(GEOLINT_ROOT)/contrib/library/python/geolint && \
 		for file in $(python); do $(INSTALL) -m 644 $$file "$(DESTDIR)$(PYTHONDIR)/geolint/$$file" || exit; done
-	sed -e 's|^_INSTALLED = ""|_INSTALLED = "$(LIBDIR)/libgeolint.so.0"|' $(GEOLINT_ROOT)/contrib/library/python/geolint/_native.py > "$(DESTDIR)$(PYTHONDIR)/geolint/_native.py"
-	$(filled) $(GEOLINT_ROOT)/contrib/library/geolint.pc.in > "$(DESTDIR)$(LIBDIR)/pkgconfig/geolint.pc"
+	$(call fill,python/geolint/_native.py,$(PYTHONDIR)/geolint/_native.py)
+	$(call fill,geolint.pc.in,$(LIBDIR)/pkgconfig/geolint.pc)
 	$(INSTALL) -d "$(DESTDIR)$(LIBDIR)/cmake/geolint"
-	for file in $(cmake); do $(filled) $(GEOLINT_ROOT)/contrib/library/cmake/$$file.in > "$(DESTDIR)$(LIBDIR)/cmake/geolint/$$file" || exit; done
+	for file in $(cmake); do $(call fill,cmake/$$file.in,$(LIBDIR)/cmake/geolint/$$file) || exit; done
 	@echo "geolint: the library is in $(DESTDIR)$(LIBDIR), the Python package in $(DESTDIR)$(PYTHONDIR), the Rust crate in $(DESTDIR)$(RUSTDIR)"
 	@[ "$(DESTDIR)" ] || $(call imports,$(or $(PYTHON),"$(PREFIX)/bin/python3")) || $(call imports,python3) || \
 		echo "geolint: python3 does not look for modules there: PYTHONPATH=$(PYTHONDIR) names the folder, or PYTHON=python3 takes one of its own"

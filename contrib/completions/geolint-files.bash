@@ -22,7 +22,7 @@ _geolint_files() {
         ;;
     esac
     case $word in
-    -*) mapfile -t COMPREPLY < <(compgen -W '--strict --allow --quick --seq --ndjson --max-bytes --format --summary --every --every=warnings --most --split --force --part --join --files-from --null --ending --allow-empty --explain --help --version' -- "$word") ;;
+    -*) mapfile -t COMPREPLY < <(compgen -W '--strict --allow --quick --seq --ndjson --max-bytes --format --summary --every --every=warnings --most --split --force --part --join --file --files-from --null --ending --allow-empty --explain --help --version' -- "$word") ;;
     *)
         compopt -o filenames 2>/dev/null
         mapfile -t COMPREPLY < <(compgen -f -- "$word")

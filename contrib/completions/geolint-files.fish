@@ -14,6 +14,7 @@ complete -c geolint-files -l split -r -d 'Also write the features or the records
 complete -c geolint-files -l force -d 'Overwrite the files of --split if they exist'
 complete -c geolint-files -l part -x -d 'Check one part of a file of records, as 3/8, and write a line for --join'
 complete -c geolint-files -l join -d 'Report on a file from the lines of all its parts'
+complete -c geolint-files -l file -r -d 'With --join, find lines and columns in this file'
 complete -c geolint-files -l files-from -r -d 'Also check the paths in this file'
 complete -c geolint-files -l null -s 0 -d 'Each path of --files-from ends with NUL'
 complete -c geolint-files -l ending -x -d 'In folders, also check files with this ending'

@@ -19,7 +19,13 @@ export function calledOf(value) {
 /** The id as it is written, in its first characters; `bytes` begin with it. */
 export function writtenId(bytes) {
   const text = new TextDecoder("utf-8", { ignoreBOM: true }).decode(bytes);
-  const [id] = text.match(/^"(?:\\.|[^"\\])*"?|^[^ \t\n\r,}\]]*/s);
+  let id = "";
+  let levels = 0;
+  for (const [part] of text.matchAll(/"(?:\\.|[^"\\])*"?|./gs)) {
+    if (levels === 0 && /^[ \t\n\r,}\]]$/.test(part)) break;
+    levels += /^[[{]$/.test(part) - /^[\]}]$/.test(part);
+    id += part;
+  }
   return [...id].slice(0, ID_LONGEST).join("");
 }
 

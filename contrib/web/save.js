@@ -39,9 +39,10 @@ function printablePage(entries, counts) {
   });
   const title = `geolint: ${say("results")}, ${new Date().toLocaleString(language())}`;
   const main = make("main", "", make("h1", "", title), make("p", "counts", counts), ...cards);
-  const style = document.querySelector("style").textContent;
-  const head = make("head", "", make("title", "", title), make("style", "", style));
-  return `<!doctype html>\n<html lang="${language()}"><meta charset="utf-8">${head.innerHTML}<body>${main.outerHTML}</body></html>\n`;
+  // The policy of this page, which knows its style, holds for that one too.
+  const own = [...document.querySelectorAll("meta:not([name]), style")].map((it) => it.cloneNode(true));
+  const head = make("head", "", ...own, make("title", "", title));
+  return `<!doctype html>\n<html lang="${language()}">${head.innerHTML}<body>${main.outerHTML}</body></html>\n`;
 }
 
 /** The valid features of a file, under its name with the ending of text sequences. */

@@ -47,7 +47,7 @@ function excerptOf(excerpt) {
   if (!excerpt) return "";
   const { before, after, isCutBefore, isCutAfter } = excerpt;
   const left = (isCutBefore ? "..." : "") + before;
-  return `    ${left}${after}${isCutAfter ? "..." : ""}\n    ${" ".repeat(widthOf(left))}^\n`;
+  return `  | ${left}${after}${isCutAfter ? "..." : ""}\n  | ${" ".repeat(widthOf(left))}^\n`;
 }
 
 export function linesOfFindings(name, items, more = 0) {

@@ -2,7 +2,7 @@
 
 import { say, size, time, number, whatOf, mendOf } from "./language.js";
 import { pictureOf, drawingOf } from "./draw.js";
-import { make } from "./dom.js";
+import { button, make } from "./dom.js";
 import { listingOf, tableOfAll } from "./listing.js";
 import { calledOf } from "./names.js";
 
@@ -67,8 +67,6 @@ function tableOf(entry) {
   head.forEach((it) => (it.scope = "col"));
   if (findings.every((it) => insideOf(it) === "")) head[3] = make("td");
   const table = make("table", "findings", make("thead", "", make("tr", "", ...head)), body);
-  const more = make("button");
-  more.type = "button";
   const draw = () => {
     const from = body.querySelectorAll(".finding").length;
     // Where one thing alone is reported, its details are open.
@@ -77,7 +75,7 @@ function tableOf(entry) {
     more.hidden = left <= 0;
     more.textContent = say("more", { count: Math.min(left, STEP) });
   };
-  more.onclick = draw;
+  const more = button("", draw);
   draw();
   const below = [];
   if (verdict.verdict === "broken" && !items?.length) below.push(make("p", "note", say("firstOnly")));
@@ -86,8 +84,7 @@ function tableOf(entry) {
 
 /** The row of a finding, and that of its details, which the button in the first opens. */
 function tableRowsOf(entry, finding, isOpen) {
-  const toggle = make("button", "toggle", finding.rule);
-  toggle.type = "button";
+  const toggle = button(finding.rule, () => open(second.hidden), "toggle");
   toggle.setAttribute("aria-label", `${finding.rule}: ${say("details")}`);
   const cells = [toggle, whatOf(finding.rule), whereOf(finding), insideOf(finding)].map((it) => make("td", "", it));
   const detail = make("td", "detail");
@@ -98,7 +95,6 @@ function tableRowsOf(entry, finding, isOpen) {
     second.hidden = !isNow;
     toggle.setAttribute("aria-expanded", isNow);
   };
-  toggle.onclick = () => open(second.hidden);
   open(isOpen);
   return [make("tr", "finding", ...cells), second];
 }

@@ -1,4 +1,4 @@
-/* The calls of Native.java, over geolint.h. A linter is the address of its memory, which Linter.java keeps: it passes no other, none
+/* The calls of Native.java, over geolint.h. A linter is the address of its memory, which Handle.java keeps: no other is passed, none
  * after it is freed, and one call at a time for each. */
 #include <geolint.h>
 #include <jni.h>
@@ -17,9 +17,9 @@ static geolint_linter *linter_at(jlong address) {
     return (geolint_linter *)(intptr_t)address;
 }
 
-JNIEXPORT jlong JNICALL Java_geolint_Native_allocate(JNIEnv *env, jclass native) {
+JNIEXPORT jlong JNICALL Java_geolint_Native_allocate(JNIEnv *env, jclass native, jint max_depth, jlong max_bytes) {
     (void)env, (void)native;
-    return (jlong)(intptr_t)geolint_new(0, 0);
+    return (jlong)(intptr_t)geolint_new((uint32_t)max_depth, (uint64_t)max_bytes);
 }
 
 JNIEXPORT void JNICALL Java_geolint_Native_free(JNIEnv *env, jclass native, jlong linter) {

@@ -3,14 +3,13 @@ package geolint;
 import java.io.IOException;
 import java.io.InputStream;
 import java.io.UncheckedIOException;
-import java.lang.ref.Cleaner;
 import java.util.Iterator;
 import java.util.NoSuchElementException;
 import java.util.Objects;
 import java.util.OptionalLong;
 
 /**
- * The features of a text, one at a time, as they are read: a text of any size takes some 300 KB, four fifths of them outside the heap, until this is closed.
+ * The features of a text, one at a time, as they are read: a text of any size takes some 300 KB, four fifths of them outside the heap, until this is closed; the stream stays open.
  *
  * <pre>{@code
  * try (Features features = Geolint.features(Files.newInputStream(path))) {
@@ -25,57 +24,50 @@ import java.util.OptionalLong;
  * <p>Of a text that is not JSON, the features before the refused byte are reported, and {@link #verdict} says the rest. Any thread may call it;
  * calls on one wait for each other.
  */
-public final class Features implements Iterator<Feature>, AutoCloseable {
-    private static final Cleaner CLEANER = Cleaner.create();
+public final class Features extends Handle implements Iterator<Feature> {
     private static final int PIECE = 65536;
 
-    /** Frees the memory of the features, once, also of those that nobody closed. */
-    private record Memory(long address) implements Runnable {
-        @Override
-        public void run() {
-            Native.freeFeatures(address);
-        }
-    }
-
     private final InputStream text;
-    private final long memory;
-    private final Cleaner.Cleanable cleanable;
     private final byte[] piece = new byte[PIECE];
     private final long[] finding = new long[Native.FINDING];
     private int from;
     private int to;
     private boolean isOpen = true;
-    private boolean isClosed;
+    private boolean isReading;
     private Feature next;
     private Verdict verdict;
 
     Features(InputStream text, Limits limits) {
+        super(limits, Native::newFeatures, Native::freeFeatures);
         this.text = Objects.requireNonNull(text, "text");
-        Objects.requireNonNull(limits, "limits");
-        memory = Native.newFeatures(limits.maxDepth(), limits.maxBytes());
-        if (memory == 0)
-            throw new OutOfMemoryError("geolint: no memory for features");
-        cleanable = CLEANER.register(this, new Memory(memory));
     }
 
-    private void wantsOpen() {
-        if (isClosed)
-            throw new IllegalStateException("the features are closed");
-    }
-
-    /** Hands over what is left of the piece, or reads another. */
-    private void fill() throws IOException {
-        if (from == to) {
+    /** Reads another piece. The stream is the host's, and may call this: it may close it, and nothing more. */
+    private void read() throws IOException {
+        isReading = true;
+        try {
+            int length = text.read(piece);
+            isOpen = length >= 0;
             from = 0;
-            to = Math.max(0, text.read(piece));
-            isOpen = to > 0;
+            to = Math.max(0, length);
+        } finally {
+            isReading = false;
         }
-        from += Native.fill(memory, piece, from, to - from);
+    }
+
+    /** Hands over what is left of the piece, or of another. */
+    private void fill() throws IOException {
+        if (from == to)
+            read();
+        from += Native.fill(memory(), piece, from, to - from);
     }
 
     private void seek() throws IOException {
+        memory();
+        if (isReading)
+            throw new IllegalStateException("the Features is asked by the stream that it reads");
         while (next == null && isOpen) {
-            switch (Native.nextFeature(memory, finding)) {
+            switch (Native.nextFeature(memory(), finding)) {
                 case Native.FOUND -> next = feature();
                 case Native.REFUSED -> isOpen = false;
                 default -> fill();
@@ -99,11 +91,10 @@ public final class Features implements Iterator<Feature>, AutoCloseable {
      *
      * @return false at the end of the text, and where it is refused
      * @throws UncheckedIOException where the stream cannot be read
-     * @throws IllegalStateException after the close
+     * @throws IllegalStateException after the close, also by the stream as it is read, and where that calls this
      */
     @Override
     public synchronized boolean hasNext() {
-        wantsOpen();
         try {
             seek();
         } catch (IOException failure) {
@@ -118,7 +109,7 @@ public final class Features implements Iterator<Feature>, AutoCloseable {
      * @return what is found in it
      * @throws NoSuchElementException where there is none
      * @throws UncheckedIOException where the stream cannot be read
-     * @throws IllegalStateException after the close
+     * @throws IllegalStateException after the close, also by the stream as it is read, and where that calls this
      */
     @Override
     public synchronized Feature next() {
@@ -135,25 +126,18 @@ public final class Features implements Iterator<Feature>, AutoCloseable {
      *
      * @return the verdict of {@link Geolint#check(InputStream)}
      * @throws IOException where the stream cannot be read
-     * @throws IllegalStateException after the close, where it was not asked for before
+     * @throws IllegalStateException as {@link #hasNext}, where it was not asked for before
      */
     public synchronized Verdict verdict() throws IOException {
         if (verdict == null) {
-            wantsOpen();
-            next = null;
-            for (seek(); next != null; seek())
+            do {
                 next = null;
+                seek();
+            } while (next != null);
             long[] report = new long[Native.REPORT];
-            Native.finishFeatures(memory, report);
+            Native.finishFeatures(memory(), report);
             verdict = Native.verdict(report);
         }
         return verdict;
-    }
-
-    /** Gives the memory back; the stream stays open. A second call does nothing. */
-    @Override
-    public synchronized void close() {
-        isClosed = true;
-        cleanable.clean();
     }
 }

@@ -1,6 +1,5 @@
 package geolint;
 
-import java.lang.ref.Cleaner;
 import java.nio.ByteBuffer;
 import java.util.Objects;
 
@@ -20,28 +19,11 @@ import java.util.Objects;
  *
  * <p>Any thread may call it; calls on one linter wait for each other.
  */
-public final class Linter implements AutoCloseable {
-    private static final Cleaner CLEANER = Cleaner.create();
+public final class Linter extends Handle {
     /** How much of a buffer outside the heap is copied at a time. */
     private static final int PIECE = 65536;
 
-    /** Frees the memory of a linter, once, also of one that nobody closed. */
-    private record Memory(long address) implements Runnable {
-        @Override
-        public void run() {
-            Native.free(address);
-        }
-    }
-
-    private enum State {
-        BEGUN,
-        ENDED,
-        CLOSED
-    }
-
-    private final long memory;
-    private final Cleaner.Cleanable cleanable;
-    private State state;
+    private boolean hasEnded;
     private byte[] piece;
 
     /** Begins before the first byte of a text, under the widest limits. */
@@ -55,13 +37,7 @@ public final class Linter implements AutoCloseable {
      * @param limits how deep and how long it may be
      */
     public Linter(Limits limits) {
-        Objects.requireNonNull(limits, "limits");
-        memory = Native.allocate();
-        if (memory == 0)
-            throw new OutOfMemoryError("geolint: no memory for a linter");
-        cleanable = CLEANER.register(this, new Memory(memory));
-        state = State.ENDED;
-        begin(limits);
+        super(limits, Native::allocate, Native::free);
     }
 
     /**
@@ -72,15 +48,16 @@ public final class Linter implements AutoCloseable {
      */
     public synchronized void begin(Limits limits) {
         Objects.requireNonNull(limits, "limits");
-        if (state == State.CLOSED)
-            throw new IllegalStateException("the linter is closed");
-        Native.begin(memory, limits.maxDepth(), limits.maxBytes());
-        state = State.BEGUN;
+        Native.begin(memory(), limits.maxDepth(), limits.maxBytes());
+        hasEnded = false;
     }
 
-    private void wantsBegun() {
-        if (state != State.BEGUN)
-            throw new IllegalStateException(state == State.CLOSED ? "the linter is closed" : "the linter has ended: begin it again");
+    /** The memory of a linter that has not ended. */
+    private long begun() {
+        long memory = memory();
+        if (hasEnded)
+            throw new IllegalStateException("the Linter has ended: begin it again");
+        return memory;
     }
 
     /**
@@ -106,8 +83,7 @@ public final class Linter implements AutoCloseable {
      */
     public synchronized Progress feed(byte[] bytes, int offset, int length) {
         Objects.checkFromIndexSize(offset, length, bytes.length);
-        wantsBegun();
-        return Native.feed(memory, bytes, offset, length) == Native.REFUSED ? Progress.REFUSED : Progress.OPEN;
+        return Native.feed(begun(), bytes, offset, length) == Native.REFUSED ? Progress.REFUSED : Progress.OPEN;
     }
 
     /**
@@ -118,7 +94,7 @@ public final class Linter implements AutoCloseable {
      * @throws IllegalStateException after the end, and where the linter is closed
      */
     public synchronized Progress feed(ByteBuffer bytes) {
-        wantsBegun();
+        begun();
         Progress progress = Progress.OPEN;
         if (bytes.hasArray()) {
             progress = feed(bytes.array(), bytes.arrayOffset() + bytes.position(), bytes.remaining());
@@ -144,8 +120,7 @@ public final class Linter implements AutoCloseable {
      * @throws IllegalStateException after the end, and where the linter is closed
      */
     public synchronized boolean doomed() {
-        wantsBegun();
-        return Native.doomed(memory);
+        return Native.doomed(begun());
     }
 
     /**
@@ -155,8 +130,7 @@ public final class Linter implements AutoCloseable {
      * @throws IllegalStateException after the end, and where the linter is closed
      */
     public synchronized long offset() {
-        wantsBegun();
-        return Native.offset(memory);
+        return Native.offset(begun());
     }
 
     /**
@@ -166,17 +140,9 @@ public final class Linter implements AutoCloseable {
      * @throws IllegalStateException after the end, and where the linter is closed
      */
     public synchronized Verdict finish() {
-        wantsBegun();
         long[] report = new long[Native.REPORT];
-        Native.finish(memory, report);
-        state = State.ENDED;
+        Native.finish(begun(), report);
+        hasEnded = true;
         return Native.verdict(report);
-    }
-
-    /** Gives the memory back. A second call does nothing, and every other call is an {@link IllegalStateException}. */
-    @Override
-    public synchronized void close() {
-        state = State.CLOSED;
-        cleanable.clean();
     }
 }

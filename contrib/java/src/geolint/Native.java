@@ -4,12 +4,11 @@ import java.io.IOException;
 import java.io.InputStream;
 import java.nio.file.Files;
 import java.nio.file.Path;
-import java.nio.file.StandardCopyOption;
 import java.util.ArrayList;
 import java.util.List;
 import java.util.Locale;
 
-/** The calls of the library for C. A linter is the address of its memory; each call trusts it, so only {@link Linter} and {@link Features} make them. */
+/** The calls of the library for C. A linter is the address of its memory; each call trusts it, so it comes from {@link Handle#memory}. */
 final class Native {
     /** What a piece shows, and what a text is: the numbers of {@code geolint.h}. */
     static final int REFUSED = 1;
@@ -45,7 +44,7 @@ final class Native {
     private Native() {}
 
     /** The memory of a linter that has begun, or 0 where there is none. */
-    static native long allocate();
+    static native long allocate(int maxDepth, long maxBytes);
 
     static native void free(long linter);
 
@@ -128,11 +127,11 @@ final class Native {
         }
     }
 
-    /** A loader of classes has a copy of its own, which the system keeps when its name is gone. */
+    /** A loader of classes has a copy of its own, which the system keeps when its name is gone. None but its owner reads or writes it. */
     private static void loadCopy(InputStream library, String file) throws IOException {
         Path copy = Files.createTempFile("geolint", file);
         try {
-            Files.copy(library, copy, StandardCopyOption.REPLACE_EXISTING);
+            Files.write(copy, library.readAllBytes());
             System.load(copy.toString());
         } finally {
             Files.deleteIfExists(copy);

@@ -1,6 +1,6 @@
 """`python -m geolint`: checks files and folders, by the words of geolint-files.
 
-Not served are --explain (this package has no manual), --split, --force, --part, --join and --format sarif: geolint-files has them. What
+Not served are --explain (this package has no manual), --split, --force, --part, --join, --file and --format sarif: geolint-files has them. What
 was found at a place (`found`) is left out, and there is no line of progress.
 """
 
@@ -94,7 +94,7 @@ def _parser() -> argparse.ArgumentParser:
     add("--ending", metavar="ENDING", type=_ending, action="append", default=[], help="in a folder, also check files with this ending")
     add("--allow-empty", action=flag, help="do not fail if there is no file to check")
     add("--version", action="version", version=str(build()))
-    for word in ("--explain", "--split", "--force", "--part", "--join"):
+    for word in ("--explain", "--split", "--force", "--part", "--join", "--file"):
         add(word, nargs="?", action=_NotServed, help=argparse.SUPPRESS)
     add("path", metavar="PATH", nargs="*", help="what to check")
     return parser

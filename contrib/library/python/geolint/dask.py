@@ -53,7 +53,7 @@ def check(
         name = os.path.abspath(paths)
         calls = [[program, "--part", f"{number}/{count}", *words, "--", name] for number in range(1, count + 1)]
         lines = "".join(_outputs(_run(client, calls), [0]))
-        return _objects(_outputs(_run(client, [[program, "--join", *listing, "--format", "json"]], lines), [0, 1]))
+        return _objects(_outputs(_run(client, [[program, "--join", "--file", name, *listing, "--format", "json"]], lines), [0, 1]))
     names = [os.path.abspath(path) for path in paths]
     most = -(-len(names) // count) or 1
     words = [program, "--format", "json", "--allow-empty", *words, "--"]

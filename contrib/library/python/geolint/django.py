@@ -65,9 +65,9 @@ class GeoJSONValidator(Demands):
 class GeoJSONUploadHandler(FileUploadHandler):  # type: ignore[misc]
     """Checks each file of a form while it comes, and hands its bytes on to the handlers after it, which store them.
 
-    The verdicts are in `request.geolint`, by the name of the field, once the form has been read. A file that is refused while it comes
-    (a byte that no JSON text has there, or more than `max_bytes`) is stored no further, and is not in `request.FILES`. One that is cut
-    off or breaks a rule is there.
+    The verdicts are in `request.geolint`, by the name of the field, once the form has been read: of several files of one field that of
+    the first that is not valid, else of the first with warnings. A file that is refused while it comes (a byte that no JSON text has
+    there, or more than `max_bytes`) is stored no further, and is not in `request.FILES`. One that is cut off or breaks a rule is there.
     """
 
     max_depth: Optional[int] = None
@@ -87,13 +87,14 @@ class GeoJSONUploadHandler(FileUploadHandler):  # type: ignore[misc]
 
     def receive_data_chunk(self, raw_data: bytes, start: int) -> bytes:
         if not self.linter.feed(raw_data):
-            self.verdicts[self.field_name] = self.linter.finish()
+            self.file_complete(start)
             raise SkipFile
         return raw_data
 
     def file_complete(self, file_size: int) -> None:
-        self.verdicts[self.field_name] = self.linter.finish()
-        return None
+        verdict = self.linter.finish()
+        before = self.verdicts.get(self.field_name, verdict)
+        self.verdicts[self.field_name] = min(before, verdict, key=lambda it: (it.valid, not it.warnings))
 
 
 __all__ = ["GeoJSONValidator", "GeoJSONUploadHandler"]

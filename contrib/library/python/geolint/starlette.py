@@ -17,7 +17,7 @@ is wrong and where; without it, it is one line.
 import tempfile
 from contextlib import asynccontextmanager
 from dataclasses import dataclass
-from typing import IO, Any, AsyncIterator, Dict
+from typing import IO, Any, AsyncIterator, Dict, Iterable, Optional
 
 from starlette.exceptions import HTTPException
 from starlette.requests import Request
@@ -48,10 +48,20 @@ class NotGeoJSON(HTTPException):
 
 
 class GeoJSONBody(Demands):
-    """A dependency that checks the body of a request while it comes, and stores it meanwhile.
+    """A dependency that checks the body of a request while it comes, and stores it meanwhile: at most `max_bytes` of it, which are
+    100 MB unless it is given, and without a limit if it is None.
 
     With `strict`, a text with warnings does not pass, but for the kinds in `allow`, such as (4, 9).
     """
+
+    def __init__(
+        self,
+        strict: bool = False,
+        allow: Iterable[int] = (),
+        max_depth: Optional[int] = None,
+        max_bytes: Optional[int] = 100_000_000,
+    ) -> None:
+        super().__init__(strict, allow, max_depth, max_bytes)
 
     async def __call__(self, request: Request) -> AsyncIterator[GeoJSON]:
         async with self.of(request) as body:

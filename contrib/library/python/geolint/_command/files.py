@@ -3,6 +3,7 @@
 from __future__ import annotations
 
 import os
+import re
 from dataclasses import dataclass, field, replace
 from typing import Any, Iterator, Optional
 
@@ -19,6 +20,8 @@ MOST_HELD = 65536
 KEPT = 65536
 # How many bytes of a line are shown before its place and from it on, and how many characters of an `id`.
 EXCERPT, ID = 256, 40
+# A string or one byte of a value as it is written; what comes after a value.
+_PARTS, _AFTER_VALUE = re.compile(rb'"(?:\\.|[^"\\])*"?|.', re.DOTALL), b" \t\n\r,}]"
 
 
 @dataclass(frozen=True)
@@ -259,15 +262,12 @@ def _id(file: Any, note: Note) -> bytes:
     if note.id_place is None:
         return b""
     held = _slice(file, note.id_place, 0, 4 * ID)[1]
-    end = 0
-    if held.startswith(b'"'):
-        end = 1
-        while end < len(held) and held[end : end + 1] != b'"':
-            end += 2 if held[end : end + 1] == b"\\" else 1
-        end += 1
-    else:
-        while end < len(held) and held[end] not in b" \t\n\r,}]":
-            end += 1
+    end = levels = 0
+    for part in _PARTS.finditer(held):
+        if levels == 0 and part[0] in _AFTER_VALUE:
+            break
+        levels += (part[0] in b"[{") - (part[0] in b"]}")
+        end = part.end()
     return held[:end].decode("utf-8", "surrogateescape")[:ID].encode("utf-8", "surrogateescape")
 
 

@@ -35,12 +35,12 @@ def told(found: Found) -> Iterator[Told]:
 
 
 def shown(name: bytes) -> str:
-    """A name without what a terminal would obey, and with numbers for what is no text."""
+    """A name without what a terminal or a runner of jobs would obey, and with numbers for what is no text."""
     text = []
     for c in name.decode("utf-8", "surrogateescape"):
         if "\udc80" <= c <= "\udcff":
             text.append(f"\\x{ord(c) - 0xDC00:02x}")
-        elif unicodedata.category(c) == "Cc":
+        elif _is_harmful(c) or (not text and c in " #:"):
             text.extend(f"\\x{byte:02x}" for byte in c.encode())
         else:
             text.append(c)
@@ -51,12 +51,14 @@ def _painted(part: str, text: str, colour: bool) -> str:
     return f"{_COLOURS[part]}{text}\x1b[0m" if colour else text
 
 
-def _harmless(c: str) -> str:
-    """What is shown for a character: nothing that moves a terminal's cursor or turns the direction of writing."""
-    if c == "\t":
-        return " "
+def _is_harmful(c: str) -> bool:
+    """Whether a character moves a terminal's cursor, turns the direction of writing, begins a line or has no width."""
     moves = unicodedata.category(c) == "Cc" or c in "\u061c\ufeff" or "\u200b" <= c <= "\u200f"
-    return "\ufffd" if moves or "\u2028" <= c <= "\u202e" or "\u2060" <= c <= "\u2069" else c
+    return moves or "\u2028" <= c <= "\u202e" or "\u2060" <= c <= "\u2069"
+
+
+def _harmless(c: str) -> str:
+    return " " if c == "\t" else "\ufffd" if _is_harmful(c) else c
 
 
 def _columns(text: str) -> int:
@@ -75,7 +77,7 @@ def _excerpt(found: Found, colour: bool) -> str:
     rest = "".join(map(_harmless, after.decode("utf-8", "replace")))
     start = f"...{start[-_SHOWN:]}" if len(start) > _SHOWN else start
     rest = f"{rest[:_SHOWN]}..." if len(rest) > _SHOWN else rest
-    return f"    {start}{rest}\n    {' ' * _columns(start)}{_painted('caret', '^', colour)}\n"
+    return f"  | {start}{rest}\n  | {' ' * _columns(start)}{_painted('caret', '^', colour)}\n"
 
 
 def _where(name: bytes, spot: Optional[Place], colour: bool) -> str:
