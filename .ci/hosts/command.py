@@ -146,10 +146,10 @@ def alone():
         file.write(os.fsencode(os.path.join(room, "a/many.geojson\n")) * 5000)
     out = subprocess.run(["bash", "-c", shell % (sys.executable, f"--files-from '{room}/many names'")], stdout=subprocess.PIPE, stderr=subprocess.STDOUT, check=False)
     wants("nobody reads the report of a list", out.stdout, b"141\n")
-    with open(os.path.join(room, "--odd"), "wb") as file:
+    with open(os.path.join(room, "--ending=.geojson"), "wb") as file:
         file.write(b"[]")
-    odd = subprocess.run([*PYTHON, "--quick", "a/RING.GeoJSON", "--", "--odd"], cwd=room, stdout=subprocess.PIPE, check=False)
-    wants("paths after --", (odd.returncode, odd.stdout), (1, b"a/RING.GeoJSON: not valid\n--odd: not valid\n"))
+    odd = subprocess.run([*PYTHON, "--quick", "a/RING.GeoJSON", "--", "--ending=.geojson"], cwd=room, stdout=subprocess.PIPE, check=False)
+    wants("paths after --", (odd.returncode, odd.stdout), (1, b"a/RING.GeoJSON: not valid\n--ending=.geojson: not valid\n"))
     full = subprocess.run(f"{sys.executable} -m geolint {room}/a >/dev/full", shell=True, stderr=subprocess.PIPE, check=False)
     wants("the report cannot be written", (full.returncode, full.stderr.count(b"\n")), (2, 1))
 

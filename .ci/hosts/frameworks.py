@@ -2,7 +2,7 @@
 
     frameworks.py FILE..
 
-It is run by the Python that has Debian's packages python3-django, python3-fastapi, python3-multipart and uvicorn."""
+It is run by the Python that has Debian's packages python3-django, python3-fastapi and uvicorn."""
 
 import json
 import pathlib
@@ -114,6 +114,11 @@ def by_django(paths):
         status, said = curl(url + "handled", "-F", f"a=@{name}", "-F", "b=@-;filename=b", given=POINT)
         files = {"b": POINT.decode(), **({} if is_refused else {"a": text.decode("utf-8", "replace")})}
         wants(f"Django's handler on {name}", json.loads(said), {"verdicts": {"a": str(found.verdict), "b": "valid"}, "files": files})
+    broken, warned = ('{"type":"Point","coordinates":[%s]}' % it for it in ("1", "500,2"))
+    words = [["-F", f"a={text};filename=a"] for text in (POINT.decode(), warned, broken)]
+    for wanted, order in ("broken G12 at 30", (0, 2, 1)), ("broken G12 at 30", (2, 0)), ("valid\nwarning W5", (1, 0)), ("valid", (0, 0)):
+        said = curl(url + "handled", *[word for at in order for word in words[at]])[1]
+        wants(f"Django's handler on {order} in one field", json.loads(said)["verdicts"]["a"][: len(wanted)], wanted)
     full = POINT + b" " * (MOST - len(POINT))
     wants("Django's handler at its limit", json.loads(curl(url + "handled", "-F", "a=@-;filename=a", given=full)[1])["verdicts"], {"a": "valid"})
     status, said = curl(url + "handled", "-F", "a=@-;filename=a", given=full + b" " * 200_000)
@@ -156,7 +161,8 @@ async def added(body: GeoJSON = Depends(GeoJSONBody(strict=True, allow=(4, 5, 9)
 
 
 async def block(request):
-    async with GeoJSONBody(max_bytes=MOST).of(request) as body:
+    demands = GeoJSONBody() if "default" in request.query_params else GeoJSONBody(max_bytes=MOST)
+    async with demands.of(request) as body:
         return JSONResponse({"size": len(body.file.read()), "verdict": str(body.verdict)})
 
 
@@ -194,6 +200,9 @@ def by_asgi(paths):
     full = POINT + b" " * (MOST - len(POINT))
     wants("FastAPI at its limit", curl(url + "api/", "--data-binary", "@-", given=full)[0], 200)
     wants("FastAPI beyond its limit", curl(url + "api/", "--data-binary", "@-", given=full + b" ")[0], 413)
+    full = POINT.ljust(100_000_000)
+    wants("Starlette at the limit that is not given", curl(url + "starlette/?default", "--data-binary", "@-", given=full)[0], 200)
+    wants("Starlette beyond it", curl(url + "starlette/?default", "--data-binary", "@-", given=full + b" ")[0], 413)
     server.should_exit = True
     thread.join(10)
 

@@ -193,6 +193,9 @@ static void features_pulled(void) {
     wants(geolint_features_finish(features).cause == GEOLINT_SYNTAX, "its verdict");
     wants(geolint_features_begin(features, 257, 0) == GEOLINT_LIMITS, "features beyond the limits");
     wants(geolint_features_feed(features, "x", 1).status == GEOLINT_ENDED, "feed features after it");
+    wants(geolint_features_begin_again(features, 0, 0) == GEOLINT_DONE && geolint_features_feed(features, BOTH, BOTH_SIZE).ready == 1, "a feature that waits");
+    wants(geolint_features_begin_again(features, 257, 0) == GEOLINT_LIMITS, "begin features again beyond the limits");
+    wants(geolint_features_next(features).report.status == GEOLINT_NONE, "it is forgotten");
     free(features);
 }
 
@@ -202,6 +205,7 @@ static void records_pulled(void) {
     geolint_progress progress;
     geolint_finding finding;
     geolint_whole whole;
+    int i;
     if (!records) {
         wants(0, "memory");
         return;
@@ -235,6 +239,12 @@ static void records_pulled(void) {
     progress = geolint_records_feed(records, "\x1e[1]\n", 5);
     wants(progress.status == GEOLINT_REFUSED && progress.ready == 1, "beyond the limit");
     wants(geolint_records_next(records).report.cause == GEOLINT_LENGTH, "too long");
+    for (i = 0; i < 3; i++) {
+        wants(geolint_records_begin(records, GEOLINT_NEWLINES, 0, 0) == GEOLINT_DONE && geolint_records_feed(records, lines, 4).ready == 1, "a record that waits");
+        wants(geolint_records_begin_again(records, i == 1 ? 2 : GEOLINT_NEWLINES, i == 2 ? 257 : 0, 0) == (i ? GEOLINT_LIMITS : GEOLINT_DONE), "begin records again");
+        wants(geolint_records_next(records).report.status == GEOLINT_NONE, "it is forgotten");
+        wants(geolint_records_feed(records, lines, 4).status == (i ? GEOLINT_ENDED : GEOLINT_DONE), "another input, where it may begin");
+    }
     free(records);
 }
 

@@ -5,7 +5,7 @@
                                   N uploads at once. Each has ten times --features features of --feature-bytes each, which are all broken
                                   under --broken. For ten minutes at most
 
-It is run by the Python that has Debian's packages uvicorn and python3-multipart, and for a browser python3-websocket and chromium."""
+It is run by the Python that has Debian's package python3-uvicorn, and for a browser python3-websocket and chromium."""
 
 import argparse
 import asyncio
@@ -113,6 +113,10 @@ def others():
     wants("a form without a boundary", curl("-H", "Content-Type: multipart/form-data", "-d", "x")[0], 400)
     wants("a form that is cut off", curl("-H", "Content-Type: multipart/form-data; boundary=x", "--data-binary", CUT)[0], 400)
     wants("a form that is none", curl("-H", "Content-Type: multipart/form-data; boundary=x", "-d", "nonsense")[0], 400)
+    for words in ("multipart/form-data; boundary*=undefined''x", "multipart/form-data; boundary*=idna''%ff", 'multipart/form-data;"' + ";" * 60_000):
+        wants(f"a Content-Type {words[:50]}", curl("-H", f"Content-Type: {words}", "-d", "x")[0], 400)
+    text = "%7B" * 300 + "&text=%7B%22a+%22:&text=x"
+    wants("the first field of the name", json.loads(curl("-d", f"kind=text&{text}")[1])["offset"], 6)
     wants("what is stored of these", stored(), [])
 
 
@@ -153,6 +157,61 @@ def the_limit():
         except ConnectionError:
             answer = b"HTTP/1.1 413"
         wants("an endless body", (answer.split()[1], most <= MOST), (b"413", True))
+
+
+def full_disk():
+    """The last bytes of a valid text find no room: nothing is stored, and nothing is left in the way of the next one."""
+    limits = resource.prlimit(server.pid, resource.RLIMIT_FSIZE, (8192, resource.RLIM_INFINITY))
+    words = ["-H", "Content-Type: text/plain", "--data-binary", "@-"]
+    wants("no room", curl(*words, given=POINT.ljust(8200)), (507, '{"error": "the upload cannot be stored: File too large"}\n'))
+    wants("what is left of it", stored(), [])
+    resource.prlimit(server.pid, resource.RLIMIT_FSIZE, limits)
+    wants("room again", (curl(*words, given=POINT.ljust(8200))[0], stored()), (200, [POINT.ljust(8200)]))
+
+
+def turns():
+    """How long an upload may keep the event loop, whatever its bytes are: the processor's time between two turns of another task."""
+    sys.path.insert(0, SERVICE)
+    os.environ["UPLOADS"] = folder
+    from app import Body, Refused, upload
+
+    form, text = "multipart/form-data; boundary=b", "application/x-www-form-urlencoded"
+    head = b'--b\r\nContent-Disposition: form-data; name="file"; filename="x"\r\n\r\n'
+    part = b'--b\r\nContent-Disposition: form-data;%s\r\n\r\nx\r\n'
+    shapes = {
+        "a long type": (form + ';"' + ";" * 60_000, POINT),
+        "parts of semicolons": (form, (part % (b'"' + b";" * 8100)) * 60 + head),
+        "parts of parameters": (form, (part % (b";a*=b" * 380)) * 90 + head),
+        "small parts": (form, part % b"" * 10_000 + head),
+        "a file of line ends": (form, head + b"\r\n" * 200_000 + b"\r\n--b--\r\n"),
+        "a file of what is nearly its end": (form, head + b"\n--bx" * 60_000 + b"\r\n--b--\r\n"),
+        "fields without a value": (text, b"text=%7B%7D" + b"&a" * 200_000),
+        "escapes": (text, b"text=" + b"%20" * 130_000),
+        "empty features": ("text/plain", b'{"type":"FeatureCollection","features":[' + b"{}," * 130_000 + b"{}]}"),
+    }
+
+    async def most_of(kind, body):
+        pieces = [body[at : at + 262_144] for at in range(0, len(body), 262_144)]
+
+        async def receive():
+            piece = pieces.pop(0)
+            return {"type": "http.request", "body": piece, "more_body": bool(pieces)}
+
+        coming = asyncio.ensure_future(upload({"content-type": kind}, Body({}, receive), folder))
+        most, before = 0, time.thread_time()
+        while not coming.done():
+            await asyncio.sleep(0)
+            now = time.thread_time()
+            most, before = max(most, now - before), now
+        try:
+            coming.result()
+        except Refused:
+            pass
+        return most
+
+    for name, (kind, body) in shapes.items():
+        most = asyncio.run(most_of(kind, body))
+        wants(f"{name}: a turn", (round(most, 2), most < 0.25), (round(most, 2), True))
 
 
 def slow():
@@ -318,6 +377,8 @@ with tempfile.TemporaryDirectory() as room:
             documented()
             if not words.gunicorn:
                 the_limit()
+                full_disk()
+                turns()
                 slow()
         if words.browser:
             by_browser()

@@ -1,9 +1,13 @@
 // What geolint.hpp offers beyond the example: C++11 and later.
+#include <csignal>
 #include <cstdio>
 #include <geolint.hpp>
+#include <memory>
 #include <string>
+#include <sys/wait.h>
 #include <thread>
 #include <type_traits>
+#include <unistd.h>
 #include <utility>
 #include <vector>
 #if __cplusplus >= 202002L
@@ -28,6 +32,20 @@ static_assert(!std::is_copy_constructible<geolint::Linter>::value, "a linter is 
 static_assert(std::is_nothrow_move_constructible<geolint::Linter>::value, "a linter is moved");
 static_assert(std::is_nothrow_move_assignable<geolint::Linter>::value, "a linter is moved");
 static_assert(std::is_copy_assignable<geolint::Verdict>::value, "a verdict is a value");
+
+/* Whether these calls compile: of a call on an object that ends with the expression the findings would be read from freed memory. */
+template <class Of, class = void> struct Feeds : std::false_type {};
+template <class Of> struct Feeds<Of, decltype(static_cast<void>(std::declval<Of>().feed(POINT)))> : std::true_type {};
+template <class Of, class = void> struct FeedsBytes : std::false_type {};
+template <class Of> struct FeedsBytes<Of, decltype(static_cast<void>(std::declval<Of>().feed("", 0)))> : std::true_type {};
+template <class Of, class = void> struct HasLast : std::false_type {};
+template <class Of> struct HasLast<Of, decltype(static_cast<void>(std::declval<Of>().last()))> : std::true_type {};
+template <class Of, class = void> struct Begins : std::false_type {};
+template <class Of> struct Begins<Of, decltype(static_cast<void>(std::declval<Of>().begin()))> : std::true_type {};
+static_assert(Feeds<geolint::Features &>::value && !Feeds<geolint::Features>::value, "features that stay");
+static_assert(FeedsBytes<geolint::Features &>::value && !FeedsBytes<geolint::Features>::value, "features that stay");
+static_assert(HasLast<geolint::Records &>::value && !HasLast<geolint::Records>::value, "records that stay");
+static_assert(Begins<geolint::Records::Range &>::value && !Begins<geolint::Records::Range>::value, "a range that stays");
 
 #if defined(__cpp_lib_ranges)
 static_assert(std::ranges::input_range<geolint::Features::Range> && std::ranges::input_range<geolint::Records::Range>, "findings are a range");
@@ -198,6 +216,73 @@ static void features() {
     wants(refused.finish().not_json() && !geolint::Features(geolint::Limits(257)), "a refusal, and no memory");
 }
 
+/* Whether the call ends the process with the text on ranges. */
+template <class Call> static bool ends(Call call) {
+    int ways[2], status = 0;
+    if (pipe(ways))
+        return false;
+    const pid_t child = fork();
+    if (!child) {
+        dup2(ways[1], 2);
+        call();
+        _exit(0);
+    }
+    char said[200];
+    close(ways[1]);
+    const ssize_t size = read(ways[0], said, sizeof said);
+    close(ways[0]);
+    waitpid(child, &status, 0);
+    return WIFSIGNALED(status) && WTERMSIG(status) == SIGABRT && size > 0 &&
+           std::string(said, static_cast<std::size_t>(size)).find("geolint: a range of findings has not ended") == 0;
+}
+
+/* A range that has not ended, and one that has. */
+static void live_ranges() {
+    wants(ends([] {
+        geolint::Features of;
+        auto first = of.feed(COLLECTION);
+        of.feed(COLLECTION);
+    }), "a second range beside the first");
+    wants(ends([] {
+        geolint::Records of(GEOLINT_NEWLINES);
+        auto first = of.feed(COLLECTION);
+        of.last();
+    }), "the last record beside a range");
+    wants(ends([] {
+        geolint::Features of;
+        for (geolint::Finding finding : of.feed(COLLECTION))
+            of.finish().valid() || finding.valid();
+    }), "the end within a range");
+    wants(ends([] {
+        geolint::Features of;
+        auto range = of.feed(COLLECTION);
+        of.begin();
+    }), "another text within a range");
+    wants(ends([] {
+        std::unique_ptr<geolint::Features> of(new geolint::Features);
+        auto range = of->feed(COLLECTION);
+        of.reset();
+    }), "a range that outlives its features");
+    wants(ends([] {
+        geolint::Features of;
+        auto range = of.feed(COLLECTION);
+        of = geolint::Features();
+    }), "a range of features that are assigned over");
+    std::unique_ptr<geolint::Features> of(new geolint::Features);
+    auto range = of->feed(COLLECTION);
+    geolint::Features moved(std::move(*of));
+    of.reset();
+    std::string all;
+    for (geolint::Finding finding : range)
+        all += told(finding);
+    wants(all == "0 40 0 0 broken;1 42 101 65 valid;" && moved.finish().rule() == 1, "a range of features that are moved");
+    of.reset(new geolint::Features(std::move(moved)));
+    auto other = (of->begin(), of->feed("{", 1));
+    wants(other.begin() == other.end() && !of->finish().valid(), "a range that has ended");
+    of.reset();
+    wants(range.begin() == range.end() && other.begin() == other.end(), "ended ranges that outlive their features");
+}
+
 /* The same handle for another text. */
 static void begun_again() {
     geolint::Features features;
@@ -258,6 +343,7 @@ static void places() {
 
 int main() {
     features();
+    live_ranges();
     begun_again();
 #if defined(__cpp_lib_ranges)
     ranges();

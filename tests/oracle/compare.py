@@ -133,7 +133,7 @@ def documents():
 def needs(program):
     """Ends the run where the program is not built."""
     if not pathlib.Path(program).is_file():
-        sys.exit(f"{program} is missing: bin/geolint-files builds it")
+        sys.exit(f"{program} is missing: make builds it")
 
 
 def as_row(line):
