@@ -1,6 +1,8 @@
 # Builds and installs geolint and geolint-files: the programs, their man pages, docs/rules.md and the completions for bash, zsh
 # and fish.
 #
+#     make
+#     make test
 #     make install PREFIX=$HOME/.local
 #     make install DESTDIR=package PREFIX=/usr
 #     make uninstall PREFIX=$HOME/.local
@@ -22,10 +24,14 @@ bash_files := $(to)/share/bash-completion/completions/geolint-files
 zsh_files := $(to)/share/zsh/site-functions/_geolint-files
 fish_files := $(to)/share/fish/vendor_completions.d/geolint-files.fish
 
-.PHONY: build install uninstall
+.PHONY: build test install uninstall
 build:
-	@bin/geolint --help >/dev/null
-	@bin/geolint-files --version >/dev/null
+	@contrib/build geolint
+	@contrib/build geolint_files
+
+# All checks; with QUICK=1 those that need no proof.
+test:
+	.ci/run $(if $(QUICK),--quick)
 
 install: build
 	install -D -m 755 crates/geolint/out/geolint "$(program)"
@@ -43,6 +49,14 @@ install: build
 uninstall:
 	rm -f "$(program)" "$(manual)" "$(bash)" "$(zsh)" "$(fish)" "$(rules)"
 	rm -f "$(program_files)" "$(manual_files)" "$(bash_files)" "$(zsh_files)" "$(fish_files)"
+
+# The copy of the libraries in plain Rust, to measure and to compare: bench/plain/run. It needs no rt.
+PLAIN ?= out/plain
+.PHONY: plain
+plain:
+	@bench/plain/copy $(PLAIN)
+	@cd $(PLAIN) && RUSTC_BOOTSTRAP=1 cargo build --quiet --release --offline
+	@echo "make plain: THIS PROVES NOTHING. $(PLAIN) has the libraries without contracts, to measure them: use none of it for anything else."
 
 # The library for C: `make library`, `make install-library`.
 include contrib/library.mk

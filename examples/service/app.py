@@ -8,6 +8,7 @@ README.md says what it takes and what it answers.
 """
 
 import asyncio
+import logging
 import os
 import re
 import resource
@@ -20,7 +21,7 @@ from typing import Any, AsyncIterator, Callable, Dict, List, Optional
 
 import geolint
 from answers import accepts_html, as_html, as_json, form_page
-from forms import Form, FormError
+from forms import FormError, file_of
 
 MOST_BYTES = 100_000_000
 # How many uploads are taken at once. Each holds the memory of its findings, 246 KB, and what of it has come and is not checked yet,
@@ -28,11 +29,15 @@ MOST_BYTES = 100_000_000
 MOST_AT_ONCE = 2000
 # How many broken features are listed; the others are counted.
 MOST_TOLD = 1000
+# How many characters are read of what a client accepts.
+MOST_ACCEPT = 1000
 # How long a client may send nothing, how long an upload may take, and how long what a client still sends after the answer is dropped; in
 # seconds.
 WAIT = 30
 TOTAL = 600
 LINGER = 5
+# How many bytes of an upload are read, checked and stored before it is another's turn.
+TURN = 2048
 # How many broken texts are read a second time at once: more threads would leave the event loop less of the interpreter.
 READERS = ThreadPoolExecutor(2)
 VALUE = re.compile(rb'"(?:[^"\\]|\\.)*"?|[^\s,}\]]+')
@@ -87,7 +92,10 @@ class Body:
             self.count += len(found.get("body", b""))
             if self.count > MOST_BYTES:
                 raise Refused(413, f"more than {MOST_BYTES} bytes")
-            yield found.get("body", b"")
+            piece = found.get("body", b"")
+            for at in range(0, len(piece), TURN):
+                yield piece[at : at + TURN]
+                await asyncio.sleep(0)
 
     async def drop(self) -> None:
         """Reads what still comes for some time, and drops it: a client that has not sent all might not read the answer."""
@@ -110,7 +118,7 @@ async def written(pieces: AsyncIterator[bytes], file: Any) -> AsyncIterator[byte
 async def check_and_store(pieces: AsyncIterator[bytes], folder: str) -> Outcome:
     """What the pieces are. They are stored while they are checked, and stay where they are valid."""
     store = tempfile.NamedTemporaryFile(dir=folder, suffix=".part", delete=False)
-    outcome = None
+    outcome: Optional[Outcome] = None
     try:
         with store:
             found = geolint.afeatures(written(pieces, store))
@@ -123,15 +131,17 @@ async def check_and_store(pieces: AsyncIterator[bytes], folder: str) -> Outcome:
             assert found.verdict is not None
             outcome = Outcome(found.verdict, broken, count)
         if outcome.verdict:
-            outcome.stored = os.path.basename(store.name)[: -len(".part")] + ".geojson"
-            os.replace(store.name, os.path.join(folder, outcome.stored))
+            name = os.path.basename(store.name)[: -len(".part")] + ".geojson"
+            os.replace(store.name, os.path.join(folder, name))
+            outcome.stored = name
         else:
             # A long text is read again for a while: on another thread, so that the others go on.
             await asyncio.get_running_loop().run_in_executor(READERS, find_places, outcome, store.name)
+        return outcome
     finally:
-        if outcome is None or not outcome.verdict:
+        # A disk may have no room for the last bytes of a valid text: then it is not stored.
+        if outcome is None or not outcome.stored:
             os.unlink(store.name)
-    return outcome
 
 
 def find_places(outcome: Outcome, path: str) -> None:
@@ -154,10 +164,8 @@ def written_value(start: bytes) -> str:
 
 async def upload(headers: Dict[str, str], body: Body, folder: str) -> Outcome:
     """The file of a form, the field `text` of a form, or the body itself."""
-    pieces: AsyncIterator[bytes] = body.__aiter__()
     try:
-        form = Form.of(headers.get("content-type", ""))
-        return await check_and_store(form.file(pieces) if form else pieces, folder)
+        return await check_and_store(file_of(headers.get("content-type", ""), body.__aiter__()), folder)
     except FormError as error:
         raise Refused(400, str(error)) from None
 
@@ -173,7 +181,7 @@ class Service:
         if scope["type"] != "http":
             return
         headers = {name.decode("latin-1"): value.decode("latin-1") for name, value in scope["headers"]}
-        is_html, body, more = accepts_html(headers.get("accept", "")), None, {}
+        is_html, body, more = accepts_html(headers.get("accept", "")[:MOST_ACCEPT]), None, {}
         try:
             if scope["method"] in ("GET", "HEAD"):
                 status, content, is_html = 200, form_page(), True
@@ -189,6 +197,10 @@ class Service:
             content = f"{refused.reason}\n" if is_html else as_json(refused.reason)
         except ConnectionError:
             return
+        except OSError as error:
+            reason = f"the upload cannot be stored: {error.strerror}"
+            logging.error(reason)
+            status, content = 507, f"{reason}\n" if is_html else as_json(reason)
         kind = "text/html" if is_html and status in (200, 422) else "text/plain" if is_html else "application/json"
         await answer(send, status, kind, content.encode(), scope["method"] == "HEAD", body, more)
 
