@@ -50,6 +50,11 @@ uninstall:
 	rm -f "$(program)" "$(manual)" "$(bash)" "$(zsh)" "$(fish)" "$(rules)"
 	rm -f "$(program_files)" "$(manual_files)" "$(bash_files)" "$(zsh_files)" "$(fish_files)"
 
+# What each public item promises, from the sources: docs/contracts.md. It needs no rt.
+.PHONY: contracts
+contracts:
+	@docs/contracts
+
 # The copy of the libraries in plain Rust, to measure and to compare: bench/plain/run. It needs no rt.
 PLAIN ?= out/plain
 .PHONY: plain
