@@ -2,3 +2,4 @@
 pub mod Begins
 pub mod JoinedSoFar
 pub mod Covered
+pub mod EarlyEnds

@@ -1,10 +1,11 @@
 //! Where an input of records may be cut.
 
-ghost use Rattle.std.specs.Prelude.{◌≡◌, ◌<◌, ◌≤◌, min, IfOk, IfSome, OnOk};
+ghost use Rattle.std.specs.Prelude.{◌≡◌, ◌<◌, ◌≤◌, max, min, IfOk, IfSome};
 ghost use Rattle.std.specs.Option.{SomeIff};
 ghost use Rattle.gj_join.specs.Parts.{may_begin};
 ghost use Rattle.sequence_parts.specs.Cuts.{IsFirstCut};
 ghost use Rattle.sequence_parts.specs.Internal.Begins.{IsFirstBegin};
+ghost use Rattle.sequence_parts.specs.Internal.EarlyEnds.{CountsFailureOrEnds};
 
 use geolint_report::source::Rewind;
 use gj_json::Limits;
@@ -27,7 +28,8 @@ pub fn find_cut<S: Rewind>(
     ensures cut { IfOk result (λ cut. IfSome (S.text source.old) (λ text. IsFirstCut framing limits text from until cut)) }
     ensures range { IfOk result (λ cut. IfSome cut (λ place. (from ≤ place) × (place < until))) }
     ensures text { S.text source.new ≡ S.text source.old }
-    ensures unfailed { OnOk result (S.failed_reads source.new ≡ S.failed_reads source.old) }
+    ensures failed { CountsFailureOrEnds (S.text source.old) (max from (min until limits.bytes)) (S.failed_reads source.old)
+        (S.failed_reads source.new) result }
 {
     let until = lesser(until, limits.bytes());
     let separator = framing.separator();
