@@ -3,3 +3,4 @@ mod CountedPieces
 mod KeptLines
 mod Lanes
 mod Recalled
+mod Spelling

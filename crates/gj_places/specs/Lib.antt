@@ -4,3 +4,4 @@ pub mod Strings
 pub mod Excerpts
 pub mod Keeping
 pub mod Recalling
+pub mod Internal

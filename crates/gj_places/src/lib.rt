@@ -1,8 +1,9 @@
 //! Where a byte of a text stands for a reader of the text, and how bytes are shown to one.
 //!
 //! `Lines` counts the line and the column of a place, however the text comes in pieces (`specs/Lines.antt`). `json_string`
-//! writes bytes as a JSON string that reads back as the same characters. `Excerpt` keeps the part of a line around a place
-//! in fixed memory, and `Recent` the last bytes of a text that is read once, for the places among them.
+//! writes bytes as a JSON string that reads back as the same characters and has none that a terminal would obey. `Excerpt`
+//! keeps the part of a line around a place in fixed memory, and `Recent` the last bytes of a text that is read once, for the
+//! places among them.
 #![tactic(auto)]
 
 mod excerpt;

@@ -1,11 +1,9 @@
 //! Bytes as a JSON string.
-ghost use Rattle.std.specs.Prelude.{◌≡◌, IfOk, Some, string_bytes, true};
-ghost use Rattle.serde_json.specs.Data.{string};
-ghost use Rattle.serde_json.specs.Read.{read};
+ghost use Rattle.std.specs.Prelude.{◌≡◌, ◌≢◌, ◌++◌, ℕ, List, IfOk, IfSome, None, OnOk, encode_utf8, string_bytes};
+ghost use Rattle.gj_places.specs.Internal.Spelling.{SpellsInside, code_escape, hex_digit};
 ghost use Rattle.gj_places.specs.Strings.{SpellsString};
 
 use crate::excerpt::is_harmful;
-use serde_json::Value;
 use std::alloc::{AllocError, Global};
 
 /// The bytes as a JSON string between its quotation marks, which reads back as the same characters. Where they are no
@@ -14,37 +12,59 @@ pub fn json_string(alloc: Global, bytes: &[u8]) -> Result<String, AllocError>
     ensures { IfOk result (λ written. SpellsString bytes.now (string_bytes written)) }
 {
     let text = String::from_utf8_lossy(alloc, bytes)?;
-    let value = Value::String(text.clone()?);
-    let spelled = value.to_string(alloc)?;
-    let escaped = escape_harmful(alloc, spelled.as_str())?;
-    // Reading it is the proof.
-    if reads_as(alloc, escaped.as_str(), text.as_str()) {
-        Ok(escaped)
-    } else {
-        Ok(spelled)
+    let mut spelled = String::new(alloc);
+    spelled.push('"')?;
+    for c in text.as_str().chars() {
+        push_spelled(&mut spelled, c)?;
     }
+    spelled.push('"')?;
+    Ok(spelled)
 }
 
-/// The spelling of a string, with the escape of each harmful character (RFC 8259, section 7).
-fn escape_harmful(alloc: Global, spelled: &str) -> Result<String, AllocError> {
-    let mut escaped = String::new(alloc);
-    for c in spelled.chars() {
-        if is_harmful(c) {
-            let number = c as u32;
-            escaped.push_str(format!(in alloc; "\\u{number:04x}")?.as_str())?;
-        } else {
-            escaped.push(c)?;
-        }
-    }
-    Ok(escaped)
-}
-
-/// Whether a spelling reads as the string of this text.
-fn reads_as(alloc: Global, spelled: &str, text: &str) -> bool
-    ensures { result ≡ true → read spelled.now ≡ Some (string text.now) }
+/// Appends a character as it stands in a string (RFC 8259, section 7).
+#[tactic(auto, using(crate::proofs::Spelling::as_it_is, crate::proofs::Spelling::by_code))]
+fn push_spelled(spelled: &mut String, c: char) -> Result<(), AllocError>
+    ensures { OnOk result
+        ((added : List ℕ) × SpellsInside (encode_utf8 c) added × (string_bytes spelled.new ≡ string_bytes spelled.old ++ added)) }
 {
-    match Value::from_str(alloc, spelled) {
-        Ok(Value::String(read)) => read.as_str() == text,
-        _ => false,
+    match short_escape(c) {
+        Some(escape) => spelled.push_str(escape),
+        None if is_harmful(c) => push_code(spelled, c as u32),
+        None => spelled.push(c),
     }
+}
+
+/// The escape of two characters, for a character that has one.
+fn short_escape(c: char) -> Option<&'static str>
+    ensures some { IfSome result (λ escape. SpellsInside (encode_utf8 c) escape.now) }
+    ensures none { result ≡ None → (c ≢ 34) × (c ≢ 92) }
+{
+    match c {
+        '"' => Some("\\\""),
+        '\\' => Some("\\\\"),
+        '\u{8}' => Some("\\b"),
+        '\t' => Some("\\t"),
+        '\n' => Some("\\n"),
+        '\u{C}' => Some("\\f"),
+        '\r' => Some("\\r"),
+        _ => None,
+    }
+}
+
+/// Appends the escape of a character by its code.
+fn push_code(spelled: &mut String, code: u32) -> Result<(), AllocError>
+    ensures { OnOk result (string_bytes spelled.new ≡ string_bytes spelled.old ++ code_escape code) }
+{
+    spelled.push_str("\\u")?;
+    spelled.push(digit(code / 4096))?;
+    spelled.push(digit(code / 256))?;
+    spelled.push(digit(code / 16))?;
+    spelled.push(digit(code))
+}
+
+/// The last digit of a code, to the base of 16.
+fn digit(code: u32) -> char
+    ensures { result ≡ hex_digit code }
+{
+    char::from_digit(code % 16, 16).unwrap_or('0')
 }

@@ -2,3 +2,4 @@
 mod excerpt;
 mod lines;
 mod recent;
+mod string;
