@@ -7,6 +7,7 @@ ghost use Rattle.std.specs.declared.io.ErrorKind.{ErrorKind};
 use std::alloc::Global;
 use std::fs::{self, File, Files, Metadata};
 use std::io::{self, ErrorKind, Read};
+use std::path::{Path, PathBuf};
 use std::str;
 
 /// The system's number for bytes that are no text (`EILSEQ`).
@@ -18,6 +19,18 @@ pub fn look_up(rt: &HostRuntime, name: &[u8]) -> io::Result<(Spelled, Metadata)>
     let spelled = spell(rt.alloc(), name)?;
     let metadata = spelled.metadata(rt)?;
     Ok((spelled, metadata))
+}
+
+/// The folder whose files are shown, without links: the one that is given, or of a name in a list the one in which it stands. None
+/// where the system does not say.
+pub fn shown_folder(rt: &HostRuntime, name: &[u8], is_given: bool) -> Option<PathBuf> {
+    let spelled = spell(rt.alloc(), name).ok()?;
+    let folder = match Path::new(spelled.as_str()).parent() {
+        _ if is_given => spelled.as_str(),
+        Some(parent) if !parent.as_str().is_empty() => parent.as_str(),
+        _ => ".",
+    };
+    fs::canonicalize(rt, folder).ok()
 }
 
 /// Whether a name was not found because it is a link that leads nowhere.
@@ -70,6 +83,14 @@ impl Spelled {
     /// Of a link itself.
     fn link_metadata(&self, rt: &HostRuntime) -> io::Result<Metadata> {
         fs::symlink_metadata(rt, self.text.as_str())
+    }
+
+    /// Whether what the name leads to stands in this folder, links followed. Where the system does not say, it does not.
+    pub fn stands_in(&self, rt: &HostRuntime, folder: &Option<PathBuf>) -> bool {
+        match (folder, fs::canonicalize(rt, self.text.as_str())) {
+            (Some(folder), Ok(path)) => path.starts_with(folder),
+            _ => false,
+        }
     }
 
     /// Opens it for reading. An error is answered where the system refuses.

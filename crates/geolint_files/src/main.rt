@@ -36,7 +36,7 @@ use crate::words::{Order, order_in};
 use clap::Error;
 use clap::error::ErrorKind;
 use gj_manual::Topic;
-use own_build::own_build;
+use own_build::{lacks_stack, own_build};
 use report_forms::formats::put_name;
 use sequence_parts::Share;
 use std::io::{self, BufWriter, Write};
@@ -60,6 +60,10 @@ enum NoOrder {
 /// Status 0 says that each file passes, 1 that one does not, 2 that one could not be read, that none was checked, that the
 /// words are wrong or that the report could not be written, and 141 that nobody reads it any more.
 fn main(rt: HostRuntime) -> ExitCode {
+    if lacks_stack(&rt) {
+        let _ = eprintln!(rt; "geolint-files: the stack has less than 4 MiB: `ulimit -s 8192` gives it more");
+        return ExitCode::from(2);
+    }
     match read_order(&rt) {
         Ok(order) => ExitCode::from(run_order(&rt, &order)),
         Err(NoOrder::Answered) => ExitCode::from(0),

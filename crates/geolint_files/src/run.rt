@@ -12,7 +12,7 @@ ghost use Rattle.geolint_files.specs.Walk.{first_named, is_input, is_input_path,
 mod features;
 mod joined;
 
-use crate::files::{Spelled, is_lost_link, is_memory, look_up, reason, spell};
+use crate::files::{Spelled, is_lost_link, is_memory, look_up, reason, shown_folder, spell};
 use crate::outcome::Outcome;
 use crate::walk::{Others, Pending, Walk, framing_by, is_taken};
 use crate::words::Order;
@@ -436,7 +436,7 @@ impl<'a, W: Write + Drop> Run<'a, W> {
             let input = self.rt.stdin();
             return self.judge_stream(path, &mut FromRead::new(input));
         }
-        let mut walk = Walk::of(&self.rt, path)?;
+        let mut walk = Walk::of(&self.rt, path, shown_folder(&self.rt, path, takes_streams))?;
         for _ in 0..u64::MAX {
             match walk.next_pending() {
                 Some(pending) => self.look_at(&pending, endings, takes_streams, &mut walk)?,
@@ -462,12 +462,14 @@ impl<'a, W: Write + Drop> Run<'a, W> {
     {
         let name = pending.name.as_slice();
         let is_wanted = pending.is_given || is_taken(name, endings);
+        let takes_streams = pending.is_given && takes_streams;
         match look_up(&self.rt, name) {
             Ok((spelled, metadata)) => {
                 if metadata.is_dir() {
                     self.enter(name, &spelled, &metadata, walk)
                 } else if is_wanted {
-                    self.judge_named(name, &spelled, &metadata, pending.is_given && takes_streams)
+                    let is_shown = takes_streams || spelled.stands_in(&self.rt, walk.folder());
+                    self.judge_named(name, &spelled, &metadata, takes_streams, is_shown)
                 } else {
                     self.pass_over(name, &metadata)
                 }
@@ -507,13 +509,15 @@ impl<'a, W: Write + Drop> Run<'a, W> {
     }
 
     /// Checks what a name leads to, which is no folder. What cannot be opened is reported, and so is a device or a FIFO but where
-    /// a stream is taken: it could have no end, or no bytes for ever. Its kind is looked at again once it is open.
+    /// a stream is taken: it could have no end, or no bytes for ever. Its kind is looked at again once it is open. A file that is not
+    /// shown is read as a stream is: no text of it is reported.
     fn judge_named(
         &mut self,
         name: &[u8],
         spelled: &Spelled,
         metadata: &Metadata,
         takes_streams: bool,
+        is_shown: bool,
     ) -> Result<(), Failure>
         ensures { OnOk result ((file : ToldFile) × (name_in file ≡ name.now) × TellsFile W.contents file self.old self.new) }
     {
@@ -523,9 +527,9 @@ impl<'a, W: Write + Drop> Run<'a, W> {
         };
         match opened {
             Ok((file, now)) => {
-                if now.is_file() {
+                if now.is_file() && is_shown {
                     self.judge_file(name, &mut FileSource::new(file))
-                } else if takes_streams {
+                } else if now.is_file() || takes_streams {
                     self.judge_stream(name, &mut FromRead::new(file))
                 } else {
                     self.tell_unread(name, &no_file())

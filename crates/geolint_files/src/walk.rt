@@ -7,6 +7,7 @@ ghost use Rattle.geolint_files.specs.Walk.{ending_of, start_after, ends_in, ends
 use gj_rules::Framing;
 use std::alloc::{AllocError, Global};
 use std::collections::BTreeSet;
+use std::path::PathBuf;
 
 /// Whether a file of this name in a folder is checked: these are the endings beside the usual ones.
 pub fn is_taken(name: &[u8], endings: &[Vec<u8>]) -> bool
@@ -129,6 +130,7 @@ pub struct Pending {
 pub struct Walk {
     pending: Vec<Pending>,
     entered: BTreeSet<(u64, u64)>,
+    folder: Option<PathBuf>,
 }
 
 impl Walk {
@@ -136,8 +138,12 @@ impl Walk {
     ghost use Rattle.std.specs.BTreeSet.{contains, Updates};
     ghost use Rattle.geolint_files.specs.Walk.{entries_in, folder_cmp, named_in};
 
-    /// From a name that was given.
-    pub fn of(rt: &HostRuntime, name: &[u8]) -> Result<Walk, AllocError>
+    /// From a name that was given, in a folder whose files are shown.
+    pub fn of(
+        rt: &HostRuntime,
+        name: &[u8],
+        folder: Option<PathBuf>,
+    ) -> Result<Walk, AllocError>
         ensures { IfOk result (λ walk. named_in walk.pending.items ≡ (name.now, true) ∷ []) }
     {
         let mut pending = Vec::new(rt.alloc());
@@ -148,7 +154,15 @@ impl Walk {
         Ok(Walk {
             pending,
             entered: BTreeSet::new(rt.alloc()),
+            folder,
         })
+    }
+
+    /// The folder whose files are shown, where the system says where it is.
+    pub fn folder(&self) -> &Option<PathBuf>
+        ensures { result.now ≡ self.now.folder }
+    {
+        &self.folder
     }
 
     /// The next name, which is taken off.

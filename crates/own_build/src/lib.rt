@@ -1,12 +1,14 @@
-//! What a program says that it was built from.
+//! What a running program is: what it was built from, and whether its stack has the room that it needs.
 //!
 //! `make dist` adds a text to each program, in a section that is not loaded: the commit, and the toolchain by which the program
 //! was proved and compiled. A program that was built in a checkout has none.
 #![tactic(auto)]
 
 mod place;
+mod stack;
 
 pub use place::{BuildPlace, build_place};
+pub use stack::lacks_stack;
 use std::{env, fs, io};
 
 /// What the running program was built from, in whole lines: none where its file does not say it.
