@@ -4,6 +4,7 @@ mod DoubledWarnings
 mod SameSettings
 mod JoinedNotes
 mod WrittenItems
+mod NamesRead
 mod ReadItems
 mod ReadTexts
 mod MembersRead

@@ -1,21 +1,16 @@
 -- The object of a line says all members of one line.
-use Rattle.part_lines.proofs.Common.{arith, ◌≡◌, ◌<◌, ◌+◌, ℕ, refl, ap, sym, subst, ◌∙◌, Bool, true, false, Some, List, [], ◌∷◌, ◌++◌, codes, replicate}
+use Rattle.part_lines.proofs.Common.{arith, ◌≡◌, ◌+◌, ℕ, refl, ap, sym, subst, ◌∙◌, Bool, true, false, Some, List, [], ◌∷◌, ◌++◌, codes, replicate}
 use Rattle.part_lines.proofs.Common.{Kind, Warnings, CheckedPart, Code, Framing, Note, PartLine}
-use Rattle.std.proofs.Common.{◌^◌, None, Option, decimal}
-use Rattle.std.specs.Prelude.{if◌then◌else◌, ◌==◌, option_and_then}
+use Rattle.std.proofs.Common.{None, Option}
+use Rattle.std.specs.Prelude.{◌==◌, option_and_then}
 use Rattle.std.proofs.lemmas.Bool.Decides.{nat_tests}
-use Rattle.std.proofs.lemmas.Fmt.{decimal_injective}
 use Rattle.std.proofs.lemmas.Option.{same_Some}
 use Rattle.part_lines.proofs.ReadItems.{items_of-same}
-use Rattle.gj_coords.specs.Fault.{number_of}
+use Rattle.part_lines.proofs.NamesRead.{same-code}
 use Rattle.gj_coords.specs.Internal.KeptWarnings.{warnings_of}
-use Rattle.gj_coords.specs.Warnings.{Warning, kind_number, warning_at}
+use Rattle.gj_coords.specs.Warnings.{Warning, warning_at}
 use Rattle.gj_coords.specs.declared.fault.Rule.{Rule}
-use Rattle.gj_coords.specs.declared.fault.Rule.TheVariants.{G1, G2, G3, G4, G5, G6, G7, G8, G9, G10, G11, G12, G13, G14, G15, G16, G17, G18, G19, G20, G21}
-use Rattle.gj_coords.specs.declared.kind.Kind.TheVariants.{W1, W2, W3, W4, W5, W6, W7, W8, W9}
-use Rattle.gj_json.specs.Texts.{cause_number}
 use Rattle.gj_json.specs.declared.fault.Cause.{Cause}
-use Rattle.gj_json.specs.declared.fault.Cause.TheVariants.{Syntax, Truncated, Depth, Length}
 use Rattle.serde_json.specs.Data.{Data, Items}
 use Rattle.serde_json.specs.Find.{get, as_str}
 use Rattle.serde_json.specs.View.{items_of}
@@ -35,109 +30,19 @@ use Rattle.gj_rules.specs.declared.verdict.Verdict.{Verdict}
 both-said : {A : Type 0} (o : Option A) (x y : A) → o ≡ Some x → o ≡ Some y → x ≡ y
 both-said o x y e f = same_Some x y (sym e ∙ f)
 
--- the rule of a number
-abbrev rule-of : ℕ → Rule
-rule-of n =
-    if n == 1 then G1 else if n == 2 then G2 else if n == 3 then G3 else if n == 4 then G4 else if n == 5 then G5 else if n == 6 then G6 else if n == 7 then G7
-    else if n == 8 then G8 else if n == 9 then G9 else if n == 10 then G10 else if n == 11 then G11 else if n == 12 then G12 else if n == 13 then G13
-    else if n == 14 then G14 else if n == 15 then G15 else if n == 16 then G16 else if n == 17 then G17 else if n == 18 then G18 else if n == 19 then G19
-    else if n == 20 then G20 else G21
-
-rule-back : (rule : Rule) → (rule-of (number_of rule) ≡ rule) × (number_of rule < 2 ^ 64)
-rule-back G1 = (refl, omega arith)
-rule-back G2 = (refl, omega arith)
-rule-back G3 = (refl, omega arith)
-rule-back G4 = (refl, omega arith)
-rule-back G5 = (refl, omega arith)
-rule-back G6 = (refl, omega arith)
-rule-back G7 = (refl, omega arith)
-rule-back G8 = (refl, omega arith)
-rule-back G9 = (refl, omega arith)
-rule-back G10 = (refl, omega arith)
-rule-back G11 = (refl, omega arith)
-rule-back G12 = (refl, omega arith)
-rule-back G13 = (refl, omega arith)
-rule-back G14 = (refl, omega arith)
-rule-back G15 = (refl, omega arith)
-rule-back G16 = (refl, omega arith)
-rule-back G17 = (refl, omega arith)
-rule-back G18 = (refl, omega arith)
-rule-back G19 = (refl, omega arith)
-rule-back G20 = (refl, omega arith)
-rule-back G21 = (refl, omega arith)
-
-abbrev kind-of : ℕ → Kind
-kind-of n =
-    if n == 1 then W1 else if n == 2 then W2 else if n == 3 then W3 else if n == 4 then W4 else if n == 5 then W5 else if n == 6 then W6 else if n == 7 then W7
-    else if n == 8 then W8 else W9
-
-kind-back : (kind : Kind) → (kind-of (kind_number kind) ≡ kind) × (kind_number kind < 2 ^ 64)
-kind-back W1 = (refl, omega arith)
-kind-back W2 = (refl, omega arith)
-kind-back W3 = (refl, omega arith)
-kind-back W4 = (refl, omega arith)
-kind-back W5 = (refl, omega arith)
-kind-back W6 = (refl, omega arith)
-kind-back W7 = (refl, omega arith)
-kind-back W8 = (refl, omega arith)
-kind-back W9 = (refl, omega arith)
-
-abbrev cause-of : ℕ → Cause
-cause-of n = if n == 1 then Syntax else if n == 2 then Truncated else if n == 3 then Depth else Length
-
-cause-back : (cause : Cause) → (cause-of (cause_number cause) ≡ cause) × (cause_number cause < 2 ^ 64)
-cause-back Syntax = (refl, omega arith)
-cause-back Truncated = (refl, omega arith)
-cause-back Depth = (refl, omega arith)
-cause-back Length = (refl, omega arith)
-
-tail-same : (x y : ℕ) (xs ys : List ℕ) → x ∷ xs ≡ y ∷ ys → xs ≡ ys
-tail-same x y xs ys e = cc
-
 same-rule : (one other : Rule) → code_name (Code.Rule one) ≡ code_name (Code.Rule other) → one ≡ other
-unfolding code_name
-same-rule one other e =
-    let n = decimal_injective (number_of one) (number_of other) (rule-back one).1 (rule-back other).1
-    (tail-same 71 71 (decimal (number_of one)) (decimal (number_of other)) e) in
-    sym (rule-back one).0 ∙ (ap rule-of n ∙ (rule-back other).0)
+same-rule one other e = let same = same-code (Code.Rule one) (Code.Rule other) e in cc
 
 same-kind : (one other : Kind) → code_name (Code.Kind one) ≡ code_name (Code.Kind other) → one ≡ other
-unfolding code_name
-same-kind one other e =
-    let n = decimal_injective (kind_number one) (kind_number other) (kind-back one).1 (kind-back other).1
-    (tail-same 87 87 (decimal (kind_number one)) (decimal (kind_number other)) e) in
-    sym (kind-back one).0 ∙ (ap kind-of n ∙ (kind-back other).0)
+same-kind one other e = let same = same-code (Code.Kind one) (Code.Kind other) e in cc
 
 same-cause : (one other : Cause) → code_name (Code.Cause one) ≡ code_name (Code.Cause other) → one ≡ other
-unfolding code_name
-same-cause one other e =
-    let n = decimal_injective (cause_number one) (cause_number other) (cause-back one).1 (cause-back other).1
-    (tail-same 74 74 (decimal (cause_number one)) (decimal (cause_number other)) e) in
-    sym (cause-back one).0 ∙ (ap cause-of n ∙ (cause-back other).0)
+same-cause one other e = let same = same-code (Code.Cause one) (Code.Cause other) e in cc
 
 apart : (x y : ℕ) (xs ys : List ℕ) → (x == y) ≡ false → x ∷ xs ≡ y ∷ ys → ⊥
 apart x y xs ys other e =
     let same : x ≡ y = cc in
     grind (arith, nat_tests, other, same)
-
-same-code : (one other : Code) → code_name one ≡ code_name other → one ≡ other
-unfolding code_name
-same-code (Code.Rule a) (Code.Rule b) e = ap (λ (r : Rule). Code.Rule r) (same-rule a b e)
-same-code (Code.Kind a) (Code.Kind b) e = ap (λ (k : Kind). Code.Kind k) (same-kind a b e)
-same-code (Code.Cause a) (Code.Cause b) e = ap (λ (c : Cause). Code.Cause c) (same-cause a b e)
-same-code Code.NotValid Code.NotValid e = refl
-same-code (Code.Rule a) (Code.Kind b) e = absurd (apart 71 87 _ _ refl e)
-same-code (Code.Rule a) (Code.Cause b) e = absurd (apart 71 74 _ _ refl e)
-same-code (Code.Rule a) Code.NotValid e = absurd (apart 71 78 _ _ refl e)
-same-code (Code.Kind a) (Code.Rule b) e = absurd (apart 87 71 _ _ refl e)
-same-code (Code.Kind a) (Code.Cause b) e = absurd (apart 87 74 _ _ refl e)
-same-code (Code.Kind a) Code.NotValid e = absurd (apart 87 78 _ _ refl e)
-same-code (Code.Cause a) (Code.Rule b) e = absurd (apart 74 71 _ _ refl e)
-same-code (Code.Cause a) (Code.Kind b) e = absurd (apart 74 87 _ _ refl e)
-same-code (Code.Cause a) Code.NotValid e = absurd (apart 74 78 _ _ refl e)
-same-code Code.NotValid (Code.Rule b) e = absurd (apart 78 71 _ _ refl e)
-same-code Code.NotValid (Code.Kind b) e = absurd (apart 78 87 _ _ refl e)
-same-code Code.NotValid (Code.Cause b) e = absurd (apart 78 74 _ _ refl e)
 
 same-framing : (one other : Framing) → framing_word one ≡ framing_word other → one ≡ other
 same-framing Sequence Sequence e = refl

@@ -1,16 +1,19 @@
 -- A written line is read as what it was written for.
-use Rattle.part_lines.proofs.Common.{arith, ◌≡◌, ◌<◌, ◌≤◌, ℕ, refl, ap, sym, subst, ◌∙◌, Bool, true, false, Some, List, [], ◌∷◌, ◌++◌, length, map, replicate}
-use Rattle.part_lines.proofs.Common.{codes, flat_map, All, Kind, Warnings, code_name, Code, Note, PartLine}
-use Rattle.std.proofs.Common.{◌^◌, suc, zero, min, cond, None, Option, filter, string_bytes}
-use Rattle.std.specs.Prelude.{option_and_then, unwrap_or, ◌==◌, if◌then◌else◌}
+use Rattle.part_lines.proofs.Common.{arith, ◌≡◌, ◌<◌, ◌≤◌, ℕ, refl, ap, sym, subst, ◌∙◌, Bool, true, false, Some, List, [], ◌∷◌, ◌++◌, ◌+◌, length, map, replicate, take}
+use Rattle.part_lines.proofs.Common.{codes, flat_map, All, Kind, Warnings, Code, Note, PartLine}
+use Rattle.std.proofs.Common.{◌^◌, suc, zero, min, cond, None, Option, filter, string_bytes, drop}
+use Rattle.std.specs.Prelude.{option_and_then, unwrap_or, ◌==◌, ◌||◌, if◌then◌else◌}
+use Rattle.std.proofs.lemmas.Bool.{or_parts}
 use Rattle.std.proofs.lemmas.Bool.Decides.{nat_tests}
 use Rattle.std.proofs.lemmas.List.{length-replicate}
 use Rattle.std.proofs.lemmas.List.Concat.{flat_map-append}
-use Rattle.std.proofs.lemmas.List.Elements.{All-nil, All-cons, All-append}
-use Rattle.serde_json.specs.Data.{Data, Items, Members, string, boolean, array, object}
+use Rattle.std.proofs.lemmas.List.Elements.{All-nil, All-cons}
+use Rattle.serde_json.specs.Data.{Data, Members, no_members, string, boolean, array, object}
 use Rattle.serde_json.specs.Find.{get, get_member, as_number, as_u64, as_str, as_bool, as_array}
 use Rattle.serde_json.specs.Read.{read}
 use Rattle.serde_json.specs.View.{items_of}
+use Rattle.serde_json.specs.Written.{compact_text}
+use Rattle.std.specs.Io.Iter.{u64_saturate}
 use Rattle.gj_coords.specs.declared.kind.Kind.TheVariants.{W1, W2, W3, W4, W5, W6, W7, W8, W9}
 use Rattle.gj_coords.proofs.Lists.ListsStoodFor.{kept_of}
 use Rattle.gj_coords.specs.Internal.ByKind.{same_itself}
@@ -23,19 +26,21 @@ use Rattle.gj_coords.specs.declared.kind_warnings.KindWarnings.{KindWarnings}
 use Rattle.geolint_report.specs.Items.{item_number}
 use Rattle.report_forms.specs.Passing.{contains}
 use Rattle.part_lines.specs.Lines.{framing_word, every_word}
-use Rattle.part_lines.specs.LineText.{body_text, line_text}
+use Rattle.part_lines.specs.LineText.{num, members_of, object_of, name_of, file_members, allowed_kind, allowed_kinds, settings_members, warning_members}
+use Rattle.part_lines.specs.LineText.{warning_if, kind_items, warning_items, valid_members, fault_members, tally_members, note_members, note_items}
+use Rattle.part_lines.specs.LineText.{listed_members, head_members, members_with, body_text, line_text}
 use Rattle.part_lines.specs.Sealed.{body_in, object_in, sealed}
 use Rattle.part_lines.proofs.SealedLines.{body-there}
 use Rattle.part_lines.specs.LineObject.{number_in, text_in, array_in, IsKindName, AreWarnings, AreWarningsOf, IsVerdictIn, AreNotes, IsListedIf, IsLineIn}
-use Rattle.part_lines.specs.Writable.{AreWritableWarnings, IsWritableVerdict, AreWritableNotes, IsWritableIf, IsWritable}
+use Rattle.part_lines.specs.Writable.{Fits, AreWritableWarnings, IsWritableVerdict, AreWritableNotes, IsWritableIf, IsWritable}
 use Rattle.report_forms.specs.declared.options.Kinds.{Kinds}
 use Rattle.part_lines.specs.declared.line.Listed.{Listed}
 use Rattle.geolint_report.specs.declared.every.listing.Item.{Item}
 use Rattle.gj_rules.specs.declared.sequence.verdict.SeqVerdict.{SeqVerdict}
 use Rattle.gj_rules.specs.declared.verdict.Verdict.{Verdict}
-use Rattle.part_lines.proofs.ReadTexts.{read-text}
-use Rattle.part_lines.proofs.MembersRead.{num, allowed-if, allowed-data, warnings-if, kind-data, note-data, verdict-members, few, listed-members-if}
-use Rattle.part_lines.proofs.MembersRead.{head-members, line-members, object-text, text-ends, object-read}
+use Rattle.part_lines.proofs.ReadTexts.{read-text, settled, settled_items, settled_members, settled-items}
+use Rattle.part_lines.proofs.MembersRead.{few, object-read}
+use Rattle.part_lines.proofs.WrittenItems.{line-members, line-ends}
 
 -- ---- what its members say
 
@@ -45,8 +50,16 @@ number-there name it n is = ap (λ o. option_and_then as_u64 (option_and_then as
 text-there : (name : List ℕ) (it : Data) (text : List ℕ) → get name it ≡ Some (string text) → text_in name it ≡ Some text
 text-there name it text is = ap (λ o. option_and_then as_str o) is
 
-array-there : (name : List ℕ) (it : Data) (ds : Items) → get name it ≡ Some (array ds) → array_in name it ≡ Some ds
-array-there name it ds is = ap (λ o. option_and_then as_array o) is
+array-there : (name : List ℕ) (it : Data) (ds : List Data) → get name it ≡ Some (array (settled_items (items_of ds)))
+    → array_in name it ≡ Some (items_of (map settled ds))
+array-there name it ds is = ap (λ o. option_and_then as_array o) is ∙ ap Some (settled-items ds)
+
+place-there : (n : ℕ) → Fits n → Some (u64_saturate n) ≡ Some n
+place-there n small = ap Some (omega (arith, small))
+
+-- what is read of the line with a verdict, and with notes or none
+abbrev found-with : PartLine → ℕ → SeqVerdict → Option Listed → Members
+found-with line begin verdict listed = settled_members (members_of ((codes "geolint_part", num 2) ∷ members_with line begin verdict listed)) no_members
 
 -- those before the verdict
 abbrev HeadIn : PartLine → Members → Type 0
@@ -56,31 +69,24 @@ HeadIn line ms =
     × (get_member (codes "size") ms ≡ Some (num line.file.size)) × (get_member (codes "modified") ms ≡ Some (string (string_bytes line.file.modified)))
     × (get_member (codes "framing") ms ≡ Some (string (framing_word line.settings.framing)))
     × (get_member (codes "max_bytes") ms ≡ Some (num line.settings.limits.bytes)) × (get_member (codes "strict") ms ≡ Some (boolean line.settings.strict))
-    × (get_member (codes "allow") ms ≡ Some (array (items_of (flat_map (allowed-data line.settings.allowed) kinds))))
+    × (get_member (codes "allow") ms ≡ Some (array (settled_items (items_of (allowed_kinds line.settings.allowed)))))
     × (get_member (codes "begin") ms ≡ Some (num line.checked.begin)) × (get_member (codes "end") ms ≡ Some (num line.checked.end))
 
--- with any verdict, and with notes or none
-head-in : (line : PartLine) (begin : ℕ) (verdict : SeqVerdict) (listed : Option Listed)
-    → HeadIn line (listed-members-if begin listed (verdict-members begin verdict (head-members line)))
-head-in line begin (SeqVerdict.Valid records warnings) (Some listed) = (refl, refl, refl, refl, refl, refl, refl, refl, refl, refl, refl, refl)
-head-in line begin (SeqVerdict.Valid records warnings) None = (refl, refl, refl, refl, refl, refl, refl, refl, refl, refl, refl, refl)
-head-in line begin (SeqVerdict.Record n (Verdict.Broken fault)) (Some listed) = (refl, refl, refl, refl, refl, refl, refl, refl, refl, refl, refl, refl)
-head-in line begin (SeqVerdict.Record n (Verdict.Broken fault)) None = (refl, refl, refl, refl, refl, refl, refl, refl, refl, refl, refl, refl)
-head-in line begin (SeqVerdict.Record n (Verdict.NotJson fault)) (Some listed) = (refl, refl, refl, refl, refl, refl, refl, refl, refl, refl, refl, refl)
-head-in line begin (SeqVerdict.Record n (Verdict.NotJson fault)) None = (refl, refl, refl, refl, refl, refl, refl, refl, refl, refl, refl, refl)
-head-in line begin (SeqVerdict.Record n (Verdict.Valid warnings)) (Some listed) = (refl, refl, refl, refl, refl, refl, refl, refl, refl, refl, refl, refl)
-head-in line begin (SeqVerdict.Record n (Verdict.Valid warnings)) None = (refl, refl, refl, refl, refl, refl, refl, refl, refl, refl, refl, refl)
-
-allowed-names : (allowed : Kinds) (all : List Kind) → All IsKindName (flat_map (allowed-data allowed) all)
+allowed-names : (allowed : Kinds) (all : List Kind) → All IsKindName (map settled (flat_map (allowed_kind allowed) all))
 allowed-names allowed [] = All-nil IsKindName
-allowed-names allowed (kind ∷ all) =
-    All-append IsKindName (allowed-data allowed kind) (flat_map (allowed-data allowed) all) (by_test (contains allowed kind)) (allowed-names allowed all)
+allowed-names allowed (kind ∷ all) = by_test (contains allowed kind) (allowed-names allowed all)
   where
-    by_test : (b : Bool) → All IsKindName (allowed-if b kind)
-    by_test true = All-cons IsKindName (string (code_name (Code.Kind kind))) [] (kind, refl) (All-nil IsKindName)
-    by_test false = All-nil IsKindName
+    by_test : (b : Bool) → All IsKindName (map settled (flat_map (allowed_kind allowed) all))
+        → All IsKindName (map settled ((if b then name_of (Code.Kind kind) ∷ [] else []) ++ flat_map (allowed_kind allowed) all))
+    by_test true rest = All-cons IsKindName (name_of (Code.Kind kind)) (map settled (flat_map (allowed_kind allowed) all)) (kind, refl) rest
+    by_test false rest = rest
 
-notes-in : (begin : ℕ) (notes : List Note) → AreWritableNotes begin notes → AreNotes begin (map (note-data begin) notes) notes
+all-names : (allowed : Kinds) → All IsKindName (map settled (allowed_kinds allowed))
+unfolding allowed_kinds
+all-names allowed = allowed-names allowed kinds
+
+notes-in : (begin : ℕ) (notes : List Note) → AreWritableNotes begin notes → AreNotes begin (map settled (note_items begin notes)) notes
+unfolding note_items note_members
 notes-in begin [] all = refl
 notes-in begin (note ∷ notes) all = (
   note,
@@ -90,7 +96,7 @@ notes-in begin (note ∷ notes) all = (
     number = ap (λ (i : Item). Some (item_number i)) all.0.item;
     item = all.0.item;
     code = refl;
-    at = refl;
+    at = place-there (note.told.place + begin) all.0.place_fits;
   },
   refl,
   notes-in begin notes all.1,
@@ -101,22 +107,11 @@ ListedIn begin listed ms =
     (get_member (codes "every") ms ≡ Some (string (every_word listed.asked.with_warnings))) × (get_member (codes "most") ms ≡ Some (num listed.asked.room))
     × (get_member (codes "items") ms ≡ Some (num listed.notes.tally.items)) × (get_member (codes "items_broken") ms ≡ Some (num listed.notes.tally.broken))
     × (get_member (codes "findings") ms ≡ Some (num listed.notes.count))
-    × (get_member (codes "listed") ms ≡ Some (array (items_of (map (note-data begin) listed.notes.notes.items))))
+    × (get_member (codes "listed") ms ≡ Some (array (settled_items (items_of (note_items begin listed.notes.notes.items)))))
 
 abbrev ListedInIf : ℕ → Option Listed → Members → Type 0
 ListedInIf begin (Some listed) ms = ListedIn begin listed ms
 ListedInIf begin None ms = get_member (codes "every") ms ≡ None
-
-listed-in : (line : PartLine) (begin : ℕ) (verdict : SeqVerdict) (listed : Option Listed)
-    → ListedInIf begin listed (listed-members-if begin listed (verdict-members begin verdict (head-members line)))
-listed-in line begin (SeqVerdict.Valid records warnings) (Some listed) = (refl, refl, refl, refl, refl, refl)
-listed-in line begin (SeqVerdict.Valid records warnings) None = refl
-listed-in line begin (SeqVerdict.Record n (Verdict.Broken fault)) (Some listed) = (refl, refl, refl, refl, refl, refl)
-listed-in line begin (SeqVerdict.Record n (Verdict.Broken fault)) None = refl
-listed-in line begin (SeqVerdict.Record n (Verdict.NotJson fault)) (Some listed) = (refl, refl, refl, refl, refl, refl)
-listed-in line begin (SeqVerdict.Record n (Verdict.NotJson fault)) None = refl
-listed-in line begin (SeqVerdict.Record n (Verdict.Valid warnings)) (Some listed) = (refl, refl, refl, refl, refl, refl)
-listed-in line begin (SeqVerdict.Record n (Verdict.Valid warnings)) None = refl
 
 listed-said : (begin : ℕ) (listed : Option Listed) (ms : Members) → IsWritableIf begin listed → ListedInIf begin listed ms → IsListedIf (object ms) begin listed
 listed-said begin (Some listed) ms fits (every, most, items, broken, count, notes) = record {
@@ -127,8 +122,8 @@ listed-said begin (Some listed) ms fits (every, most, items, broken, count, note
   broken = number-there (codes "items_broken") (object ms) _ broken;
   count = number-there (codes "findings") (object ms) _ count;
   notes = (
-    map (note-data begin) listed.notes.notes.items,
-    array-there (codes "listed") (object ms) _ notes,
+    map settled (note_items begin listed.notes.notes.items),
+    array-there (codes "listed") (object ms) (note_items begin listed.notes.notes.items) notes,
     notes-in begin listed.notes.notes.items fits.notes,
   );
 }
@@ -143,21 +138,24 @@ warnings-when kind count None = []
 abbrev kind-warnings : Warnings → Kind → List Warning
 kind-warnings warnings kind = warnings-when kind (count_in kind warnings) (first_in kind warnings)
 
-are-warnings : (begin : ℕ) (warnings : Warnings) → ((kind : Kind) → count_in kind warnings < 2 ^ 32) → (all : List Kind)
-    → AreWarnings begin (flat_map (kind-data begin warnings) all) (flat_map (kind-warnings warnings) all)
-are-warnings begin warnings small [] = refl
-are-warnings begin warnings small (kind ∷ all) = by_first (first_in kind warnings) (are-warnings begin warnings small all)
+are-warnings : (begin : ℕ) (warnings : Warnings) → ((kind : Kind) → count_in kind warnings < 2 ^ 32)
+    → ((kind : Kind) (place : ℕ) → first_in kind warnings ≡ Some place → Fits (place + begin)) → (all : List Kind)
+    → AreWarnings begin (map settled (flat_map (kind_items begin warnings) all)) (flat_map (kind-warnings warnings) all)
+unfolding warning_members
+are-warnings begin warnings small fit [] = refl
+are-warnings begin warnings small fit (kind ∷ all) = by_first (first_in kind warnings) refl (are-warnings begin warnings small fit all)
   where
-    by_first : (first : Option ℕ) → AreWarnings begin (flat_map (kind-data begin warnings) all) (flat_map (kind-warnings warnings) all)
-        → AreWarnings begin (warnings-if begin kind (count_in kind warnings) first ++ flat_map (kind-data begin warnings) all)
+    by_first : (first : Option ℕ) → first_in kind warnings ≡ first
+        → AreWarnings begin (map settled (flat_map (kind_items begin warnings) all)) (flat_map (kind-warnings warnings) all)
+        → AreWarnings begin (map settled (warning_if begin kind (count_in kind warnings) first ++ flat_map (kind_items begin warnings) all))
         (warnings-when kind (count_in kind warnings) first ++ flat_map (kind-warnings warnings) all)
-    by_first None rest = rest
-    by_first (Some place) rest = (
+    by_first None is rest = rest
+    by_first (Some place) is rest = (
       kind,
       count_in kind warnings,
       place,
       flat_map (kind-warnings warnings) all,
-      record { name = refl; count = refl; fits = small kind; at = refl },
+      record { name = refl; count = refl; fits = small kind; at = place-there (place + begin) (fit kind place is) },
       refl,
       rest,
     )
@@ -196,22 +194,23 @@ noted-other : (kind other : Kind) (place n : ℕ) → same_kind other kind ≡ f
 noted-other kind other place n apart =
     ap (λ (l : List ℕ). noted_as (min (length l) greatest_count) (unwrap_or (least_place l) 0)) (places-other kind other place n apart)
 
-abbrev AllOther : Kind → List Kind → Type 0
-AllOther kind [] = Unit {0}
-AllOther kind (other ∷ all) = (same_kind other kind ≡ false) × AllOther kind all
+abbrev is-among : Kind → List Kind → Bool
+is-among kind [] = false
+is-among kind (other ∷ all) = same_kind other kind || is-among kind all
 
 noted-when : (kind other : Kind) (count : ℕ) (first : Option ℕ) → same_kind other kind ≡ false → noted_of kind (warnings-when other count first) ≡ nothing_noted
 noted-when kind other count (Some place) apart = noted-other kind other place count apart
 noted-when kind other count None apart = refl
 
-noted-all-other : (warnings : Warnings) (kind : Kind) (all : List Kind) → AllOther kind all
+noted-all-other : (warnings : Warnings) (kind : Kind) (all : List Kind) → is-among kind all ≡ false
     → noted_of kind (flat_map (kind-warnings warnings) all) ≡ nothing_noted
 noted-all-other warnings kind [] apart = refl
 noted-all-other warnings kind (other ∷ all) apart =
+    let (here, later) = or_parts (same_kind other kind) (is-among kind all) apart in
     noted_of-append kind (kind-warnings warnings other) (flat_map (kind-warnings warnings) all)
     ∙ (ap (λ (k : KindWarnings). joined_noted k (noted_of kind (flat_map (kind-warnings warnings) all)))
-    (noted-when kind other (count_in other warnings) (first_in other warnings) apart.0)
-    ∙ noted-all-other warnings kind all apart.1)
+    (noted-when kind other (count_in other warnings) (first_in other warnings) here)
+    ∙ noted-all-other warnings kind all later)
 
 -- what is kept of one kind
 noted-kept : (kind : Kind) (k : KindWarnings) (t : Bool) → (k.count == 0) ≡ t → k.count ≤ greatest_count → (k.count ≡ 0 → k.first ≡ 0)
@@ -238,8 +237,8 @@ kind-noted warnings list stands kind =
     none-first [] e = refl
     none-first (place ∷ places) e = absurd (omega (arith, e))
 
-noted-among : (warnings : Warnings) (list : List Warning) → StandsFor warnings list → (kind : Kind) (before after : List Kind) → AllOther kind before
-    → AllOther kind after
+noted-among : (warnings : Warnings) (list : List Warning) → StandsFor warnings list → (kind : Kind) (before after : List Kind) → is-among kind before ≡ false
+    → is-among kind after ≡ false
     → noted_of kind (flat_map (kind-warnings warnings) (before ++ kind ∷ after)) ≡ noted_of kind list
 noted-among warnings list stands kind before after apart others =
     let one = kind-warnings warnings kind in
@@ -252,42 +251,15 @@ noted-among warnings list stands kind before after apart others =
 
 noted-all : (warnings : Warnings) (list : List Warning) → StandsFor warnings list → (kind : Kind)
     → noted_of kind (flat_map (kind-warnings warnings) kinds) ≡ noted_of kind list
-noted-all warnings list stands W1 =
-    noted-among warnings list stands W1 [] (W2 ∷ W3 ∷ W4 ∷ W5 ∷ W6 ∷ W7 ∷ W8 ∷ W9 ∷ [])
-    tt
-    (refl, (refl, (refl, (refl, (refl, (refl, (refl, (refl, tt))))))))
-noted-all warnings list stands W2 =
-    noted-among warnings list stands W2 (W1 ∷ []) (W3 ∷ W4 ∷ W5 ∷ W6 ∷ W7 ∷ W8 ∷ W9 ∷ [])
-    (refl, tt)
-    (refl, (refl, (refl, (refl, (refl, (refl, (refl, tt)))))))
-noted-all warnings list stands W3 =
-    noted-among warnings list stands W3 (W1 ∷ W2 ∷ []) (W4 ∷ W5 ∷ W6 ∷ W7 ∷ W8 ∷ W9 ∷ [])
-    (refl, (refl, tt))
-    (refl, (refl, (refl, (refl, (refl, (refl, tt))))))
-noted-all warnings list stands W4 =
-    noted-among warnings list stands W4 (W1 ∷ W2 ∷ W3 ∷ []) (W5 ∷ W6 ∷ W7 ∷ W8 ∷ W9 ∷ [])
-    (refl, (refl, (refl, tt)))
-    (refl, (refl, (refl, (refl, (refl, tt)))))
-noted-all warnings list stands W5 =
-    noted-among warnings list stands W5 (W1 ∷ W2 ∷ W3 ∷ W4 ∷ []) (W6 ∷ W7 ∷ W8 ∷ W9 ∷ [])
-    (refl, (refl, (refl, (refl, tt))))
-    (refl, (refl, (refl, (refl, tt))))
-noted-all warnings list stands W6 =
-    noted-among warnings list stands W6 (W1 ∷ W2 ∷ W3 ∷ W4 ∷ W5 ∷ []) (W7 ∷ W8 ∷ W9 ∷ [])
-    (refl, (refl, (refl, (refl, (refl, tt)))))
-    (refl, (refl, (refl, tt)))
-noted-all warnings list stands W7 =
-    noted-among warnings list stands W7 (W1 ∷ W2 ∷ W3 ∷ W4 ∷ W5 ∷ W6 ∷ []) (W8 ∷ W9 ∷ [])
-    (refl, (refl, (refl, (refl, (refl, (refl, tt))))))
-    (refl, (refl, tt))
-noted-all warnings list stands W8 =
-    noted-among warnings list stands W8 (W1 ∷ W2 ∷ W3 ∷ W4 ∷ W5 ∷ W6 ∷ W7 ∷ []) (W9 ∷ [])
-    (refl, (refl, (refl, (refl, (refl, (refl, (refl, tt)))))))
-    (refl, tt)
-noted-all warnings list stands W9 =
-    noted-among warnings list stands W9 (W1 ∷ W2 ∷ W3 ∷ W4 ∷ W5 ∷ W6 ∷ W7 ∷ W8 ∷ []) []
-    (refl, (refl, (refl, (refl, (refl, (refl, (refl, (refl, tt))))))))
-    tt
+noted-all warnings list stands W1 = noted-among warnings list stands W1 (take 0 kinds) (drop 1 kinds) refl refl
+noted-all warnings list stands W2 = noted-among warnings list stands W2 (take 1 kinds) (drop 2 kinds) refl refl
+noted-all warnings list stands W3 = noted-among warnings list stands W3 (take 2 kinds) (drop 3 kinds) refl refl
+noted-all warnings list stands W4 = noted-among warnings list stands W4 (take 3 kinds) (drop 4 kinds) refl refl
+noted-all warnings list stands W5 = noted-among warnings list stands W5 (take 4 kinds) (drop 5 kinds) refl refl
+noted-all warnings list stands W6 = noted-among warnings list stands W6 (take 5 kinds) (drop 6 kinds) refl refl
+noted-all warnings list stands W7 = noted-among warnings list stands W7 (take 6 kinds) (drop 7 kinds) refl refl
+noted-all warnings list stands W8 = noted-among warnings list stands W8 (take 7 kinds) (drop 8 kinds) refl refl
+noted-all warnings list stands W9 = noted-among warnings list stands W9 (take 8 kinds) (drop 9 kinds) refl refl
 
 stand-again : (warnings : Warnings) (list : List Warning) → StandsFor warnings list → StandsFor warnings (flat_map (kind-warnings warnings) kinds)
 unfolding warnings_of
@@ -298,38 +270,65 @@ stand-again warnings list stands =
 -- ---- the verdict is what they say
 
 warnings-said : (begin : ℕ) (warnings : Warnings) → AreWritableWarnings begin warnings
-    → (items : List Data) × (Some (items_of (flat_map (kind-data begin warnings) kinds)) ≡ Some (items_of items)) × AreWarningsOf begin items warnings
+    → AreWarningsOf begin (map settled (warning_items begin warnings)) warnings
+unfolding warning_items
 warnings-said begin warnings fits = (
-  flat_map (kind-data begin warnings) kinds,
-  refl,
-  (
-    flat_map (kind-warnings warnings) kinds,
-    are-warnings begin warnings (λ kind. few kind warnings fits.list fits.stands) kinds,
-    stand-again warnings fits.list fits.stands,
-  ),
+  flat_map (kind-warnings warnings) kinds,
+  are-warnings begin warnings (λ kind. few kind warnings fits.list fits.stands) fits.fit kinds,
+  stand-again warnings fits.list fits.stands,
 )
 
-verdict-said : (line : PartLine) (begin : ℕ) (verdict : SeqVerdict) (listed : Option Listed) → IsWritableVerdict begin verdict
-    → IsVerdictIn (object (listed-members-if begin listed (verdict-members begin verdict (head-members line)))) begin verdict
-verdict-said line begin (SeqVerdict.Valid records warnings) (Some listed) fits = (
-  refl,
-  warnings-said begin warnings fits.1,
+all-warnings-said : (begin : ℕ) (warnings : Warnings) → AreWritableWarnings begin warnings
+    → (items : List Data) × (Some (settled_items (items_of (warning_items begin warnings))) ≡ Some (items_of items)) × AreWarningsOf begin items warnings
+all-warnings-said begin warnings fits = (
+  map settled (warning_items begin warnings),
+  ap Some (settled-items (warning_items begin warnings)),
+  warnings-said begin warnings fits,
 )
-verdict-said line begin (SeqVerdict.Valid records warnings) None fits = (
-  refl,
-  warnings-said begin warnings fits.1,
-)
-verdict-said line begin (SeqVerdict.Record n (Verdict.Broken fault)) (Some listed) fits = (refl, refl, (refl, refl))
-verdict-said line begin (SeqVerdict.Record n (Verdict.Broken fault)) None fits = (refl, refl, (refl, refl))
-verdict-said line begin (SeqVerdict.Record n (Verdict.NotJson fault)) (Some listed) fits = (refl, refl, (refl, refl))
-verdict-said line begin (SeqVerdict.Record n (Verdict.NotJson fault)) None fits = (refl, refl, (refl, refl))
-verdict-said line begin (SeqVerdict.Record n (Verdict.Valid warnings)) listed fits = absurd fits
 
-line-said : (line : PartLine) → IsWritable line → IsLineIn (object (line-members line)) line
+-- with any verdict, and with notes or none
+members-said : (line : PartLine) (begin : ℕ) (verdict : SeqVerdict) (listed : Option Listed) → IsWritableVerdict begin verdict
+    → HeadIn line (found-with line begin verdict listed) × ListedInIf begin listed (found-with line begin verdict listed)
+    × IsVerdictIn (object (found-with line begin verdict listed)) begin verdict
+unfolding head_members file_members settings_members valid_members fault_members listed_members tally_members
+members-said line begin (SeqVerdict.Valid records warnings) (Some listed) fits = (
+  (refl, refl, refl, refl, refl, refl, refl, refl, refl, refl, refl, refl),
+  (refl, refl, refl, refl, refl, refl),
+  (refl, all-warnings-said begin warnings fits.1),
+)
+members-said line begin (SeqVerdict.Record n (Verdict.Broken fault)) (Some listed) fits = (
+  (refl, refl, refl, refl, refl, refl, refl, refl, refl, refl, refl, refl),
+  (refl, refl, refl, refl, refl, refl),
+  (refl, refl, (refl, place-there (fault.place + begin) fits.1)),
+)
+members-said line begin (SeqVerdict.Record n (Verdict.NotJson fault)) (Some listed) fits = (
+  (refl, refl, refl, refl, refl, refl, refl, refl, refl, refl, refl, refl),
+  (refl, refl, refl, refl, refl, refl),
+  (refl, refl, (refl, place-there (fault.place + begin) fits.1)),
+)
+members-said line begin (SeqVerdict.Valid records warnings) None fits = (
+  (refl, refl, refl, refl, refl, refl, refl, refl, refl, refl, refl, refl),
+  refl,
+  (refl, all-warnings-said begin warnings fits.1),
+)
+members-said line begin (SeqVerdict.Record n (Verdict.Broken fault)) None fits = (
+  (refl, refl, refl, refl, refl, refl, refl, refl, refl, refl, refl, refl),
+  refl,
+  (refl, refl, (refl, place-there (fault.place + begin) fits.1)),
+)
+members-said line begin (SeqVerdict.Record n (Verdict.NotJson fault)) None fits = (
+  (refl, refl, refl, refl, refl, refl, refl, refl, refl, refl, refl, refl),
+  refl,
+  (refl, refl, (refl, place-there (fault.place + begin) fits.1)),
+)
+members-said line begin (SeqVerdict.Record n (Verdict.Valid warnings)) listed fits = absurd fits
+
+line-said : (line : PartLine) → IsWritable line → IsLineIn (settled (object_of (line-members line))) line
 line-said line fits =
-    let it = object (line-members line) in
-    let (version, part, parts, path, size, modified, framing, bytes, strict, allow, begin, end) =
-    head-in line line.checked.begin line.checked.verdict line.listed in
+    let ms = found-with line line.checked.begin line.checked.verdict line.listed in
+    let it = object ms in
+    let (head, notes, verdict) = members-said line line.checked.begin line.checked.verdict line.listed fits.verdict in
+    let (version, part, parts, path, size, modified, framing, bytes, strict, allow, begin, end) = head in
     record {
       version = number-there (codes "geolint_part") it 2 version;
       file = record {
@@ -344,18 +343,18 @@ line-said line fits =
         depth = fits.depth;
         strict = ap (λ o. option_and_then as_bool o) strict;
         allow = (
-          flat_map (allowed-data line.settings.allowed) kinds,
-          array-there (codes "allow") it _ allow,
-          allowed-names line.settings.allowed kinds,
+          map settled (allowed_kinds line.settings.allowed),
+          array-there (codes "allow") it (allowed_kinds line.settings.allowed) allow,
+          all-names line.settings.allowed,
         );
       };
       share = record { part = number-there (codes "part") it _ part; parts = number-there (codes "parts") it _ parts };
       checked = record {
         begin = number-there (codes "begin") it _ begin;
         end = number-there (codes "end") it _ end;
-        verdict = verdict-said line line.checked.begin line.checked.verdict line.listed fits.verdict;
+        verdict = verdict;
       };
-      listed = listed-said line.checked.begin line.listed (line-members line) fits.listed (listed-in line line.checked.begin line.checked.verdict line.listed);
+      listed = listed-said line.checked.begin line.listed ms fits.listed notes;
     }
 
 pub line-read : (line : PartLine) → IsWritable line
@@ -364,12 +363,12 @@ pub line-read : (line : PartLine) → IsWritable line
 line-read line fits =
     let body = body_text line in
     let there : body ≡ body_in (sealed body) = sym (body-there body) in
-    let same : object-text line (codes "}") ≡ object_in (sealed body) = sym (text-ends line) ∙ ap (λ (l : List ℕ). l ++ codes "}") there in (
+    let it = object_of (line-members line) in
+    let same : compact_text it ≡ object_in (sealed body) = line-ends line ∙ ap (λ (l : List ℕ). l ++ codes "}") there in (
       sealed body,
-      object (line-members line),
+      settled it,
       refl,
       ap sealed there,
-      subst (λ (l : List ℕ). read l ≡ Some (object (line-members line))) same
-          (read-text 3 (object-text line (codes "}")) (object (line-members line)) (omega arith) (object-read line fits)),
+      subst (λ (l : List ℕ). read l ≡ Some (settled it)) same (read-text 3 it (omega arith) (object-read line fits)),
       line-said line fits,
     )

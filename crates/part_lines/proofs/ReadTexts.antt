@@ -1,158 +1,113 @@
--- Texts of JSON, one member after another.
-use Rattle.std.proofs.Common.{arith, ◌≡◌, ◌<◌, ◌≤◌, ◌^◌, ℕ, suc, refl, ap, sym, ◌∙◌, Bool, true, false, Some}
-use Rattle.std.proofs.Common.{List, [], ◌∷◌, ◌++◌, fold, append_assoc, append-nil, codes, decimal}
+-- What is read of the text of a value.
+use Rattle.std.proofs.Common.{arith, ◌≡◌, ◌<◌, ◌≤◌, ◌^◌, ℕ, suc, refl, ap, sym, ◌∙◌, Bool, Some}
+use Rattle.std.proofs.Common.{List, [], ◌∷◌, ◌++◌, append-nil, flat_map, map}
 use Rattle.std.specs.Prelude.{option_and_then, option_map}
-use Rattle.std.proofs.lemmas.List.Sums.{fold-append}
 use Rattle.json.specs.Json as json
-use Rattle.json.specs.Token.{Token}
 use Rattle.json.specs.Lex.{tokens}
-use Rattle.json.specs.Print.{quoted, ends, token_text, print, print_from}
 use Rattle.json.specs.Tree as tree
 use Rattle.json.proofs.Printed.Decimals.{IsNumber-decimal}
-use Rattle.json.proofs.Printed.Tokens.{tokens-print, print_from-append}
+use Rattle.json.proofs.Printed.Tokens.{tokens-print}
 use Rattle.json.proofs.Printed.Trees.{value-json_tokens, ArePrintable-json_tokens}
 use Rattle.serde_json.proofs.Numbers.{number_of-decimal}
-use Rattle.serde_json.specs.Data.{Data, Items, no_items, item, Members, no_members, put, number, unsigned, string, boolean, array, object}
+use Rattle.serde_json.proofs.Texts.{print-outline}
+use Rattle.serde_json.specs.Data.{Data, null, boolean, number, string, array, object, Items, no_items, item, Members, no_members, member, put}
 use Rattle.serde_json.specs.Read.{of_json, of_items, of_members, read}
-use Rattle.part_lines.specs.Internal.JsonTexts.{Reads, ReadsItems, ReadsMembers}
+use Rattle.serde_json.specs.View.{items_of}
+use Rattle.serde_json.specs.Written.{outline, items_outline, members_outline, compact_text}
+use Rattle.part_lines.specs.LineText.{Named, num, members_of, object_of, array_of}
 
--- ---- the whole text
+-- the members of each object in the order of their names
+abbrev mutual
+  pub settled : Data → Data
+  settled null = null
+  settled (boolean b) = boolean b
+  settled (number n) = number n
+  settled (string s) = string s
+  settled (array ds) = array (settled_items ds)
+  settled (object ms) = object (settled_members ms no_members)
 
-pub read-text : (levels : ℕ) (text : List ℕ) (d : Data) → levels ≤ 127 → Reads levels text d → read text ≡ Some d
-read-text levels text d shallow h =
-    let ts = tree.json_tokens h.value in
-    let same : tokens text ≡ ts = ap tokens (sym h.text_is) ∙ tokens-print ts (ArePrintable-json_tokens h.value h.numbers) in
+  pub settled_items : Items → Items
+  settled_items no_items = no_items
+  settled_items (item d ds) = item (settled d) (settled_items ds)
+
+  pub settled_members : Members → Members → Members
+  settled_members no_members found = found
+  settled_members (member k d ms) found = settled_members ms (put k (settled d) found)
+
+pub settled-items : (ds : List Data) → settled_items (items_of ds) ≡ items_of (map settled ds)
+settled-items [] = refl
+settled-items (d ∷ ds) = ap (item (settled d)) (settled-items ds)
+
+-- its text is read as it is, and nests no deeper than this
+pub record IsReadable (levels : ℕ) (d : Data) : Type 0 where
+  pub is : of_json (outline d) ≡ Some (settled d)
+  pub numbers : tree.HasNumbers (outline d)
+  pub nests : tree.depth (outline d) ≤ levels
+
+abbrev pub AreReadable : ℕ → List Data → Type 0
+AreReadable levels [] = Unit {0}
+AreReadable levels (d ∷ ds) = IsReadable levels d × AreReadable levels ds
+
+abbrev pub AreNamed : ℕ → List Named → Type 0
+AreNamed levels [] = Unit {0}
+AreNamed levels (m ∷ ms) = IsReadable levels m.1 × AreNamed levels ms
+
+pub read-text : (levels : ℕ) (d : Data) → levels ≤ 127 → IsReadable levels d → read (compact_text d) ≡ Some (settled d)
+read-text levels d shallow h =
+    let ts = tree.json_tokens (outline d) in
+    let same : tokens (compact_text d) ≡ ts = ap tokens (sym (print-outline d)) ∙ tokens-print ts (ArePrintable-json_tokens (outline d) h.numbers) in
     ap (λ o. option_and_then of_json (option_and_then (λ p. json.if_last p.0 p.1) o))
-    (ap (json.value 127) (same ∙ sym (append-nil ts)) ∙ value-json_tokens h.value 127 [] (omega (arith, h.nests, shallow)))
+    (ap (json.value 127) (same ∙ sym (append-nil ts)) ∙ value-json_tokens (outline d) 127 [] (omega (arith, h.nests, shallow)))
     ∙ h.is
 
--- ---- values
+pub reads-number : (levels n : ℕ) → n < 2 ^ 64 → IsReadable levels (num n)
+reads-number levels n small = record { is = ap (option_map _) (number_of-decimal n small); numbers = IsNumber-decimal n small; nests = omega arith }
 
-pub reads-number : (levels n : ℕ) → n < 2 ^ 64 → Reads levels (decimal n) (number (unsigned n))
-unfolding print_from
-reads-number levels n small = record {
-  value = json.number (decimal n);
-  is = ap (option_map number) (number_of-decimal n small);
-  numbers = IsNumber-decimal n small;
-  nests = omega arith;
-  text_is = append-nil (decimal n);
-}
+pub reads-string : (levels : ℕ) (s : List ℕ) → IsReadable levels (string s)
+reads-string levels s = record { is = refl; numbers = tt; nests = omega arith }
 
-pub reads-string : (levels : ℕ) (s : List ℕ) → Reads levels (quoted s) (string s)
-unfolding print_from
-reads-string levels s = record { value = json.string s; is = refl; numbers = tt; nests = omega arith; text_is = append-nil (quoted s) }
+pub reads-boolean : (levels : ℕ) (b : Bool) → IsReadable levels (boolean b)
+reads-boolean levels b = record { is = refl; numbers = tt; nests = omega arith }
 
-pub reads-boolean : (levels : ℕ) (b : Bool) → Reads levels (token_text (Token.boolean b)) (boolean b)
-unfolding print_from
-reads-boolean levels b = record { value = json.boolean b; is = refl; numbers = tt; nests = omega arith; text_is = append-nil (token_text (Token.boolean b)) }
+pub reads-append : (levels : ℕ) (ds others : List Data) → AreReadable levels ds → AreReadable levels others → AreReadable levels (ds ++ others)
+reads-append levels [] others h k = k
+reads-append levels (d ∷ ds) others h k = (h.0, reads-append levels ds others h.1 k)
 
--- a value has just ended
-mutual
-  ends-value : (c : Bool) (j : json.Json) → fold (λ _ t. ends t) c (tree.json_tokens j) ≡ true
-  ends-value c json.null = refl
-  ends-value c (json.boolean b) = refl
-  ends-value c (json.number s) = refl
-  ends-value c (json.string s) = refl
-  ends-value c (json.array js) = ends-items false js
-  ends-value c (json.object ms) = ends-members false ms
+pub reads-flat : {X : Type 0} (levels : ℕ) (f : X → List Data) → ((x : X) → AreReadable levels (f x)) → (xs : List X) → AreReadable levels (flat_map f xs)
+reads-flat levels f each [] = tt
+reads-flat levels f each (x ∷ xs) = reads-append levels (f x) (flat_map f xs) (each x) (reads-flat levels f each xs)
 
-  ends-items : (c : Bool) (js : json.Items) → fold (λ _ t. ends t) c (tree.items_tokens js) ≡ true
-  ends-items c json.no_items = refl
-  ends-items c (json.item j js) =
-      fold-append (λ _ t. ends t) c (tree.json_tokens j) (tree.items_tokens js) ∙ ends-items (fold (λ _ t. ends t) c (tree.json_tokens j)) js
+pub named-append : (levels : ℕ) (ms others : List Named) → AreNamed levels ms → AreNamed levels others → AreNamed levels (ms ++ others)
+named-append levels [] others h k = k
+named-append levels (m ∷ ms) others h k = (h.0, named-append levels ms others h.1 k)
 
-  ends-members : (c : Bool) (ms : json.Members) → fold (λ _ t. ends t) c (tree.members_tokens ms) ≡ true
-  ends-members c json.no_members = refl
-  ends-members c (json.member k j ms) =
-      fold-append (λ _ t. ends t) false (tree.json_tokens j) (tree.members_tokens ms) ∙ ends-members (fold (λ _ t. ends t) false (tree.json_tokens j)) ms
+items-read : (levels : ℕ) (ds : List Data) → AreReadable levels ds → (of_items (items_outline (items_of ds)) ≡ Some (settled_items (items_of ds)))
+    × tree.ItemsHaveNumbers (items_outline (items_of ds)) × (tree.items_depth (items_outline (items_of ds)) ≤ levels)
+items-read levels [] h = (refl, tt, omega arith)
+items-read levels (d ∷ ds) h =
+    let (is, numbers, nests) = items-read levels ds h.1 in (
+      ap (λ o. option_and_then (λ e. option_map (item e) (of_items (items_outline (items_of ds)))) o) h.0.is ∙ ap (option_map (item (settled d))) is,
+      (h.0.numbers, numbers),
+      omega (arith, h.0.nests, nests),
+    )
 
--- a comma before it
-abbrev pub comma : Bool → List ℕ
-comma true = 44 ∷ []
-comma false = []
+pub reads-array : (levels : ℕ) (ds : List Data) → AreReadable levels ds → IsReadable (suc levels) (array_of ds)
+reads-array levels ds h =
+    let (is, numbers, nests) = items-read levels ds h in
+    record { is = ap (option_map array) is; numbers = numbers; nests = omega (arith, nests) }
 
-then-printed : (c : Bool) (j : json.Json) (ts : List Token) → print_from c (tree.json_tokens j ++ ts) ≡ print_from c (tree.json_tokens j) ++ print_from true ts
-then-printed c j ts =
-    print_from-append c (tree.json_tokens j) ts
-    ∙ ap (λ (b : Bool). print_from c (tree.json_tokens j) ++ print_from b ts) (ends-value c j)
+members-read : (levels : ℕ) (ms : List Named) (found : Members) → AreNamed levels ms
+    → (of_members (members_outline (members_of ms)) found ≡ Some (settled_members (members_of ms) found))
+    × tree.MembersHaveNumbers (members_outline (members_of ms)) × (tree.members_depth (members_outline (members_of ms)) ≤ levels)
+members-read levels [] found h = (refl, tt, omega arith)
+members-read levels (m ∷ ms) found h =
+    let (is, numbers, nests) = members-read levels ms (put m.0 (settled m.1) found) h.1 in (
+      ap (λ o. option_and_then (λ e. of_members (members_outline (members_of ms)) (put m.0 e found)) o) h.0.is ∙ is,
+      (h.0.numbers, numbers),
+      omega (arith, h.0.nests, nests),
+    )
 
--- after a value there is a comma before the next
-comma-first : (j : json.Json) → print_from true (tree.json_tokens j) ≡ 44 ∷ print (tree.json_tokens j)
-unfolding print_from
-comma-first json.null = refl
-comma-first (json.boolean b) = refl
-comma-first (json.number s) = refl
-comma-first (json.string s) = refl
-comma-first (json.array js) = refl
-comma-first (json.object ms) = refl
-
-with-comma : (c : Bool) (j : json.Json) → print_from c (tree.json_tokens j) ≡ comma c ++ print (tree.json_tokens j)
-with-comma true j = comma-first j
-with-comma false j = refl
-
--- ---- items
-
-pub no-more-items : (levels : ℕ) (after : Bool) → ReadsItems levels after (codes "]") no_items
-unfolding print_from
-no-more-items levels true = record { values = json.no_items; is = refl; numbers = tt; nests = omega arith; text_is = refl }
-no-more-items levels false = record { values = json.no_items; is = refl; numbers = tt; nests = omega arith; text_is = refl }
-
-pub one-item : (levels : ℕ) (after : Bool) (text more : List ℕ) (d : Data) (ds : Items) → Reads levels text d → ReadsItems levels true more ds
-    → ReadsItems levels after (comma after ++ (text ++ more)) (item d ds)
-one-item levels after text more d ds h k = record {
-  values = json.item h.value k.values;
-  is = ap (λ o. option_and_then (λ d. option_map (item d) (of_items k.values)) o) h.is ∙ ap (option_map (item d)) k.is;
-  numbers = (h.numbers, k.numbers);
-  nests = omega (arith, h.nests, k.nests);
-  text_is = then-printed after h.value (tree.items_tokens k.values)
-      ∙ (ap (λ (l : List ℕ). l ++ print_from true (tree.items_tokens k.values)) (with-comma after h.value ∙ ap (λ (l : List ℕ). comma after ++ l) h.text_is)
-      ∙ (ap (λ (l : List ℕ). (comma after ++ text) ++ l) k.text_is ∙ append_assoc (comma after) text more));
-}
-
-pub reads-array : (levels : ℕ) (text : List ℕ) (ds : Items) → ReadsItems levels false text ds → Reads (suc levels) (codes "[" ++ text) (array ds)
-unfolding print_from
-reads-array levels text ds h = record {
-  value = json.array h.values;
-  is = ap (option_map array) h.is;
-  numbers = h.numbers;
-  nests = omega (arith, h.nests);
-  text_is = ap (λ (l : List ℕ). 91 ∷ l) h.text_is;
-}
-
--- ---- members
-
-pub no-more-members : (levels : ℕ) (after : Bool) (all : Members) → ReadsMembers levels after (codes "}") all all
-unfolding print_from
-no-more-members levels true all = record { values = json.no_members; is = refl; numbers = tt; nests = omega arith; text_is = refl }
-no-more-members levels false all = record { values = json.no_members; is = refl; numbers = tt; nests = omega arith; text_is = refl }
-
-key-first : (after : Bool) (name : List ℕ) (ts : List Token)
-    → print_from after (Token.key name ∷ ts) ≡ comma after ++ (quoted name ++ (codes ":" ++ print_from false ts))
-unfolding print_from
-key-first true name ts = ap (λ (l : List ℕ). 44 ∷ l) (append_assoc (quoted name) (codes ":") (print_from false ts))
-key-first false name ts = append_assoc (quoted name) (codes ":") (print_from false ts)
-
-pub one-member : (levels : ℕ) (after : Bool) (name text more : List ℕ) (d : Data) (found all : Members) → Reads levels text d
-    → ReadsMembers levels true more (put name d found) all
-    → ReadsMembers levels after (comma after ++ (quoted name ++ (codes ":" ++ (text ++ more)))) found all
-one-member levels after name text more d found all h k = record {
-  values = json.member name h.value k.values;
-  is = ap (λ o. option_and_then (λ d. of_members k.values (put name d found)) o) h.is ∙ k.is;
-  numbers = (h.numbers, k.numbers);
-  nests = omega (arith, h.nests, k.nests);
-  text_is = key-first after name (tree.json_tokens h.value ++ tree.members_tokens k.values)
-      ∙ ap (λ (l : List ℕ). comma after ++ (quoted name ++ (codes ":" ++ l)))
-      (then-printed false h.value (tree.members_tokens k.values)
-      ∙ (ap (λ (l : List ℕ). l ++ print_from true (tree.members_tokens k.values)) h.text_is ∙ ap (λ (l : List ℕ). text ++ l) k.text_is));
-}
-
-pub reads-object : (levels : ℕ) (text : List ℕ) (all : Members) → ReadsMembers levels false text no_members all
-    → Reads (suc levels) (codes "{" ++ text) (object all)
-unfolding print_from
-reads-object levels text all h = record {
-  value = json.object h.values;
-  is = ap (option_map object) h.is;
-  numbers = h.numbers;
-  nests = omega (arith, h.nests);
-  text_is = ap (λ (l : List ℕ). 123 ∷ l) h.text_is;
-}
+pub reads-object : (levels : ℕ) (ms : List Named) → AreNamed levels ms → IsReadable (suc levels) (object_of ms)
+reads-object levels ms h =
+    let (is, numbers, nests) = members-read levels ms no_members h in
+    record { is = ap (option_map object) is; numbers = numbers; nests = omega (arith, nests) }

@@ -1,3 +1,2 @@
 -- What the proofs and the private functions of this crate need.
 pub mod NotesSoFar
-pub mod JsonTexts

@@ -395,6 +395,7 @@ fn code_named(name: &str) -> Option<Code>
     None
 }
 
+#[tactic(auto, unfolding(crate::proofs::NamesRead::names_computed))]
 fn rule_named(name: &str) -> Option<Rule>
     ensures word { IfSome result (λ rule. code_name (Code.Rule rule) ≡ name.now) }
     ensures all { (rule : Rule) → name.now ≡ code_name (Code.Rule rule) → IsSome result }
@@ -425,6 +426,7 @@ fn rule_named(name: &str) -> Option<Rule>
     }
 }
 
+#[tactic(auto, using(crate::proofs::NamesRead::no_kind), unfolding(crate::proofs::NamesRead::names_computed))]
 fn kind_named(name: &str) -> Option<Kind>
     ensures word { IfSome result (λ kind. code_name (Code.Kind kind) ≡ name.now) }
     ensures all { (kind : Kind) → name.now ≡ code_name (Code.Kind kind) → IsSome result }
@@ -443,6 +445,7 @@ fn kind_named(name: &str) -> Option<Kind>
     }
 }
 
+#[tactic(auto, using(crate::proofs::NamesRead::no_cause), unfolding(crate::proofs::NamesRead::names_computed))]
 fn cause_named(name: &str) -> Option<Cause>
     ensures word { IfSome result (λ cause. code_name (Code.Cause cause) ≡ name.now) }
     ensures all { (cause : Cause) → name.now ≡ code_name (Code.Cause cause) → IsSome result }

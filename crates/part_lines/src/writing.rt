@@ -1,20 +1,21 @@
 //! Writes the line of a part.
 
-ghost use Rattle.std.specs.Prelude.{◌≡◌, ◌&&◌, IfOk, OnOk, string_bytes, get_or};
+ghost use Rattle.std.specs.Prelude.{◌≡◌, ◌∷◌, ◌++◌, IfOk, OnOk, string_bytes, get_or, codes, drop};
 ghost use Rattle.std.specs.Fmt.{decimal};
 ghost use Rattle.std.specs.List.{flat_map};
 ghost use Rattle.gj_coords.specs.Warnings.{kinds};
 ghost use Rattle.geolint_report.specs.Items.{item_number};
 ghost use Rattle.geolint_report.specs.Slots.{slot_of};
+ghost use Rattle.geolint_report.specs.Texts.{code_name};
 ghost use Rattle.geolint_report.specs.declared.texts.TheConstants.{RULES, CAUSES};
 ghost use Rattle.geolint_report.specs.Line.{Adds};
 ghost use Rattle.json.specs.Print.{quoted};
-ghost use Rattle.part_lines.specs.LineText.{line_text, body_text, file_text, settings_text, allowed_text, allowed_kind, code_string, place_text};
-ghost use Rattle.part_lines.specs.LineText.{verdict_text, valid_text, broken_text, record_text, fault_text, warnings_text, kind_texts, warning_text};
-ghost use Rattle.part_lines.specs.LineText.{listed_text, listed_text_of, tally_text, counts_text, rule_counts, kind_counts};
-ghost use Rattle.part_lines.specs.LineText.{cause_counts, count_texts, count_text, notes_text, note_texts, note_text};
+ghost use Rattle.serde_json.specs.Written.{compact_text};
+ghost use Rattle.part_lines.specs.LineText.{line_text, body_text, num, array_of, object_of, items_text, more_text, file_members, settings_members};
+ghost use Rattle.part_lines.specs.LineText.{allowed_kinds, allowed_kind, place_in_file, verdict_members, valid_members, record_members, fault_members};
+ghost use Rattle.part_lines.specs.LineText.{warning_items, kind_items, warning_members, listed_members, listed_members_if, tally_members, count_items};
+ghost use Rattle.part_lines.specs.LineText.{rule_items, warned_items, cause_items, code_items, count_members, note_items, one_note, note_members};
 ghost use Rattle.part_lines.specs.Lines.{every_word, framing_word};
-ghost use Rattle.report_forms.specs.Internal.WrittenCommas.{is_none_yet, next_items, comma_unless};
 
 use crate::line::{FileState, Listed, PartLine, Settings};
 use crate::sealing::put_seal;
@@ -49,17 +50,17 @@ fn put_body(alloc: Global, line: &PartLine, out: &mut Vec<u8>) -> Result<(), All
     put(out, b",\"parts\":")?;
     put_number(out, line.share.parts)?;
     put_file(alloc, &line.file, out)?;
-    put_settings(&line.settings, out)?;
+    put_settings(alloc, &line.settings, out)?;
     put(out, b",\"begin\":")?;
     put_number(out, line.checked.begin)?;
     put(out, b",\"end\":")?;
     put_number(out, line.checked.end)?;
-    put_verdict(&line.checked.verdict, line.checked.begin, out)?;
-    put_listed_if(&line.listed, line.checked.begin, out)
+    put_verdict(alloc, &line.checked.verdict, line.checked.begin, out)?;
+    put_listed_if(alloc, &line.listed, line.checked.begin, out)
 }
 
 fn put_file(alloc: Global, file: &FileState, out: &mut Vec<u8>) -> Result<(), AllocError>
-    ensures { OnOk result (Adds out.old out.new (file_text file.now)) }
+    ensures { OnOk result (Adds out.old out.new (more_text (file_members file.now))) }
 {
     put(out, b",\"path\":")?;
     put_string(alloc, &file.path, out)?;
@@ -83,18 +84,17 @@ fn json_string(alloc: Global, text: &str) -> Result<String, AllocError>
     Value::String(String::from_str(alloc, text)?).to_string(alloc)
 }
 
-fn put_settings(settings: &Settings, out: &mut Vec<u8>) -> Result<(), AllocError>
-    ensures { OnOk result (Adds out.old out.new (settings_text settings.now)) }
+fn put_settings(alloc: Global, settings: &Settings, out: &mut Vec<u8>) -> Result<(), AllocError>
+    ensures { OnOk result (Adds out.old out.new (more_text (settings_members settings.now))) }
 {
-    put(out, b",\"framing\":\"")?;
+    put(out, b",\"framing\":")?;
     put_framing(settings.framing, out)?;
-    put(out, b"\",\"max_bytes\":")?;
+    put(out, b",\"max_bytes\":")?;
     put_limit(&settings.limits, out)?;
     put(out, b",\"strict\":")?;
     put_truth(out, settings.strict)?;
-    put(out, b",\"allow\":[")?;
-    put_allowed(&settings.allowed, out)?;
-    put(out, b"]")
+    put(out, b",\"allow\":")?;
+    put_allowed(alloc, &settings.allowed, out)
 }
 
 fn put_limit(limits: &Limits, out: &mut Vec<u8>) -> Result<(), AllocError>
@@ -104,89 +104,92 @@ fn put_limit(limits: &Limits, out: &mut Vec<u8>) -> Result<(), AllocError>
 }
 
 fn put_framing(framing: Framing, out: &mut Vec<u8>) -> Result<(), AllocError>
-    ensures { OnOk result (Adds out.old out.new (framing_word framing)) }
+    ensures { OnOk result (Adds out.old out.new (quoted (framing_word framing))) }
 {
     put(out, framing_name(framing))
 }
 
-/// The word that asks for a framing, without its dashes.
+/// The word that asks for a framing, without its dashes, as a JSON string.
+#[tactic(auto, unfolding(json::specs::Print::escape_byte))]
 fn framing_name(framing: Framing) -> &'static [u8]
-    ensures { result.now ≡ framing_word framing }
+    ensures { result.now ≡ quoted (framing_word framing) }
 {
     match framing {
-        Framing::Sequence => b"seq",
-        Framing::Lines => b"ndjson",
+        Framing::Sequence => b"\"seq\"",
+        Framing::Lines => b"\"ndjson\"",
     }
 }
 
 /// Appends the kinds that are allowed.
-fn put_allowed(allowed: &Kinds, out: &mut Vec<u8>) -> Result<(), AllocError>
-    ensures { OnOk result (Adds out.old out.new (allowed_text allowed.now)) }
+fn put_allowed(alloc: Global, allowed: &Kinds, out: &mut Vec<u8>) -> Result<(), AllocError>
+    ensures { OnOk result (Adds out.old out.new (compact_text (array_of (allowed_kinds allowed.now)))) }
 {
-    let mut is_first = true;
+    let mut items = Vec::new(alloc);
     for kind in &KINDS {
-        let still = put_allowed_kind(allowed, *kind, is_first, out)?;
-        is_first = still;
+        put_allowed_kind(allowed, *kind, &mut items)?;
     }
-    Ok(())
+    put_array(items.as_slice(), out)
 }
 
-/// Appends a kind, where it is allowed: whether none has been put yet.
-fn put_allowed_kind(
-    allowed: &Kinds,
-    kind: Kind,
-    is_first: bool,
-    out: &mut Vec<u8>,
-) -> Result<bool, AllocError>
-    ensures bytes { OnOk result (Adds out.old out.new (next_items is_first (allowed_kind allowed.now kind))) }
-    ensures still { IfOk result (λ still. still ≡ (is_first && is_none_yet (allowed_kind allowed.now kind))) }
+/// Appends a kind after a comma, where it is allowed.
+fn put_allowed_kind(allowed: &Kinds, kind: Kind, items: &mut Vec<u8>) -> Result<(), AllocError>
+    ensures { OnOk result (Adds items.old items.new (items_text (allowed_kind allowed.now kind))) }
 {
     if allowed.contains(kind) {
-        put_comma_unless(is_first, out)?;
-        put_code(Code::Kind(kind), out)?;
-        Ok(false)
+        put(items, b",")?;
+        put_code(Code::Kind(kind), items)
     } else {
-        Ok(is_first)
+        Ok(())
     }
 }
 
-fn put_comma_unless(is_first: bool, out: &mut Vec<u8>) -> Result<(), AllocError>
-    ensures { OnOk result (Adds out.old out.new (comma_unless is_first)) }
+/// Appends an array, given its items with a comma before each.
+fn put_array(items: &[u8], out: &mut Vec<u8>) -> Result<(), AllocError>
+    ensures { OnOk result (Adds out.old out.new (codes "[" ++ (drop 1 items.now ++ codes "]"))) }
 {
-    if is_first { Ok(()) } else { put(out, b",") }
+    put(out, b"[")?;
+    if !items.is_empty() {
+        put(out, &items[1..])?;
+    }
+    put(out, b"]")
 }
 
 /// Appends the name of a code as a JSON string.
 fn put_code(code: Code, out: &mut Vec<u8>) -> Result<(), AllocError>
-    ensures { OnOk result (Adds out.old out.new (code_string code)) }
+    ensures { OnOk result (Adds out.old out.new (quoted (code_name code))) }
 {
     put(out, b"\"")?;
     code.put_name(out)?;
     put(out, b"\"")
 }
 
-fn put_verdict(verdict: &SeqVerdict, begin: u64, out: &mut Vec<u8>) -> Result<(), AllocError>
-    ensures { OnOk result (Adds out.old out.new (verdict_text begin verdict.now)) }
+fn put_verdict(
+    alloc: Global,
+    verdict: &SeqVerdict,
+    begin: u64,
+    out: &mut Vec<u8>,
+) -> Result<(), AllocError>
+    ensures { OnOk result (Adds out.old out.new (more_text (verdict_members begin verdict.now))) }
 {
     match verdict {
-        SeqVerdict::Valid { records, warnings } => put_valid(*records, warnings, begin, out),
+        SeqVerdict::Valid { records, warnings } => put_valid(alloc, *records, warnings, begin, out),
         SeqVerdict::Record { number, verdict } => put_broken(*number, verdict, begin, out),
     }
 }
 
 fn put_valid(
+    alloc: Global,
     records: u64,
     warnings: &Warnings,
     begin: u64,
     out: &mut Vec<u8>,
 ) -> Result<(), AllocError>
-    ensures { OnOk result (Adds out.old out.new (valid_text begin records warnings.now)) }
+    ensures { OnOk result (Adds out.old out.new (more_text (valid_members begin records warnings.now))) }
 {
     put(out, b",\"records\":")?;
     put_number(out, records)?;
-    put(out, b",\"warnings\":[")?;
-    put_warnings(warnings, begin, out)?;
-    put(out, b"]")
+    put(out, b",\"warnings\":")?;
+    put_warnings(alloc, warnings, begin, out)
 }
 
 fn put_broken(
@@ -195,7 +198,7 @@ fn put_broken(
     begin: u64,
     out: &mut Vec<u8>,
 ) -> Result<(), AllocError>
-    ensures { OnOk result (Adds out.old out.new (broken_text begin number verdict.now)) }
+    ensures { OnOk result (Adds out.old out.new (more_text ((codes "record", num number) ∷ record_members begin verdict.now))) }
 {
     put(out, b",\"record\":")?;
     put_number(out, number)?;
@@ -204,7 +207,7 @@ fn put_broken(
 
 /// Appends the fault of a record.
 fn put_record(verdict: &Verdict, begin: u64, out: &mut Vec<u8>) -> Result<(), AllocError>
-    ensures { OnOk result (Adds out.old out.new (record_text begin verdict.now)) }
+    ensures { OnOk result (Adds out.old out.new (more_text (record_members begin verdict.now))) }
 {
     match verdict {
         Verdict::Broken(fault) => put_fault(Code::Rule(fault.rule), fault.place, begin, out),
@@ -215,51 +218,52 @@ fn put_record(verdict: &Verdict, begin: u64, out: &mut Vec<u8>) -> Result<(), Al
 }
 
 fn put_fault(code: Code, place: u64, begin: u64, out: &mut Vec<u8>) -> Result<(), AllocError>
-    ensures { OnOk result (Adds out.old out.new (fault_text begin code place)) }
+    ensures { OnOk result (Adds out.old out.new (more_text (fault_members begin code place))) }
 {
-    put(out, b",\"fault\":\"")?;
-    code.put_name(out)?;
-    put(out, b"\",\"at\":")?;
+    put(out, b",\"fault\":")?;
+    put_code(code, out)?;
+    put(out, b",\"at\":")?;
     put_place(place, begin, out)
 }
 
 /// Appends a place of the part, counted from the start of the file.
 fn put_place(place: u64, begin: u64, out: &mut Vec<u8>) -> Result<(), AllocError>
-    ensures { OnOk result (Adds out.old out.new (place_text begin place)) }
+    ensures { OnOk result (Adds out.old out.new (compact_text (place_in_file begin place))) }
 {
     put_number(out, place.saturating_add(begin))
 }
 
 /// Appends the kinds of warning that there are, each with its number and its least place.
-fn put_warnings(warnings: &Warnings, begin: u64, out: &mut Vec<u8>) -> Result<(), AllocError>
-    ensures { OnOk result (Adds out.old out.new (warnings_text begin warnings.now)) }
+fn put_warnings(
+    alloc: Global,
+    warnings: &Warnings,
+    begin: u64,
+    out: &mut Vec<u8>,
+) -> Result<(), AllocError>
+    ensures { OnOk result (Adds out.old out.new (compact_text (array_of (warning_items begin warnings.now)))) }
 {
-    let mut is_first = true;
+    let mut items = Vec::new(alloc);
     for kind in &KINDS {
-        let still = put_kind(warnings, *kind, begin, is_first, out)?;
-        is_first = still;
+        put_kind(warnings, *kind, begin, &mut items)?;
     }
-    Ok(())
+    put_array(items.as_slice(), out)
 }
 
-/// Appends a kind, where there is a warning of it: whether none has been put yet.
+/// Appends a kind after a comma, where there is a warning of it.
 fn put_kind(
     warnings: &Warnings,
     kind: Kind,
     begin: u64,
-    is_first: bool,
-    out: &mut Vec<u8>,
-) -> Result<bool, AllocError>
-    ensures bytes { OnOk result (Adds out.old out.new (next_items is_first (kind_texts begin warnings.now kind))) }
-    ensures still { IfOk result (λ still. still ≡ (is_first && is_none_yet (kind_texts begin warnings.now kind))) }
+    items: &mut Vec<u8>,
+) -> Result<(), AllocError>
+    ensures { OnOk result (Adds items.old items.new (items_text (kind_items begin warnings.now kind))) }
 {
     match warnings.first(kind) {
         Some(place) => {
-            put_comma_unless(is_first, out)?;
-            put_warning(kind, warnings.count(kind), place, begin, out)?;
-            Ok(false)
+            put(items, b",")?;
+            put_warning(kind, warnings.count(kind), place, begin, items)
         }
-        None => Ok(is_first),
+        None => Ok(()),
     }
 }
 
@@ -270,134 +274,128 @@ fn put_warning(
     begin: u64,
     out: &mut Vec<u8>,
 ) -> Result<(), AllocError>
-    ensures { OnOk result (Adds out.old out.new (warning_text begin kind count place)) }
+    ensures { OnOk result (Adds out.old out.new (compact_text (object_of (warning_members begin kind count place)))) }
 {
-    put(out, b"{\"kind\":\"")?;
-    Code::Kind(kind).put_name(out)?;
-    put(out, b"\",\"count\":")?;
+    put(out, b"{\"kind\":")?;
+    put_code(Code::Kind(kind), out)?;
+    put(out, b",\"count\":")?;
     put_number(out, count as u64)?;
     put(out, b",\"at\":")?;
     put_place(place, begin, out)?;
     put(out, b"}")
 }
 
-fn put_listed_if(listed: &Option<Listed>, begin: u64, out: &mut Vec<u8>) -> Result<(), AllocError>
-    ensures { OnOk result (Adds out.old out.new (listed_text_of begin listed.now)) }
+fn put_listed_if(
+    alloc: Global,
+    listed: &Option<Listed>,
+    begin: u64,
+    out: &mut Vec<u8>,
+) -> Result<(), AllocError>
+    ensures { OnOk result (Adds out.old out.new (more_text (listed_members_if begin listed.now))) }
 {
     match listed {
-        Some(listed) => put_listed(listed, begin, out),
+        Some(listed) => put_listed(alloc, listed, begin, out),
         None => Ok(()),
     }
 }
 
 /// Appends the notes on records, and what is counted of all of them. Numbers count from the first record of the part.
-fn put_listed(listed: &Listed, begin: u64, out: &mut Vec<u8>) -> Result<(), AllocError>
-    ensures { OnOk result (Adds out.old out.new (listed_text begin listed.now)) }
+fn put_listed(
+    alloc: Global,
+    listed: &Listed,
+    begin: u64,
+    out: &mut Vec<u8>,
+) -> Result<(), AllocError>
+    ensures { OnOk result (Adds out.old out.new (more_text (listed_members begin listed.now))) }
 {
-    put(out, b",\"every\":\"")?;
+    put(out, b",\"every\":")?;
     put_every(listed.asked.with_warnings, out)?;
-    put(out, b"\",\"most\":")?;
+    put(out, b",\"most\":")?;
     put_number(out, listed.asked.room)?;
-    put_tally(&listed.notes.tally, out)?;
+    put_tally(alloc, &listed.notes.tally, out)?;
     put(out, b",\"findings\":")?;
     put_number(out, listed.notes.count)?;
-    put(out, b",\"listed\":[")?;
-    put_notes(&listed.notes.notes, begin, out)?;
-    put(out, b"]")
+    put(out, b",\"listed\":")?;
+    put_notes(alloc, listed.notes.notes.as_slice(), begin, out)
 }
 
 fn put_every(with_warnings: bool, out: &mut Vec<u8>) -> Result<(), AllocError>
-    ensures { OnOk result (Adds out.old out.new (every_word with_warnings)) }
+    ensures { OnOk result (Adds out.old out.new (quoted (every_word with_warnings))) }
 {
     put(out, every_name(with_warnings))
 }
 
-/// What `--every` was given.
+/// What `--every` was given, as a JSON string.
+#[tactic(auto, unfolding(json::specs::Print::escape_byte))]
 fn every_name(with_warnings: bool) -> &'static [u8]
-    ensures { result.now ≡ every_word with_warnings }
+    ensures { result.now ≡ quoted (every_word with_warnings) }
 {
     if with_warnings {
-        b"warnings"
+        b"\"warnings\""
     } else {
-        b"faults"
+        b"\"faults\""
     }
 }
 
-fn put_tally(tally: &Tally, out: &mut Vec<u8>) -> Result<(), AllocError>
-    ensures { OnOk result (Adds out.old out.new (tally_text tally.now)) }
+fn put_tally(alloc: Global, tally: &Tally, out: &mut Vec<u8>) -> Result<(), AllocError>
+    ensures { OnOk result (Adds out.old out.new (more_text (tally_members tally.now))) }
 {
     put(out, b",\"items\":")?;
     put_number(out, tally.items)?;
     put(out, b",\"items_broken\":")?;
     put_number(out, tally.broken)?;
-    put(out, b",\"counts\":[")?;
-    put_counts(tally, out)?;
-    put(out, b"]")
+    put(out, b",\"counts\":")?;
+    put_counts(alloc, tally, out)
 }
 
 /// Appends of how many records each code is reported.
-fn put_counts(tally: &Tally, out: &mut Vec<u8>) -> Result<(), AllocError>
-    ensures { OnOk result (Adds out.old out.new (counts_text tally.now)) }
+fn put_counts(alloc: Global, tally: &Tally, out: &mut Vec<u8>) -> Result<(), AllocError>
+    ensures { OnOk result (Adds out.old out.new (compact_text (array_of (count_items tally.now)))) }
 {
-    let is_first = put_rule_counts(tally, true, out)?;
-    let is_first = put_kind_counts(tally, is_first, out)?;
-    put_cause_counts(tally, is_first, out)?;
+    let mut items = Vec::new(alloc);
+    put_rule_counts(tally, &mut items)?;
+    put_kind_counts(tally, &mut items)?;
+    put_cause_counts(tally, &mut items)?;
+    put_array(items.as_slice(), out)
+}
+
+fn put_rule_counts(tally: &Tally, items: &mut Vec<u8>) -> Result<(), AllocError>
+    ensures { OnOk result (Adds items.old items.new (items_text (flat_map (rule_items tally.now) RULES))) }
+{
+    for rule in &RULES {
+        put_count(tally, Code::Rule(*rule), items)?;
+    }
     Ok(())
 }
 
-fn put_rule_counts(tally: &Tally, is_first: bool, out: &mut Vec<u8>) -> Result<bool, AllocError>
-    ensures bytes { OnOk result (Adds out.old out.new (next_items is_first (flat_map (rule_counts tally.now) RULES))) }
-    ensures still { IfOk result (λ still. still ≡ (is_first && is_none_yet (flat_map (rule_counts tally.now) RULES))) }
+fn put_kind_counts(tally: &Tally, items: &mut Vec<u8>) -> Result<(), AllocError>
+    ensures { OnOk result (Adds items.old items.new (items_text (flat_map (warned_items tally.now) kinds))) }
 {
-    let mut is_first = is_first;
-    for rule in &RULES {
-        let still = put_count(tally, Code::Rule(*rule), is_first, out)?;
-        is_first = still;
-    }
-    Ok(is_first)
-}
-
-fn put_kind_counts(tally: &Tally, is_first: bool, out: &mut Vec<u8>) -> Result<bool, AllocError>
-    ensures bytes { OnOk result (Adds out.old out.new (next_items is_first (flat_map (kind_counts tally.now) kinds))) }
-    ensures still { IfOk result (λ still. still ≡ (is_first && is_none_yet (flat_map (kind_counts tally.now) kinds))) }
-{
-    let mut is_first = is_first;
     for kind in &KINDS {
-        let still = put_count(tally, Code::Kind(*kind), is_first, out)?;
-        is_first = still;
+        put_count(tally, Code::Kind(*kind), items)?;
     }
-    Ok(is_first)
+    Ok(())
 }
 
-fn put_cause_counts(tally: &Tally, is_first: bool, out: &mut Vec<u8>) -> Result<bool, AllocError>
-    ensures bytes { OnOk result (Adds out.old out.new (next_items is_first (flat_map (cause_counts tally.now) CAUSES))) }
-    ensures still { IfOk result (λ still. still ≡ (is_first && is_none_yet (flat_map (cause_counts tally.now) CAUSES))) }
+fn put_cause_counts(tally: &Tally, items: &mut Vec<u8>) -> Result<(), AllocError>
+    ensures { OnOk result (Adds items.old items.new (items_text (flat_map (cause_items tally.now) CAUSES))) }
 {
-    let mut is_first = is_first;
     for cause in &CAUSES {
-        let still = put_count(tally, Code::Cause(*cause), is_first, out)?;
-        is_first = still;
+        put_count(tally, Code::Cause(*cause), items)?;
     }
-    Ok(is_first)
+    Ok(())
 }
 
-/// Appends of how many records a code is reported, where there are some: whether none has been put yet.
-fn put_count(
-    tally: &Tally,
-    code: Code,
-    is_first: bool,
-    out: &mut Vec<u8>,
-) -> Result<bool, AllocError>
-    ensures bytes { OnOk result (Adds out.old out.new (next_items is_first (count_texts tally.now code))) }
-    ensures still { IfOk result (λ still. still ≡ (is_first && is_none_yet (count_texts tally.now code))) }
+/// Appends after a comma of how many records a code is reported, where there are some.
+fn put_count(tally: &Tally, code: Code, items: &mut Vec<u8>) -> Result<(), AllocError>
+    ensures { OnOk result (Adds items.old items.new (items_text (code_items tally.now code))) }
 {
     let count = count_of(tally, code);
     if count > 0 {
-        put_comma_unless(is_first, out)?;
-        put_code_count(code, count, out)?;
-        Ok(false)
+        put(items, b",")?;
+        put_code_count(code, count, items)
     } else {
-        Ok(is_first)
+        Ok(())
     }
 }
 
@@ -408,52 +406,41 @@ fn count_of(tally: &Tally, code: Code) -> u64
 }
 
 fn put_code_count(code: Code, count: u64, out: &mut Vec<u8>) -> Result<(), AllocError>
-    ensures { OnOk result (Adds out.old out.new (count_text code count)) }
+    ensures { OnOk result (Adds out.old out.new (compact_text (object_of (count_members code count)))) }
 {
-    put(out, b"{\"code\":\"")?;
-    code.put_name(out)?;
-    put(out, b"\",\"count\":")?;
+    put(out, b"{\"code\":")?;
+    put_code(code, out)?;
+    put(out, b",\"count\":")?;
     put_number(out, count)?;
     put(out, b"}")
 }
 
-fn put_notes(notes: &Vec<Note>, begin: u64, out: &mut Vec<u8>) -> Result<(), AllocError>
-    ensures { OnOk result (Adds out.old out.new (notes_text begin notes.now.items)) }
+fn put_notes(alloc: Global, notes: &[Note], begin: u64, out: &mut Vec<u8>) -> Result<(), AllocError>
+    ensures { OnOk result (Adds out.old out.new (compact_text (array_of (note_items begin notes.now)))) }
 {
-    put_each_note(notes.as_slice(), begin, out)
-}
-
-fn put_each_note(notes: &[Note], begin: u64, out: &mut Vec<u8>) -> Result<(), AllocError>
-    ensures { OnOk result (Adds out.old out.new (notes_text begin notes.now)) }
-{
-    let mut is_first = true;
+    let mut items = Vec::new(alloc);
     for note in notes {
-        put_next_note(note, begin, is_first, out)?;
-        is_first = false;
+        put_next_note(note, begin, &mut items)?;
     }
-    Ok(())
+    put_array(items.as_slice(), out)
 }
 
-fn put_next_note(
-    note: &Note,
-    begin: u64,
-    is_first: bool,
-    out: &mut Vec<u8>,
-) -> Result<(), AllocError>
-    ensures { OnOk result (Adds out.old out.new (next_items is_first (note_texts begin note.now))) }
+/// Appends a note after a comma.
+fn put_next_note(note: &Note, begin: u64, items: &mut Vec<u8>) -> Result<(), AllocError>
+    ensures { OnOk result (Adds items.old items.new (items_text (one_note begin note.now))) }
 {
-    put_comma_unless(is_first, out)?;
-    put_note(note, begin, out)
+    put(items, b",")?;
+    put_note(note, begin, items)
 }
 
 fn put_note(note: &Note, begin: u64, out: &mut Vec<u8>) -> Result<(), AllocError>
-    ensures { OnOk result (Adds out.old out.new (note_text begin note.now)) }
+    ensures { OnOk result (Adds out.old out.new (compact_text (object_of (note_members begin note.now)))) }
 {
     put(out, b"{\"record\":")?;
     put_item(note.item, out)?;
-    put(out, b",\"code\":\"")?;
-    note.told.code.put_name(out)?;
-    put(out, b"\",\"at\":")?;
+    put(out, b",\"code\":")?;
+    put_code(note.told.code, out)?;
+    put(out, b",\"at\":")?;
     put_place(note.told.place, begin, out)?;
     put(out, b"}")
 }

@@ -1,24 +1,17 @@
-use Rattle.part_lines.proofs.Common.{◌≡◌, ◌+◌, ◌++◌, ℕ, List, length, take, get_or, arith, subst, sym, true, flat_map, kinds, W1}
-use Rattle.geolint_report.proofs.ElementsInTurn.{parts-more}
-use Rattle.report_forms.specs.Internal.WrittenCommas.{next_items}
-use Rattle.part_lines.specs.LineText.{allowed_text, allowed_kind}
-use Rattle.part_lines.proofs.WrittenItems.{Wrote, wrote-more}
+use Rattle.part_lines.proofs.Common.{◌∙◌, [], arith, kinds, W1}
+use Rattle.part_lines.specs.LineText.{allowed_kind, allowed_kinds}
+use Rattle.part_lines.proofs.WrittenItems.{wrote-next, wrote-all, array-put}
 use Rattle.part_lines.proofs.writing.put_allowed.Goals as goal
 
 pub loop-kind-preserved : goal.loop-kind-preserved
 loop-kind-preserved c =
-    let before : List (List ℕ) = flat_map (allowed_kind c.args.allowed.now) (take c.loop-kind.kind-index kinds) in
-    let here : List (List ℕ) = allowed_kind c.args.allowed.now (get_or kinds c.loop-kind.kind-index W1) in
-    let more : flat_map (allowed_kind c.args.allowed.now) (take (c.loop-kind.kind-index + 1) kinds) ≡ before ++ here =
-    parts-more (allowed_kind c.args.allowed.now) kinds c.loop-kind.kind-index W1 c.loop-kind-test.true in
-    subst (λ (items : List (List ℕ)). Wrote c.args.out.now.items true c.put_allowed_kind.new.out.items c.in_ok-still.still items) (sym more)
-    (wrote-more c.args.out.now.items true c.loop-kind.out.items c.loop-kind.is_first c.put_allowed_kind.new.out.items c.in_ok-still.still before here
-    c.loop-kind.invariant
-    c.in_ok-still.ensures.bytes c.in_ok-still.ensures.still)
+    wrote-next (allowed_kind c.args.allowed.now) kinds c.loop-kind.kind-index W1 [] c.loop-kind.items.items c.put_allowed_kind.new.items.items
+    c.loop-kind-test.true c.loop-kind.invariant c.in_ok-put_allowed_kind.ensures
 
 pub returns : goal.returns
-unfolding allowed_text
+unfolding allowed_kinds
 returns c =
-    let end : c.loop-kind.kind-index ≡ length kinds = omega (arith, c.loop-kind-test.false, c.loop-kind.auto.kind-index-end) in
-    subst (λ (i : ℕ). c.loop-kind.out.items ≡ c.args.out.now.items
-    ++ next_items true (flat_map (allowed_kind c.args.allowed.now) (take i kinds))) end c.loop-kind.invariant.done
+    array-put c.put_array.result c.args.out.now.items c.as_slice.result.now c.put_array.new.out.items (allowed_kinds c.args.allowed.now)
+    (c.as_slice.ensures.value ∙ wrote-all (allowed_kind c.args.allowed.now) kinds c.loop-kind.kind-index [] c.loop-kind.items.items
+    (omega (arith, c.loop-kind-test.false)) c.loop-kind.invariant)
+    c.put_array.ensures

@@ -1,44 +1,46 @@
-use Rattle.std.proofs.Common.{ℕ, List, ◌++◌, codes}
-use Rattle.part_lines.specs.LineText.{body_text, file_text, listed_text_of, settings_text, verdict_text}
+use Rattle.std.proofs.Common.{◌≡◌, ◌∙◌, ◌++◌, [], ◌∷◌, List, ℕ, codes, ap, sym, append_assoc, append-nil}
 use Rattle.std.specs.Fmt.{decimal}
-use Rattle.part_lines.proofs.WrittenItems.{after}
+use Rattle.json.specs.Print.{escape_byte}
+use Rattle.part_lines.specs.LineText.{Named, num, file_members, settings_members, verdict_members, listed_members_if, head_members, more_text, body_text}
+use Rattle.part_lines.proofs.WrittenItems.{then, ends, more-append}
 use Rattle.part_lines.proofs.writing.put_body.Goals as goal
 
+grouped : (a b c d e f g h i j k l : List ℕ)
+    → ((((((((((a ++ b) ++ c) ++ d) ++ e) ++ f) ++ g) ++ h) ++ i) ++ j) ++ k) ++ l
+    ≡ (a ++ b) ++ ((c ++ d) ++ ((e ++ (f ++ ((g ++ h) ++ ((i ++ j) ++ [])))) ++ (k ++ l)))
+grouped a b c d e f g h i j k l = simp (append_assoc, append-nil)
+
+-- the members of the file and the settings, the two after them, and the others
+all-text : (file settings two verdict listed : List Named)
+    → (more_text file ++ (more_text settings ++ more_text two)) ++ (more_text verdict ++ more_text listed)
+    ≡ more_text ((file ++ (settings ++ two)) ++ (verdict ++ listed))
+all-text file settings two verdict listed =
+    sym (more-append (file ++ (settings ++ two)) (verdict ++ listed)
+    ∙ (ap (λ (l : List ℕ). l ++ more_text (verdict ++ listed))
+    (more-append file (settings ++ two) ∙ ap (λ (l : List ℕ). more_text file ++ l) (more-append settings two))
+    ∙ ap (λ (l : List ℕ). (more_text file ++ (more_text settings ++ more_text two)) ++ l) (more-append verdict listed)))
+
 pub returns : goal.returns
-unfolding body_text
+unfolding body_text head_members escape_byte
 returns c =
-    let part11 : List ℕ = listed_text_of c.args.line.now.checked.begin c.args.line.now.listed in
-    let rest11 : List ℕ = part11 in
-    let part10 : List ℕ = verdict_text c.args.line.now.checked.begin c.args.line.now.checked.verdict in
-    let rest10 : List ℕ = part10 ++ rest11 in
-    let part9 : List ℕ = decimal c.args.line.now.checked.end in
-    let rest9 : List ℕ = part9 ++ rest10 in
-    let part8 : List ℕ = codes ",\"end\":" in
-    let rest8 : List ℕ = part8 ++ rest9 in
-    let part7 : List ℕ = decimal c.args.line.now.checked.begin in
-    let rest7 : List ℕ = part7 ++ rest8 in
-    let part6 : List ℕ = codes ",\"begin\":" in
-    let rest6 : List ℕ = part6 ++ rest7 in
-    let part5 : List ℕ = settings_text c.args.line.now.settings in
-    let rest5 : List ℕ = part5 ++ rest6 in
-    let part4 : List ℕ = file_text c.args.line.now.file in
-    let rest4 : List ℕ = part4 ++ rest5 in
-    let part3 : List ℕ = decimal c.args.line.now.share.parts in
-    let rest3 : List ℕ = part3 ++ rest4 in
-    let part2 : List ℕ = codes ",\"parts\":" in
-    let rest2 : List ℕ = part2 ++ rest3 in
-    let part1 : List ℕ = decimal c.args.line.now.share.number in
-    let rest1 : List ℕ = part1 ++ rest2 in
-    let part0 : List ℕ = codes "{\"geolint_part\":2,\"part\":" in
-    after c.put_listed_if.result c.args.out.now.items c.put.new.line.items c.put_listed_if.new.out.items part0 rest1 c.in_ok-put.ensures
-    (after c.put_listed_if.result c.put.new.line.items c.put_number.new.line.items c.put_listed_if.new.out.items part1 rest2 c.in_ok-put_number.ensures
-    (after c.put_listed_if.result c.put_number.new.line.items c.put-2.new.line.items c.put_listed_if.new.out.items part2 rest3 c.in_ok-put-2.ensures
-    (after c.put_listed_if.result c.put-2.new.line.items c.put_number-2.new.line.items c.put_listed_if.new.out.items part3 rest4 c.in_ok-put_number-2.ensures
-    (after c.put_listed_if.result c.put_number-2.new.line.items c.put_file.new.out.items c.put_listed_if.new.out.items part4 rest5 c.in_ok-put_file.ensures
-    (after c.put_listed_if.result c.put_file.new.out.items c.put_settings.new.out.items c.put_listed_if.new.out.items part5 rest6 c.in_ok-put_settings.ensures
-    (after c.put_listed_if.result c.put_settings.new.out.items c.put-3.new.line.items c.put_listed_if.new.out.items part6 rest7 c.in_ok-put-3.ensures
-    (after c.put_listed_if.result c.put-3.new.line.items c.put_number-3.new.line.items c.put_listed_if.new.out.items part7 rest8 c.in_ok-put_number-3.ensures
-    (after c.put_listed_if.result c.put_number-3.new.line.items c.put-4.new.line.items c.put_listed_if.new.out.items part8 rest9 c.in_ok-put-4.ensures
-    (after c.put_listed_if.result c.put-4.new.line.items c.put_number-4.new.line.items c.put_listed_if.new.out.items part9 rest10 c.in_ok-put_number-4.ensures
-    (after c.put_listed_if.result c.put_number-4.new.line.items c.put_verdict.new.out.items c.put_listed_if.new.out.items part10 rest11 c.in_ok-put_verdict.ensures
-    (c.put_listed_if.ensures)))))))))))
+    let s : List ℕ = c.args.out.now.items in
+    let line = c.args.line.now in
+    let start : List ℕ = codes "{\"geolint_part\":2,\"part\":" in
+    let part : List ℕ = decimal line.share.number in
+    let parts : List ℕ = decimal line.share.parts in
+    let file : List Named = file_members line.file in
+    let settings : List Named = settings_members line.settings in
+    let begin : List ℕ = decimal line.checked.begin in
+    let end : List ℕ = decimal line.checked.end in
+    let two : List Named = (codes "begin", num line.checked.begin) ∷ (codes "end", num line.checked.end) ∷ [] in
+    let verdict : List Named = verdict_members line.checked.begin line.checked.verdict in
+    let listed : List Named = listed_members_if line.checked.begin line.listed in
+    ends c.put_listed_if.result s _ _ _ (more_text listed) (body_text line)
+    (then s _ _ _ (more_text verdict) (then s _ _ _ end (then s _ _ _ (codes ",\"end\":") (then s _ _ _ begin (then s _ _ _ (codes ",\"begin\":")
+    (then s _ _ _ (more_text settings) (then s _ _ _ (more_text file) (then s _ _ _ parts (then s _ _ _ (codes ",\"parts\":")
+    (then s _ _ start part c.in_ok-put.ensures c.in_ok-put_number.ensures) c.in_ok-put-2.ensures) c.in_ok-put_number-2.ensures)
+    c.in_ok-put_file.ensures) c.in_ok-put_settings.ensures) c.in_ok-put-3.ensures) c.in_ok-put_number-3.ensures) c.in_ok-put-4.ensures)
+    c.in_ok-put_number-4.ensures) c.in_ok-put_verdict.ensures) c.put_listed_if.ensures
+    (grouped start part (codes ",\"parts\":") parts (more_text file) (more_text settings) (codes ",\"begin\":") begin (codes ",\"end\":") end
+    (more_text verdict) (more_text listed)
+    ∙ ap (λ (l : List ℕ). (start ++ part) ++ ((codes ",\"parts\":" ++ parts) ++ l)) (all-text file settings two verdict listed))

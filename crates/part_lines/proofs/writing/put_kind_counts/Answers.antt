@@ -1,23 +1,14 @@
-use Rattle.part_lines.proofs.Common.{◌≡◌, ◌+◌, ◌++◌, ℕ, List, length, take, get_or, arith, subst, sym, flat_map, kinds, W1}
-use Rattle.geolint_report.proofs.ElementsInTurn.{parts-more}
-use Rattle.part_lines.specs.LineText.{kind_counts}
-use Rattle.part_lines.proofs.WrittenItems.{Wrote, wrote-more}
+use Rattle.part_lines.proofs.Common.{arith, kinds, W1}
+use Rattle.part_lines.specs.LineText.{warned_items}
+use Rattle.part_lines.proofs.WrittenItems.{wrote-next, wrote-all}
 use Rattle.part_lines.proofs.writing.put_kind_counts.Goals as goal
 
 pub loop-kind-preserved : goal.loop-kind-preserved
 loop-kind-preserved c =
-    let before : List (List ℕ) = flat_map (kind_counts c.args.tally.now) (take c.loop-kind.kind-index kinds) in
-    let here : List (List ℕ) = kind_counts c.args.tally.now (get_or kinds c.loop-kind.kind-index W1) in
-    let more : flat_map (kind_counts c.args.tally.now) (take (c.loop-kind.kind-index + 1) kinds) ≡ before ++ here =
-    parts-more (kind_counts c.args.tally.now) kinds c.loop-kind.kind-index W1 c.loop-kind-test.true in
-    subst (λ (items : List (List ℕ)). Wrote c.args.out.now.items c.args.is_first c.put_count.new.out.items c.in_ok-still.still items) (sym more)
-    (wrote-more c.args.out.now.items c.args.is_first c.loop-kind.out.items c.loop-kind.is_first c.put_count.new.out.items c.in_ok-still.still before
-    here c.loop-kind.invariant
-    c.in_ok-still.ensures.bytes c.in_ok-still.ensures.still)
+    wrote-next (warned_items c.args.tally.now) kinds c.loop-kind.kind-index W1 c.args.items.now.items c.loop-kind.items.items c.put_count.new.items.items
+    c.loop-kind-test.true c.loop-kind.invariant c.in_ok-put_count.ensures
 
 pub returns : goal.returns
 returns c =
-    let end : c.loop-kind.kind-index ≡ length kinds = omega (arith, c.loop-kind-test.false, c.loop-kind.auto.kind-index-end) in
-    let all = subst (λ (i : ℕ). Wrote c.args.out.now.items c.args.is_first c.loop-kind.out.items c.loop-kind.is_first
-    (flat_map (kind_counts c.args.tally.now) (take i kinds))) end c.loop-kind.invariant in
-    record { bytes = all.done; still = all.first }
+    wrote-all (warned_items c.args.tally.now) kinds c.loop-kind.kind-index c.args.items.now.items c.loop-kind.items.items
+    (omega (arith, c.loop-kind-test.false)) c.loop-kind.invariant

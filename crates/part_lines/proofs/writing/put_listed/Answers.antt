@@ -1,38 +1,36 @@
-use Rattle.std.proofs.Common.{ℕ, List, ◌++◌, codes}
-use Rattle.part_lines.specs.LineText.{listed_text, notes_text, tally_text}
-use Rattle.part_lines.specs.Lines.{every_word}
+use Rattle.std.proofs.Common.{◌≡◌, ◌∙◌, ◌++◌, [], ◌∷◌, List, ℕ, codes, ap, sym, subst, append_assoc, append-nil}
+use Rattle.std.specs.Prelude.{OnOk}
 use Rattle.std.specs.Fmt.{decimal}
-use Rattle.part_lines.proofs.WrittenItems.{after}
+use Rattle.json.specs.Print.{escape_byte, quoted}
+use Rattle.serde_json.specs.Written.{compact_text}
+use Rattle.geolint_report.specs.declared.every.listing.Note.{Note}
+use Rattle.part_lines.specs.LineText.{Named, num, array_of, note_items, tally_members, listed_members, more_text}
+use Rattle.part_lines.specs.Lines.{every_word}
+use Rattle.part_lines.proofs.WrittenItems.{then, ends, more-append}
 use Rattle.part_lines.proofs.writing.put_listed.Goals as goal
 
+grouped : (a b c d e f g h i : List ℕ)
+    → (((((((a ++ b) ++ c) ++ d) ++ e) ++ f) ++ g) ++ h) ++ i ≡ (a ++ b) ++ ((c ++ d) ++ (e ++ ((f ++ g) ++ ((h ++ i) ++ []))))
+grouped a b c d e f g h i = simp (append_assoc, append-nil)
+
 pub returns : goal.returns
-unfolding listed_text
+unfolding listed_members escape_byte
 returns c =
-    let rest9 : List ℕ = codes "]" in
-    let part8 : List ℕ = notes_text c.args.begin c.args.listed.now.notes.notes.items in
-    let rest8 : List ℕ = part8 ++ rest9 in
-    let part7 : List ℕ = codes ",\"listed\":[" in
-    let rest7 : List ℕ = part7 ++ rest8 in
-    let part6 : List ℕ = decimal c.args.listed.now.notes.count in
-    let rest6 : List ℕ = part6 ++ rest7 in
-    let part5 : List ℕ = codes ",\"findings\":" in
-    let rest5 : List ℕ = part5 ++ rest6 in
-    let part4 : List ℕ = tally_text c.args.listed.now.notes.tally in
-    let rest4 : List ℕ = part4 ++ rest5 in
-    let part3 : List ℕ = decimal c.args.listed.now.asked.room in
-    let rest3 : List ℕ = part3 ++ rest4 in
-    let part2 : List ℕ = codes "\",\"most\":" in
-    let rest2 : List ℕ = part2 ++ rest3 in
-    let part1 : List ℕ = every_word c.args.listed.now.asked.with_warnings in
-    let rest1 : List ℕ = part1 ++ rest2 in
-    let part0 : List ℕ = codes ",\"every\":\"" in
-    after c.put-5.result c.args.out.now.items c.put.new.line.items c.put-5.new.line.items part0 rest1 c.in_ok-put.ensures
-    (after c.put-5.result c.put.new.line.items c.put_every.new.out.items c.put-5.new.line.items part1 rest2 c.in_ok-put_every.ensures
-    (after c.put-5.result c.put_every.new.out.items c.put-2.new.line.items c.put-5.new.line.items part2 rest3 c.in_ok-put-2.ensures
-    (after c.put-5.result c.put-2.new.line.items c.put_number.new.line.items c.put-5.new.line.items part3 rest4 c.in_ok-put_number.ensures
-    (after c.put-5.result c.put_number.new.line.items c.put_tally.new.out.items c.put-5.new.line.items part4 rest5 c.in_ok-put_tally.ensures
-    (after c.put-5.result c.put_tally.new.out.items c.put-3.new.line.items c.put-5.new.line.items part5 rest6 c.in_ok-put-3.ensures
-    (after c.put-5.result c.put-3.new.line.items c.put_number-2.new.line.items c.put-5.new.line.items part6 rest7 c.in_ok-put_number-2.ensures
-    (after c.put-5.result c.put_number-2.new.line.items c.put-4.new.line.items c.put-5.new.line.items part7 rest8 c.in_ok-put-4.ensures
-    (after c.put-5.result c.put-4.new.line.items c.put_notes.new.out.items c.put-5.new.line.items part8 rest9 c.in_ok-put_notes.ensures
-    (c.put-5.ensures)))))))))
+    let s : List ℕ = c.args.out.now.items in
+    let every : List ℕ = quoted (every_word c.args.listed.now.asked.with_warnings) in
+    let most : List ℕ = decimal c.args.listed.now.asked.room in
+    let tally : List Named = tally_members c.args.listed.now.notes.tally in
+    let count : List ℕ = decimal c.args.listed.now.notes.count in
+    let items = array_of (note_items c.args.begin c.args.listed.now.notes.notes.items) in
+    let listed : List ℕ = compact_text items in
+    let rest : List Named = (codes "findings", num c.args.listed.now.notes.count) ∷ (codes "listed", items) ∷ [] in
+    let last : OnOk c.put_notes.result (c.put_notes.new.out.items ≡ c.put-4.new.line.items ++ listed) =
+    subst (λ (notes : List Note). OnOk c.put_notes.result (c.put_notes.new.out.items ≡ c.put-4.new.line.items
+    ++ compact_text (array_of (note_items c.args.begin notes)))) c.as_slice.ensures.value c.put_notes.ensures in
+    ends c.put_notes.result s _ _ _ listed (more_text (listed_members c.args.begin c.args.listed.now))
+    (then s _ _ _ (codes ",\"listed\":") (then s _ _ _ count (then s _ _ _ (codes ",\"findings\":") (then s _ _ _ (more_text tally)
+    (then s _ _ _ most (then s _ _ _ (codes ",\"most\":") (then s _ _ (codes ",\"every\":") every c.in_ok-put.ensures c.in_ok-put_every.ensures)
+    c.in_ok-put-2.ensures) c.in_ok-put_number.ensures) c.in_ok-put_tally.ensures) c.in_ok-put-3.ensures) c.in_ok-put_number-2.ensures)
+    c.in_ok-put-4.ensures) last
+    (grouped (codes ",\"every\":") every (codes ",\"most\":") most (more_text tally) (codes ",\"findings\":") count (codes ",\"listed\":") listed
+    ∙ ap (λ (l : List ℕ). (codes ",\"every\":" ++ every) ++ ((codes ",\"most\":" ++ most) ++ l)) (sym (more-append tally rest)))

@@ -1,29 +1,25 @@
-use Rattle.part_lines.proofs.Common.{ℕ, List, ◌++◌, codes, code_name}
-use Rattle.geolint_report.specs.Items.{item_number}
-use Rattle.part_lines.specs.LineText.{note_text, place_text}
+use Rattle.std.proofs.Common.{◌≡◌, ◌++◌, List, ℕ, codes, append_assoc}
 use Rattle.std.specs.Fmt.{decimal}
-use Rattle.part_lines.proofs.WrittenItems.{after}
+use Rattle.json.specs.Print.{escape_byte, quoted}
+use Rattle.serde_json.specs.Written.{compact_text}
+use Rattle.geolint_report.specs.Items.{item_number}
+use Rattle.geolint_report.specs.Texts.{code_name}
+use Rattle.part_lines.specs.LineText.{object_of, place_in_file, note_members}
+use Rattle.part_lines.proofs.WrittenItems.{then, ends}
 use Rattle.part_lines.proofs.writing.put_note.Goals as goal
 
+grouped : (a b c d e f g : List ℕ) → (((((a ++ b) ++ c) ++ d) ++ e) ++ f) ++ g ≡ a ++ (b ++ (c ++ (d ++ (e ++ (f ++ g)))))
+grouped a b c d e f g = simp append_assoc
+
 pub returns : goal.returns
-unfolding note_text
+unfolding note_members escape_byte
 returns c =
-    let rest6 : List ℕ = codes "}" in
-    let part5 : List ℕ = place_text c.args.begin c.args.note.now.told.place in
-    let rest5 : List ℕ = part5 ++ rest6 in
-    let part4 : List ℕ = codes "\",\"at\":" in
-    let rest4 : List ℕ = part4 ++ rest5 in
-    let part3 : List ℕ = code_name c.args.note.now.told.code in
-    let rest3 : List ℕ = part3 ++ rest4 in
-    let part2 : List ℕ = codes ",\"code\":\"" in
-    let rest2 : List ℕ = part2 ++ rest3 in
-    let part1 : List ℕ = decimal (item_number c.args.note.now.item) in
-    let rest1 : List ℕ = part1 ++ rest2 in
-    let part0 : List ℕ = codes "{\"record\":" in
-    after c.put-4.result c.args.out.now.items c.put.new.line.items c.put-4.new.line.items part0 rest1 c.in_ok-put.ensures
-    (after c.put-4.result c.put.new.line.items c.put_item.new.out.items c.put-4.new.line.items part1 rest2 c.in_ok-put_item.ensures
-    (after c.put-4.result c.put_item.new.out.items c.put-2.new.line.items c.put-4.new.line.items part2 rest3 c.in_ok-put-2.ensures
-    (after c.put-4.result c.put-2.new.line.items c.put_name.new.line.items c.put-4.new.line.items part3 rest4 c.in_ok-put_name.ensures
-    (after c.put-4.result c.put_name.new.line.items c.put-3.new.line.items c.put-4.new.line.items part4 rest5 c.in_ok-put-3.ensures
-    (after c.put-4.result c.put-3.new.line.items c.put_place.new.out.items c.put-4.new.line.items part5 rest6 c.in_ok-put_place.ensures
-    (c.put-4.ensures))))))
+    let s : List ℕ = c.args.out.now.items in
+    let number : List ℕ = decimal (item_number c.args.note.now.item) in
+    let code : List ℕ = quoted (code_name c.args.note.now.told.code) in
+    let at : List ℕ = compact_text (place_in_file c.args.begin c.args.note.now.told.place) in
+    ends c.put-4.result s _ _ _ (codes "}") (compact_text (object_of (note_members c.args.begin c.args.note.now)))
+    (then s _ _ _ at (then s _ _ _ (codes ",\"at\":") (then s _ _ _ code (then s _ _ _ (codes ",\"code\":")
+    (then s _ _ (codes "{\"record\":") number c.in_ok-put.ensures c.in_ok-put_item.ensures) c.in_ok-put-2.ensures) c.in_ok-put_code.ensures)
+    c.in_ok-put-3.ensures) c.in_ok-put_place.ensures) c.put-4.ensures
+    (grouped (codes "{\"record\":") number (codes ",\"code\":") code (codes ",\"at\":") at (codes "}"))

@@ -1,28 +1,13 @@
-use Rattle.std.proofs.Common.{ℕ, List, ◌++◌, codes}
-use Rattle.part_lines.specs.LineText.{counts_text, tally_text}
-use Rattle.std.specs.Fmt.{decimal}
-use Rattle.part_lines.proofs.WrittenItems.{after}
+use Rattle.std.proofs.Common.{List, ℕ, append_assoc, append-nil}
+use Rattle.json.specs.Print.{escape_byte}
+use Rattle.part_lines.specs.LineText.{tally_members, more_text}
+use Rattle.part_lines.proofs.WrittenItems.{then, ends}
 use Rattle.part_lines.proofs.writing.put_tally.Goals as goal
 
 pub returns : goal.returns
-unfolding tally_text
+unfolding tally_members escape_byte
 returns c =
-    let rest6 : List ℕ = codes "]" in
-    let part5 : List ℕ = counts_text c.args.tally.now in
-    let rest5 : List ℕ = part5 ++ rest6 in
-    let part4 : List ℕ = codes ",\"counts\":[" in
-    let rest4 : List ℕ = part4 ++ rest5 in
-    let part3 : List ℕ = decimal c.args.tally.now.broken in
-    let rest3 : List ℕ = part3 ++ rest4 in
-    let part2 : List ℕ = codes ",\"items_broken\":" in
-    let rest2 : List ℕ = part2 ++ rest3 in
-    let part1 : List ℕ = decimal c.args.tally.now.items in
-    let rest1 : List ℕ = part1 ++ rest2 in
-    let part0 : List ℕ = codes ",\"items\":" in
-    after c.put-4.result c.args.out.now.items c.put.new.line.items c.put-4.new.line.items part0 rest1 c.in_ok-put.ensures
-    (after c.put-4.result c.put.new.line.items c.put_number.new.line.items c.put-4.new.line.items part1 rest2 c.in_ok-put_number.ensures
-    (after c.put-4.result c.put_number.new.line.items c.put-2.new.line.items c.put-4.new.line.items part2 rest3 c.in_ok-put-2.ensures
-    (after c.put-4.result c.put-2.new.line.items c.put_number-2.new.line.items c.put-4.new.line.items part3 rest4 c.in_ok-put_number-2.ensures
-    (after c.put-4.result c.put_number-2.new.line.items c.put-3.new.line.items c.put-4.new.line.items part4 rest5 c.in_ok-put-3.ensures
-    (after c.put-4.result c.put-3.new.line.items c.put_counts.new.out.items c.put-4.new.line.items part5 rest6 c.in_ok-put_counts.ensures
-    (c.put-4.ensures))))))
+    let s : List ℕ = c.args.out.now.items in
+    ends c.put_counts.result s _ _ _ _ (more_text (tally_members c.args.tally.now)) (then s _ _ _ _ (then s _ _ _ _ (then s _ _ _ _ (then s _ _ _ _
+    c.in_ok-put.ensures c.in_ok-put_number.ensures) c.in_ok-put-2.ensures) c.in_ok-put_number-2.ensures) c.in_ok-put-3.ensures) c.put_counts.ensures
+    (simp (append_assoc, append-nil))
