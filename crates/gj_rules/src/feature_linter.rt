@@ -31,6 +31,7 @@ impl<S: FeatureSink> FeatureLinter<S> {
     ghost use Rattle.gj_json.specs.Refusal.{IsAdmitted};
     ghost use Rattle.gj_json.specs.Text.{IsTextWithin};
     ghost use Rattle.gj_json.specs.Tree.{Text};
+    ghost use Rattle.gj_rules.specs.declared.feature.Feature.{Feature};
     ghost use Rattle.gj_rules.specs.FeatureFindings.{feature_findings, findings_by};
     ghost use Rattle.gj_rules.specs.FeatureLinter.{StandsFor, limits_of, refusal_of, offset_of, sink_of};
     ghost use Rattle.gj_rules.specs.FeaturesTold.{TellFindings};
@@ -115,6 +116,20 @@ impl<S: FeatureSink> FeatureLinter<S> {
     {
         features_say();
         self.rules.sink()
+    }
+
+    /// Reports the features that follow to another sink, and returns the one that had those before. The linter stands for the same
+    /// bytes where the new sink may have had all features that the old one may have had.
+    pub fn set_sink(&mut self, sink: S) -> S
+        ensures stands { ((features : List Feature) → S.told (sink_of self.old) features → S.told sink features)
+            → (bytes : List ℕ) → StandsFor S.told self.old bytes → StandsFor S.told self.new bytes }
+        ensures limits { limits_of self.new ≡ limits_of self.old }
+        ensures refusal { refusal_of self.new ≡ refusal_of self.old }
+        ensures offset { offset_of self.new ≡ offset_of self.old }
+        ensures sink { sink_of self.new ≡ sink }
+        ensures old { result ≡ sink_of self.old }
+    {
+        self.rules.set_sink(sink)
     }
 
     /// How many bytes were taken: the place of the refused one, once there was one.

@@ -26,6 +26,7 @@ impl<S: FeatureSink> FeatureRules<S> {
     ghost use Rattle.gj_json.specs.Flat.{flat_events};
     ghost use Rattle.gj_json.specs.Text.{IsText};
     ghost use Rattle.gj_json.specs.Tree.{Text, depth};
+    ghost use Rattle.gj_rules.specs.declared.feature.Feature.{Feature};
     ghost use Rattle.gj_rules.specs.Levels.{most_levels};
     ghost use Rattle.gj_rules.specs.Rules.{StandsFor as RulesStandFor};
     ghost use Rattle.gj_rules.specs.Internal.FeatureSteps.{Stand, features_by, concerned};
@@ -63,6 +64,16 @@ impl<S: FeatureSink> FeatureRules<S> {
         ensures { result ≡ self.sink }
     {
         self.sink
+    }
+
+    /// Reports what follows to another sink, and returns the one that had the features before. What holds of these must hold of both.
+    pub(crate) fn set_sink(&mut self, sink: S) -> S
+        ensures stands { ((features : List Feature) → S.told self.old.sink features → S.told sink features) → (events : List Event)
+            → Stand (S.told self.old.sink) self.old.rules self.old.count events → Stand (S.told self.new.sink) self.new.rules self.new.count events }
+        ensures sink { self.new.sink ≡ sink }
+        ensures old { result ≡ self.old.sink }
+    {
+        std::mem::replace(&mut self.sink, sink)
     }
 
     /// An event of any kind.
