@@ -16,5 +16,6 @@ pub mod CodeSlots
 mod TalliedNotes
 mod KeptNotes
 mod KeptRecords
+mod FurtherReadings
 mod CursorPlaces
 mod PlacedNotes

@@ -2,3 +2,4 @@
 pub mod SecondReading
 pub mod SoughtPlaces
 pub mod TextPaths
+pub mod FurtherReading

@@ -12,6 +12,7 @@ pub mod Sought
 pub mod Items
 pub mod Tallies
 pub mod Every
+pub mod Further
 pub mod Marks
 pub mod Cursors
 pub mod Spots

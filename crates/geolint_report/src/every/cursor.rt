@@ -157,14 +157,26 @@ impl Cursor {
     {
         let mut piece = [0; PIECE];
         while self.passed < place {
-            let count = source.read_from(self.passed, &mut piece)?;
-            if count == 0 {
+            let room = lesser(PIECE, place - self.passed);
+            if self.pass_some(source, &mut piece[..room])? == 0 {
                 return Ok(false);
             }
-            let taken = lesser(count, place - self.passed);
-            self.pass(&piece[..taken]);
         }
         Ok(true)
+    }
+
+    /// Passes as many of the next bytes as a read gives of those that there is room for in the piece: how many.
+    fn pass_some<S: Rewind>(&mut self, source: &mut S, piece: &mut [u8]) -> io::Result<usize>
+        requires { self.old.passed + length piece.old < 2 ^ 64 }
+        ensures stands { StandsBy (S.text source.old) self.old → StandsBy (S.text source.old) self.new }
+        ensures count { IfOk result (λ count. (count ≤ length piece.old) × (self.new.passed ≡ self.old.passed + count)) }
+        ensures text { S.text source.new ≡ S.text source.old }
+        ensures failed { CountsFailure (S.failed_reads source.old) (S.failed_reads source.new) result }
+        ensures framing { self.new.text_path.framing ≡ self.old.text_path.framing }
+    {
+        let count = source.read_from(self.passed, piece)?;
+        self.pass(&piece[..count]);
+        Ok(count)
     }
 
     /// Keeps where the place before the next byte stands, and passes this; or the place at the end, where there is none.

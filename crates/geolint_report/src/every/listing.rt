@@ -126,10 +126,12 @@ pub fn notes_for(
 }
 
 impl Listing {
-    ghost use Rattle.std.specs.Prelude.{◌≡◌, ◌+◌, ◌++◌, ◌∷◌, [], List, IfOk, length, take, drop, true, false};
+    ghost use Rattle.std.specs.Prelude.{◌≡◌, ◌<◌, ◌≤◌, ◌+◌, ◌++◌, ◌∷◌, [], List, IfOk, IfSome, is_some, length, take, drop, true, false};
     ghost use Rattle.std.specs.Io.Iter.{u64_saturate};
+    ghost use Rattle.gj_rules.specs.declared.feature.Feature.{Feature};
+    ghost use Rattle.gj_rules.specs.declared.records.record.Record.{Record};
     ghost use Rattle.geolint_report.specs.declared.every.listing.Note.{Note};
-    ghost use Rattle.geolint_report.specs.Every.{Keeps, AreFirst, note_of, fault_note, refusal_note, warning_notes, kind_notes, record_notes};
+    ghost use Rattle.geolint_report.specs.Every.{Keeps, KeepsNotes, KeepsRecords, AreFirst, note_of, fault_note, refusal_note, warning_notes, kind_notes, record_notes};
 
     /// A list of nothing, which will keep what is asked.
     pub fn new(alloc: Global, asked: Asked) -> Listing
@@ -153,13 +155,42 @@ impl Listing {
         self.notes.as_slice()
     }
 
+    /// A listing that goes on from this one with what is asked then, and holds nothing yet: none where a note was passed over that is
+    /// asked for then.
+    pub(crate) fn going_on(&self, alloc: Global, asked: Asked) -> Option<Listing>
+        ensures asked { IfSome result (λ next. next.asked ≡ asked) }
+        ensures features { IfSome result (λ next. (features : List Feature) → KeepsNotes self.now features → KeepsNotes next features) }
+        ensures records { IfSome result (λ next. (records : List Record) → KeepsRecords self.now records → KeepsRecords next records) }
+        ensures some { asked.with_warnings ≡ self.now.asked.with_warnings → self.now.count ≤ asked.skipped → self.now.count < u64.MAX
+            → is_some result ≡ true }
+    {
+        let has_all = self.count <= asked.skipped && self.count < u64::MAX;
+        if !has_all || asked.with_warnings != self.asked.with_warnings {
+            return None;
+        }
+        Some(Listing {
+            asked,
+            notes: Vec::new(alloc),
+            count: self.count,
+            tally: self.tally,
+            has_failed: false,
+        })
+    }
+
+    /// Whether its notes are those that were asked for, and all of these could be kept.
+    pub(crate) fn is_as_asked(&self, asked: Asked) -> bool
+        ensures { result ≡ true → (self.now.asked ≡ asked) × (self.now.has_failed ≡ false) }
+    {
+        !self.has_failed && self.asked == asked
+    }
+
     /// The notes, where they are those that were asked for and all of these could be kept.
     pub fn into_notes(self, asked: Asked) -> Result<Notes, AllocError>
         ensures asked { IfOk result (λ notes. self.asked ≡ asked) }
         ensures notes { IfOk result (λ notes. (all : List Note) → Keeps self all → AreFirst self.asked notes.notes.items notes.count all) }
         ensures tally { IfOk result (λ notes. notes.tally ≡ self.tally) }
     {
-        if self.has_failed || self.asked != asked {
+        if !self.is_as_asked(asked) {
             return Err(AllocError);
         }
         Ok(Notes {
