@@ -1,5 +1,5 @@
 -- What is reported of the features or the records of a file that was read: which notes, and where their places stand.
-use Rattle.std.specs.Prelude.{◌≡◌, ◌⊎◌, ◌≤◌, ◌^◌, ℕ, zero, suc, ◌+◌, ◌-◌, List, [], ◌∷◌, ◌++◌, length, Bool, true, false, min, nat_eq, if◌then◌else◌, Option}
+use Rattle.std.specs.Prelude.{◌≡◌, ◌≤◌, ◌^◌, ℕ, zero, suc, ◌+◌, ◌-◌, List, [], ◌∷◌, ◌++◌, length, Bool, true, false, min, nat_eq, if◌then◌else◌, Option}
 use Rattle.std.specs.Prelude.{Some, None, IfSome, ⊤}
 use Rattle.std.specs.Io.Iter.{u64_saturate}
 use Rattle.gj_json.specs.Limits.{Allowed}
@@ -13,6 +13,7 @@ use Rattle.geolint_report.specs.declared.judge.Reading.{Reading}
 use Rattle.report_forms.specs.declared.options.Every.{Every}
 use Rattle.report_forms.specs.declared.options.Options.{Options}
 use Rattle.geolint_report.specs.Every.{AreNotesBy, is_no_text}
+use Rattle.geolint_report.specs.Further.{AreNextBy}
 use Rattle.geolint_report.specs.Marks.{IsMarkBy}
 use Rattle.geolint_report.specs.Judged.{Finds, framing_in}
 use Rattle.geolint_files.specs.Run.{FeatureLine, feature_line, others_line, ToldFile, judged, listed}
@@ -117,15 +118,11 @@ IsOnce options name = IsOnceBy (asked_for options name) (reading_of options name
 abbrev pub IsPlaced : Option Framing → Option (List ℕ) → Entry → Type 0
 IsPlaced framing text entry = IfSome entry.mark (λ mark. IsMarkBy framing text entry.note.told.place mark)
 
--- a further reading found these notes, or could not be
-abbrev pub AreNextBy : Option Framing → Asked → Allowed → Option (List ℕ) → List Note → Type 0
-AreNextBy framing asked limits text notes = (notes ≡ []) ⊎ ((count : ℕ) × (tally : Tally) × AreNotesBy framing asked notes count tally limits text)
-
 -- after so many, of so many at most
 abbrev pub asked_after : Asked → ℕ → ℕ → Asked
 asked_after asked most told = record asked { skipped = told; room = min asked.room (most - told) }
 
--- each further reading found the notes that follow those before it, of which there are so many before the first
+-- each piece of a further reading gave the notes that follow those before it, of which there are so many before the first
 abbrev pub AreFurther : Option Framing → Asked → ℕ → Allowed → Option (List ℕ) → ℕ → List (List Note) → Type 0
 AreFurther framing asked most limits text before [] = ⊤
 AreFurther framing asked most limits text before (notes ∷ more) =
@@ -136,7 +133,7 @@ abbrev pub joined : List (List Note) → List Note
 joined [] = []
 joined (notes ∷ more) = notes ++ joined more
 
--- the lines of the notes that the first reading held, and where more are asked for of those that further readings of these bytes found; and
+-- the lines of the notes that the first reading held, and where more are asked for of those that a further reading of these bytes gave; and
 -- after them how many others there are
 abbrev pub ArePlacedLines : Reading → Asked → ℕ → Allowed → List ℕ → Option (List ℕ) → List Note → ℕ → List FeatureLine → Type 0
 ArePlacedLines reading asked most limits name text notes count lines =

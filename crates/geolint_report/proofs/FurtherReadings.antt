@@ -1,5 +1,5 @@
 -- Lemmas on a further reading.
-use Rattle.geolint_report.proofs.Common.{arith, refl, ap, sym, subst, ◌∙◌, inl, inr, ◌≡◌, ◌<◌, ◌≤◌, ◌^◌, ◌++◌, [], List, ℕ, length, take, drop, true, false}
+use Rattle.geolint_report.proofs.Common.{arith, ap, sym, subst, ◌∙◌, inl, inr, ◌≡◌, ◌<◌, ◌≤◌, ◌^◌, ◌++◌, [], List, ℕ, length, take, drop, true, false}
 use Rattle.geolint_report.proofs.Common.{append_assoc, length-take-le, Option, Some, None, Allowed, Framing, Asked, Note}
 use Rattle.std.proofs.Common.{Bool, nat_lt, if◌then◌else◌, ◌+◌}
 use Rattle.std.proofs.lemmas.Bool.Decides.{nat_tests}
@@ -7,7 +7,6 @@ use Rattle.std.proofs.lemmas.List.{take-append-drop}
 use Rattle.gj_json.specs.Events.{all_events}
 use Rattle.gj_json.specs.Text.{IsText, IsTextWithin}
 use Rattle.gj_json.specs.Tree.{Text}
-use Rattle.gj_rules.specs.declared.feature.Feature.{Feature}
 use Rattle.gj_rules.specs.declared.feature_linter.FeatureLinter.{FeatureLinter}
 use Rattle.gj_rules.specs.declared.records.Records.{Records}
 use Rattle.gj_rules.specs.declared.records.record.Record.{Record}
@@ -99,12 +98,15 @@ reader-lists framing limits text offset has_ended reader linter is few short tel
 
 next-in : (framing : Option Framing) (limits : Allowed) (text : List ℕ) (asked : Asked) (listing : Listing) → listing.asked ≡ asked
     → listing.has_failed ≡ false → ListsFirst framing limits text listing → AreNextIn framing asked limits text listing.notes.items
-next-in None limits text asked listing same fine (n, lists) = (n, λ whole admitted.
-    let (features, keeps, say) = lists whole admitted in (
-      features,
-      subst (λ (a : Asked). listing.notes.items ≡ take a.room (drop a.skipped (notes_of a.with_warnings features))) same (keeps.keeps.notes fine),
-      say,
-    ))
+next-in None limits text asked listing same fine (n, lists) = (
+  n,
+  λ whole admitted.
+      let (features, keeps, say) = lists whole admitted in (
+        features,
+        subst (λ (a : Asked). listing.notes.items ≡ take a.room (drop a.skipped (notes_of a.with_warnings features))) same (keeps.keeps.notes fine),
+        say,
+      ),
+)
 next-in (Some framing) limits text asked listing same fine (found, are, keeps) = (
   found,
   are,

@@ -23,7 +23,7 @@ use std::io;
 use std::process::Abort;
 
 /// Tests what must be so of a case.
-fn holds(rt: &impl Abort, is_so: bool, case: &str) {
+pub(crate) fn holds(rt: &impl Abort, is_so: bool, case: &str) {
     assert!(rt; is_so, "{case}");
 }
 
@@ -34,9 +34,9 @@ fn holds_in(rt: &impl Abort, is_so: bool, case: &str, parts: usize) {
 
 /// A source in memory.
 #[derive(Drop)]
-struct Bytes<'a> {
-    bytes: &'a [u8],
-    place: usize,
+pub(crate) struct Bytes<'a> {
+    pub(crate) bytes: &'a [u8],
+    pub(crate) place: usize,
 }
 
 /// Copies the bytes from a place on, as far as there is room, and answers how many there were.

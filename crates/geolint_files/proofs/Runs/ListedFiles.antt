@@ -20,8 +20,9 @@ use Rattle.report_forms.specs.declared.formats.lines.Style.{Style}
 use Rattle.report_forms.specs.declared.options.Every.{Every}
 use Rattle.geolint_files.specs.declared.run.Run.{Run}
 use Rattle.geolint_files.specs.Outcome.{worst}
+use Rattle.geolint_report.specs.Further.{AreNextBy}
 use Rattle.geolint_files.specs.Internal.RunState.{HasTold, TellsFile, TellsLines, ToldFurther, SameTold}
-use Rattle.geolint_files.specs.Listed.{asked_in, asked_by, IsEntryOf, AreEntriesOf, AreLinesOf, others_of, asked_when, asked_after, AreNextBy, AreFurther}
+use Rattle.geolint_files.specs.Listed.{asked_in, asked_by, IsEntryOf, AreEntriesOf, AreLinesOf, others_of, asked_when, asked_after, AreFurther}
 use Rattle.geolint_files.specs.Listed.{joined, most_of, IsPlaced, ArePlacedLines}
 use Rattle.geolint_files.proofs.Runs.ToldFiles.{tallies-append, tallies-none}
 use Rattle.geolint_files.specs.Run.{ToldFile, judged, listed, FeatureLine, others_line, finding_in, tallies_in, outcome_in, Written, AddsFiles, AddsLine}
@@ -338,7 +339,7 @@ pub joined-more : (further : List (List Note)) (notes : List Note) → joined (f
 joined-more [] notes = append-nil notes
 joined-more (first ∷ more) notes = ap (λ (ns : List Note). first ++ ns) (joined-more more notes) ∙ sym (append_assoc first (joined more) notes)
 
--- a further reading more
+-- a piece of a further reading more
 pub AreFurther-more : (framing : Option Framing) (asked : Asked) (most : ℕ) (limits : Allowed) (text : Option (List ℕ)) (before : ℕ)
     (further : List (List Note)) (notes : List Note) → AreFurther framing asked most limits text before further
     → AreNextBy framing (asked_after asked most (u64_saturate (before + length (joined further)))) limits text notes
@@ -353,7 +354,7 @@ AreFurther-more framing asked most limits text before (first ∷ more) notes (he
           (subst (λ (n : ℕ). AreNextBy framing (asked_after asked most (u64_saturate n)) limits text notes) same next),
     )
 
--- what is told after some further readings
+-- what is told after some pieces of a further reading
 pub record IsTold {W : Type 0} (contents : W → Option (List ℕ)) (Right : Entry → Type 0) (name : List ℕ) (framing : Option Framing) (asked : Asked)
     (most : ℕ) (limits : Allowed) (text : Option (List ℕ)) (held told : ℕ) (old new : Run W) : Type 0 where
   pub further : List (List Note)
@@ -391,7 +392,7 @@ IsTold-more contents Right name framing asked most limits text held told last no
       tells = tells;
     }
 
--- the notes that were held, those of further readings, and how many others there are
+-- the notes that were held, those of a further reading, and how many others there are
 pub all-placed : {W : Type 0} (contents : W → Option (List ℕ)) (reading : Reading) (asked : Asked) (most : ℕ) (limits : Allowed) (name : List ℕ)
     (text : Option (List ℕ)) (held : List Note) (count told : ℕ) (old middle last new : Run W) → count < 2 ^ 64
     → (lines : List FeatureLine) × AreEntriesOf (IsPlaced (framing_in reading) text) name held lines × TellsLines contents lines old middle

@@ -54,7 +54,7 @@ pub record TellsLines {W : Type 0} (contents : W → Option (List ℕ)) (lines :
       (tally : Tally) → HasTold contents held options style (files ++ listed report before tally ∷ []) old
       → HasTold contents held options style (files ++ listed report (before ++ lines) tally ∷ []) new
 
--- after so many notes a call reported those that further readings of these bytes found
+-- after so many notes a call reported those that a further reading of these bytes found
 abbrev pub ToldFurther : {W : Type 0} → (W → Option (List ℕ)) → Reading → Asked → ℕ → Allowed → List ℕ → Option (List ℕ) → ℕ → ℕ → Run W → Run W → Type 0
 ToldFurther contents reading asked most limits name text held told old new =
     (further : List (List Note)) × AreFurther (framing_in reading) asked most limits text held further × (most ≤ asked.room → further ≡ [])

@@ -8,7 +8,7 @@ ghost use Rattle.geolint_report.specs.Marks.{IsMarkBy};
 
 use crate::run::{Failure, Run};
 use geolint_report::every::cursor::{Cursors, Mark};
-use geolint_report::every::further::read_further;
+use geolint_report::every::further::Further;
 use geolint_report::every::id::Id;
 use geolint_report::every::listing::{Asked, Item, Note, Notes, notes_for};
 use geolint_report::every::reading::{judge_every, judge_followed};
@@ -85,9 +85,12 @@ impl<'a, W: Write + Drop> Run<'a, W> {
     ghost use Rattle.report_forms.specs.Passing.{passes};
     ghost use Rattle.geolint_report.specs.Judged.{framing_in};
     ghost use Rattle.geolint_files.specs.Told.{HasSites, reading_of};
+    ghost use Rattle.gj_json.specs.Limits.{Allowed};
     ghost use Rattle.geolint_report.specs.Cursors.{StandBy};
+    ghost use Rattle.geolint_report.specs.Further.{AreNextBy};
+    ghost use Rattle.geolint_report.specs.Internal.FurtherReading.{StandsBy};
     ghost use Rattle.geolint_files.specs.Listed.{asked_for, AreLinesOf, AreEntriesOf, others_of, IsMarkedBy, IsPlaced, IsListedOnce, IsListedTwice};
-    ghost use Rattle.geolint_files.specs.Listed.{ArePlacedLines, AreNextBy};
+    ghost use Rattle.geolint_files.specs.Listed.{ArePlacedLines};
     ghost use Rattle.report_forms.specs.Forms.Features.{TellsEntry, TellsMore, first_behind};
     ghost use Rattle.geolint_files.specs.Internal.RunState.{TellsFile, TellsLines, ToldFurther, SameTold};
     ghost use Rattle.geolint_files.specs.Run.{ToldFile, FeatureLine, feature_line, others_line, judged, listed};
@@ -283,8 +286,8 @@ impl<'a, W: Write + Drop> Run<'a, W> {
         self.tell_others(name, others(notes.count, told))
     }
 
-    /// Reports the notes after the first `held`, up to `most` in all: each further reading finds as many as are held at once. It
-    /// answers how many notes are reported then.
+    /// Reports the notes after the first `held`, up to `most` in all: one further reading finds them, and they are reported as they
+    /// come. It answers how many notes are reported then.
     fn tell_further<S: Rewind>(
         &mut self,
         name: &[u8],
@@ -302,50 +305,46 @@ impl<'a, W: Write + Drop> Run<'a, W> {
         if most <= asked.room {
             return Ok(held);
         }
+        let alloc = self.rt.alloc();
+        let framing = reading.framing();
+        let mut further = Further::new(alloc, limits, framing, asked_after(asked, most, held));
+        self.progress.read_again();
         let mut told = held;
-        let mut last = held;
         for _ in 0..u64::MAX {
-            if last < asked.room || told >= most {
+            if further.has_ended() || told >= most {
                 break;
             }
             let next = asked_after(asked, most, told);
-            last = self.tell_next(name, source, limits, reading, next, cursors)?;
+            further.ask(alloc, limits, framing, next);
+            let last = self.tell_next(name, source, &mut further, next, cursors)?;
             told = told.saturating_add(last);
         }
         Ok(told)
     }
 
-    /// Reads a source again, and reports the notes that are asked for: how many they are.
+    /// Reads a piece more of a source, and reports the notes that are asked for: how many they are.
     fn tell_next<S: Rewind>(
         &mut self,
         name: &[u8],
         source: &mut S,
-        limits: Limits,
-        reading: Reading,
+        further: &mut Further,
         asked: Asked,
         cursors: &mut Cursors,
     ) -> Result<u64, Failure>
         ensures stand { (framing : Option Framing) → StandBy framing (S.text source.old) cursors.old → StandBy framing (S.text source.old) cursors.new }
+        ensures further { (framing : Option Framing) (limits : Allowed) → StandsBy framing limits (S.text source.old) further.old
+            → StandsBy framing limits (S.text source.old) further.new }
         ensures text { S.text source.new ≡ S.text source.old }
-        ensures told { StandBy (framing_in reading) (S.text source.old) cursors.old → IfOk result (λ count. (notes : List Note)
-            × AreNextBy (framing_in reading) asked limits (S.text source.old) notes × (count ≡ length notes)
-            × ((lines : List FeatureLine) × AreEntriesOf (IsPlaced (framing_in reading) (S.text source.old)) name.now notes lines
+        ensures told { (framing : Option Framing) (limits : Allowed) → StandBy framing (S.text source.old) cursors.old
+            → StandsBy framing limits (S.text source.old) further.old → IfOk result (λ count. (notes : List Note)
+            × AreNextBy framing asked limits (S.text source.old) notes × (count ≡ length notes)
+            × ((lines : List FeatureLine) × AreEntriesOf (IsPlaced framing (S.text source.old)) name.now notes lines
             × TellsLines W.contents lines self.old self.new)) }
     {
-        match read_further(
-            self.rt.alloc(),
-            source,
-            limits,
-            reading,
-            asked,
-            &mut self.progress,
-        )? {
-            Some(notes) => {
-                self.tell_notes(name, notes.notes.as_slice(), cursors, source)?;
-                Ok(notes.notes.len() as u64)
-            }
-            None => Ok(0),
-        }
+        further.read_on(source, &mut self.progress);
+        let notes = further.notes(asked)?;
+        self.tell_notes(name, notes, cursors, source)?;
+        Ok(notes.len() as u64)
     }
 
     /// Reports notes, each with its line, its path and its `id`.

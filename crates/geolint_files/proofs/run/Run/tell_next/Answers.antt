@@ -1,41 +1,35 @@
-use Rattle.geolint_files.proofs.Common.{refl, subst, sym, ◌≡◌, List, ℕ, length, [], Option, StandBy, framing_in, AreEntriesOf, IsPlaced}
-use Rattle.std.proofs.Common.{rules, inl, inr}
+use Rattle.geolint_files.proofs.Common.{refl, subst, sym, List, ℕ, Option, StandBy, AreEntriesOf, IsPlaced}
 use Rattle.std.proofs.KnownBytes.{Keeps-refl}
-use Rattle.geolint_report.specs.declared.every.listing.Note.{Note}
-use Rattle.geolint_files.proofs.Runs.ListedFiles.{StandBy-then, TellsLines-after, TellsLines-none}
+use Rattle.geolint_files.proofs.Runs.ListedFiles.{StandBy-then, TellsLines-after}
 use Rattle.geolint_files.proofs.run.Run.tell_next.Goals as goal
 
-pub returns-in_err-tell_notes-in-Some-clause-stand : goal.returns-in_err-tell_notes-in-Some-clause-stand
-returns-in_err-tell_notes-in-Some-clause-stand g c = λ framing stand.
-    StandBy-then framing (g.S.Source.text c.args.source.now) _ c.args.cursors.now c.tell_notes.new.cursors c.in_ok-notes.ensures.text
+pub returns-in_err-tell_notes-clause-stand : goal.returns-in_err-tell_notes-clause-stand
+returns-in_err-tell_notes-clause-stand g c = λ framing stand.
+    StandBy-then framing (g.S.Source.text c.args.source.now) _ c.args.cursors.now c.tell_notes.new.cursors c.read_on.ensures.text
     (c.tell_notes.ensures.stand framing) stand
 
-pub returns-in_ok-tell_notes-in-Some-clause-stand : goal.returns-in_ok-tell_notes-in-Some-clause-stand
-returns-in_ok-tell_notes-in-Some-clause-stand g c = λ framing stand.
-    StandBy-then framing (g.S.Source.text c.args.source.now) _ c.args.cursors.now c.tell_notes.new.cursors c.in_ok-notes.ensures.text
+pub returns-clause-stand : goal.returns-clause-stand
+returns-clause-stand g c = λ framing stand.
+    StandBy-then framing (g.S.Source.text c.args.source.now) _ c.args.cursors.now c.tell_notes.new.cursors c.read_on.ensures.text
     (c.tell_notes.ensures.stand framing) stand
 
-pub returns-in_ok-tell_notes-in-Some-clause-told : goal.returns-in_ok-tell_notes-in-Some-clause-told
-returns-in_ok-tell_notes-in-Some-clause-told g c = λ stand.
+pub returns-clause-told : goal.returns-clause-told
+returns-clause-told g c = λ framing limits stand reads.
     let contents = g.W.Write.contents in
     let text = g.S.Source.text c.args.source.now in
-    let framing = framing_in c.args.reading in
-    let name = c.args.name.now in
     let old = c.args.self.now in
-    let notes = c.in-Some.notes in
-    let same = c.in_ok-notes.ensures.text in
-    let kept = rw (c.in-Some.is) at c.in_ok-notes.ensures.notes in
+    let notes = c.in_ok-notes.notes.now in
+    let same = c.read_on.ensures.text in
+    let found = c.in_ok-notes.ensures framing limits text (c.read_on.ensures.stands framing limits reads) in
     let now = subst (λ (t : Option (List ℕ)). StandBy framing t c.args.cursors.now) (sym same) stand in
-    let (lines, are, tells) = c.in_ok-tell_notes-in-Some.ensures.told framing now in
-    let placed = subst (λ (t : Option (List ℕ)). AreEntriesOf (IsPlaced framing t) name c.as_slice.result.now lines) same are in
-    let named = subst (λ (ns : List Note). AreEntriesOf (IsPlaced framing text) name ns lines) c.as_slice.ensures.value placed in
-    let long : c.len.result ≡ length notes.notes.items = search rules in (
-      notes.notes.items,
-      inr (notes.count, notes.tally, kept),
-      long,
+    let (lines, are, tells) = c.in_ok-tell_notes.ensures.told framing now in
+    let placed = subst (λ (t : Option (List ℕ)). AreEntriesOf (IsPlaced framing t) c.args.name.now notes lines) same are in (
+      notes,
+      found,
+      refl,
       (
         lines,
-        named,
+        placed,
         TellsLines-after contents lines old _ c.tell_notes.new.self
             (record {
               same = record { options = refl; style = refl; outcome = refl; summary = refl; tally = refl };
@@ -43,25 +37,5 @@ returns-in_ok-tell_notes-in-Some-clause-told g c = λ stand.
               line = refl;
               out = Keeps-refl (contents old.out);
             }) tells,
-      ),
-    )
-
-pub returns-in-None-clause-told : goal.returns-in-None-clause-told
-returns-in-None-clause-told g c = λ stand.
-    let contents = g.W.Write.contents in
-    let old = c.args.self.now in (
-      [],
-      inl refl,
-      refl,
-      (
-        [],
-        tt,
-        TellsLines-none contents old _
-            (record {
-              same = record { options = refl; style = refl; outcome = refl; summary = refl; tally = refl };
-              log = refl;
-              line = refl;
-              out = Keeps-refl (contents old.out);
-            }),
       ),
     )

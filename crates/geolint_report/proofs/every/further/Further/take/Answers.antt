@@ -1,4 +1,4 @@
-use Rattle.geolint_report.proofs.Common.{◌+◌, ◌++◌, length, subst, sym, take, List, ℕ}
+use Rattle.geolint_report.proofs.Common.{◌+◌, length, subst, sym, take, List, ℕ}
 use Rattle.gj_rules.specs.FeatureLinter.{StandsFor}
 use Rattle.geolint_report.specs.Every.{KeepsNotes}
 use Rattle.geolint_report.proofs.FurtherReadings.{records-fed, text-now}
