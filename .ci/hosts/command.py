@@ -8,6 +8,7 @@ character in different ways."""
 
 import json
 import os
+import shutil
 import subprocess
 import sys
 import tempfile
@@ -121,6 +122,16 @@ def lists(folder):
     os.mkdir(os.path.join(folder, "none"))
     compare(["--allow-empty", os.path.join(folder, "none")])
     compare([os.path.join(folder, "none"), "--strict", ring])
+    # What is no regular file, and links that lead out of the folder.
+    special = os.path.join(folder, "special")
+    os.mkdir(special)
+    os.mkfifo(os.path.join(special, "fifo.geojson"))
+    for name, target in ("zero", "/dev/zero"), ("outside", "../a/two.geojson"), ("inside", "bad.geojson"), ("bad", None):
+        path = os.path.join(special, name + ".geojson")
+        os.symlink(target, path) if target else shutil.copy(ring, path)
+    for words in ([], ["--every"], ["--format", "json"]):
+        compare([*words, special])
+        compare([*words, "--files-from", "-"], "".join(f"{special}/{it}.geojson\n" for it in ("fifo", "zero", "outside", "inside")).encode())
 
 
 def alone():

@@ -15,6 +15,7 @@ from .files import Asked, Found, Recent, Tally, read, read_file
 CODES = [*(f"G{n}" for n in range(1, 22)), *(f"W{n}" for n in range(1, 10)), *(f"J{n}" for n in range(1, 5))]
 _NO_INPUT = "a list cannot name standard input; ./- is a file of that name"
 _NO_NUL = "a name in a list has no NUL; --null takes names that end with it"
+_NO_FILE = "no regular file; it is read where it is given by name"
 
 
 @dataclass
@@ -153,13 +154,15 @@ class Run:
         elif name == b"-":
             self.tell_unread(name, _NO_INPUT)
         else:
-            self.path(name)
+            self.path(name, takes_streams=False)
 
-    def path(self, path: bytes) -> None:
-        """Checks a file, or the files of a folder."""
+    def path(self, path: bytes, takes_streams: bool = True) -> None:
+        """Checks a file, or the files of a folder. A stream is one where it is given by name."""
         if path == b"-":
             self.stream(path, sys.stdin.buffer)
             return
+        # The folder whose files are shown: the one that is given, or of a name in a list the one in which it stands.
+        folder = os.path.realpath(path if takes_streams else os.path.dirname(path.rstrip(b"/")) or b".")
         pending, entered = [(path, True)], set()
         while pending:
             name, is_given = pending.pop()
@@ -174,8 +177,10 @@ class Run:
                 if (found.st_dev, found.st_ino) not in entered:
                     entered.add((found.st_dev, found.st_ino))
                     pending.extend((entry, False) for entry in reversed(self.entries(name)))
-            elif is_given or (is_wanted and stat.S_ISREG(found.st_mode)):
-                self.file(name, stat.S_ISREG(found.st_mode))
+            elif is_given and takes_streams:
+                self.file(name)
+            elif is_wanted:
+                self.found(name, folder)
             elif stat.S_ISREG(found.st_mode):
                 self.others, self.other_count = self.others or [name], self.other_count + 1
 
@@ -190,17 +195,30 @@ class Run:
             self.tell_unread(folder, _reason(error))
             return []
 
-    def file(self, name: bytes, is_regular: bool) -> None:
+    def file(self, name: bytes) -> None:
+        """Checks a file or a stream that is given by name."""
         try:
             with open(name, "rb") as file:
-                if not is_regular:
-                    self.stream(name, file)
-                    return
-                found = read_file(name, file, self.order.asked, self.framing(name))
+                self.opened(name, file, stat.S_ISREG(os.fstat(file.fileno()).st_mode))
         except OSError as error:
             self.tell_unread(name, _reason(error))
-            return
-        self.tell(found)
+
+    def found(self, name: bytes, folder: bytes) -> None:
+        """Checks a file that is found in a folder or a list. Of one outside of this folder no text is shown, as of a stream."""
+        try:
+            with open(name, "rb", opener=lambda path, flags: os.open(path, flags | os.O_NONBLOCK)) as file:
+                if stat.S_ISREG(os.fstat(file.fileno()).st_mode):
+                    self.opened(name, file, os.path.realpath(name).startswith(os.path.join(folder, b"")))
+                else:
+                    self.tell_unread(name, _NO_FILE)
+        except OSError as error:
+            self.tell_unread(name, _NO_FILE if error.errno == errno.ENXIO else _reason(error))
+
+    def opened(self, name: bytes, file: Any, is_shown: bool) -> None:
+        if is_shown:
+            self.tell(read_file(name, file, self.order.asked, self.framing(name)))
+        else:
+            self.stream(name, file)
 
     def stream(self, name: bytes, file: Any) -> None:
         """Checks what can be read once only."""
