@@ -7,7 +7,7 @@ ghost use Rattle.std.specs.declared.io.ErrorKind.{ErrorKind};
 use std::alloc::Global;
 use std::fs::{self, File, Files, Metadata};
 use std::io::{self, ErrorKind, Read};
-use std::path::{Path, PathBuf};
+use std::path::PathBuf;
 use std::str;
 
 /// The system's number for bytes that are no text (`EILSEQ`).
@@ -24,13 +24,19 @@ pub fn look_up(rt: &HostRuntime, name: &[u8]) -> io::Result<(Spelled, Metadata)>
 /// The folder whose files are shown, without links: the one that is given, or of a name in a list the one in which it stands. None
 /// where the system does not say.
 pub fn shown_folder(rt: &HostRuntime, name: &[u8], is_given: bool) -> Option<PathBuf> {
+    if is_given {
+        return resolved(rt, name);
+    }
+    match name.iter().rposition(|byte| *byte == b'/') {
+        Some(end) => resolved(rt, &name[..=end]),
+        None => resolved(rt, b"."),
+    }
+}
+
+/// Where a name leads to, without links.
+fn resolved(rt: &HostRuntime, name: &[u8]) -> Option<PathBuf> {
     let spelled = spell(rt.alloc(), name).ok()?;
-    let folder = match Path::new(spelled.as_str()).parent() {
-        _ if is_given => spelled.as_str(),
-        Some(parent) if !parent.as_str().is_empty() => parent.as_str(),
-        _ => ".",
-    };
-    fs::canonicalize(rt, folder).ok()
+    fs::canonicalize(rt, spelled.as_str()).ok()
 }
 
 /// Whether a name was not found because it is a link that leads nowhere.

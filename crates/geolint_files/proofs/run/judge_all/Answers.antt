@@ -1,7 +1,7 @@
-use Rattle.geolint_files.proofs.Common.{[], List, Bool, ◌≡◌, refl, sym, subst, ap, ◌∙◌, Options}
+use Rattle.geolint_files.proofs.Common.{[], Bool, ◌≡◌, refl, sym, subst, ap, ◌∙◌, Options}
 use Rattle.std.proofs.Common.{true, false}
 use Rattle.std.proofs.lemmas.Bool.{true≢false}
-use Rattle.geolint_files.specs.Run.{ToldFile, worst_of, IsWholeReport}
+use Rattle.geolint_files.specs.Run.{worst_of, IsWholeReport}
 use Rattle.geolint_files.proofs.run.judge_all.Goals as goal
 
 allowed : (b : Bool) → (b ≡ false → ⊥) → b ≡ true

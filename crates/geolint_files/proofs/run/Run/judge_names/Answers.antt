@@ -1,9 +1,8 @@
-use Rattle.geolint_files.proofs.Common.{◌++◌, ◌∷◌, [], List, ℕ, Bool, Option, ap, sym, subst, ◌∙◌, not_read}
+use Rattle.geolint_files.proofs.Common.{◌++◌, ◌∷◌, [], List, ℕ, Bool, Option, sym, subst, ◌∙◌, not_read}
 use Rattle.std.proofs.Common.{true}
 use Rattle.std.proofs.lemmas.List.{map-append}
 use Rattle.std.proofs.lemmas.Result.{on_ok_weaker}
-use Rattle.name_lists.specs.Left.{left_of, NextOf}
-use Rattle.geolint_files.specs.Named.{AreOf, given_of, none_named}
+use Rattle.geolint_files.specs.Named.{AreOf, none_named}
 use Rattle.geolint_files.proofs.Runs.NamedFiles.{Left, Left-start, Left-name, all-listed, some-listed, AreOf-then}
 use Rattle.geolint_files.proofs.Runs.ToldFiles.{TellsFiles-none, TellsFiles-one, TellsFiles-then, unchanged}
 use Rattle.geolint_files.proofs.run.Run.judge_names.Goals as goal

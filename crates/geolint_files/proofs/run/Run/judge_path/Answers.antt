@@ -1,7 +1,7 @@
 use Rattle.geolint_files.proofs.Common.{◌++◌, ◌∷◌, [], List, ℕ, Bool, ap, sym, subst, ◌∙◌}
 use Rattle.std.proofs.Common.{append-nil, reverse, true}
 use Rattle.std.proofs.lemmas.Result.{on_ok_weaker}
-use Rattle.geolint_files.specs.Named.{AreOf, none_named, GoesOn, next_in}
+use Rattle.geolint_files.specs.Named.{AreOf, none_named, GoesOn}
 use Rattle.geolint_files.specs.Run.{ToldFile}
 use Rattle.geolint_files.specs.Walk.{named_in}
 use Rattle.geolint_files.specs.declared.walk.Pending.{Pending}
