@@ -179,8 +179,10 @@ class Run:
                     pending.extend((entry, False) for entry in reversed(self.entries(name)))
             elif is_given and takes_streams:
                 self.file(name)
+            elif is_wanted and stat.S_ISREG(found.st_mode):
+                self.file(name, folder)
             elif is_wanted:
-                self.found(name, folder)
+                self.tell_unread(name, _NO_FILE)
             elif stat.S_ISREG(found.st_mode):
                 self.others, self.other_count = self.others or [name], self.other_count + 1
 
@@ -195,40 +197,37 @@ class Run:
             self.tell_unread(folder, _reason(error))
             return []
 
-    def file(self, name: bytes) -> None:
-        """Checks a file or a stream that is given by name."""
+    def file(self, name: bytes, folder: Optional[bytes] = None) -> None:
+        """Checks what is given by name; with a folder, what is found in one or in a list. Of a file outside of that folder no text is shown,
+        as of a stream."""
+        more = 0 if folder is None else os.O_NONBLOCK
         try:
-            with open(name, "rb") as file:
-                self.opened(name, file, stat.S_ISREG(os.fstat(file.fileno()).st_mode))
-        except OSError as error:
-            self.tell_unread(name, _reason(error))
-
-    def found(self, name: bytes, folder: bytes) -> None:
-        """Checks a file that is found in a folder or a list. Of one outside of this folder no text is shown, as of a stream."""
-        try:
-            with open(name, "rb", opener=lambda path, flags: os.open(path, flags | os.O_NONBLOCK)) as file:
-                if stat.S_ISREG(os.fstat(file.fileno()).st_mode):
-                    self.opened(name, file, os.path.realpath(name).startswith(os.path.join(folder, b"")))
+            with open(name, "rb", opener=lambda path, flags: os.open(path, flags | more)) as file:
+                is_regular = stat.S_ISREG(os.fstat(file.fileno()).st_mode)
+                if folder is not None and not is_regular:
+                    raise OSError(0, _NO_FILE)
+                is_shown = folder is None or os.path.realpath(name).startswith(os.path.join(folder, b""))
+                if is_regular and is_shown:
+                    found = read_file(name, file, self.order.asked, self.framing(name))
                 else:
-                    self.tell_unread(name, _NO_FILE)
-        except OSError as error:
-            self.tell_unread(name, _NO_FILE if error.errno == errno.ENXIO else _reason(error))
-
-    def opened(self, name: bytes, file: Any, is_shown: bool) -> None:
-        if is_shown:
-            self.tell(read_file(name, file, self.order.asked, self.framing(name)))
-        else:
-            self.stream(name, file)
-
-    def stream(self, name: bytes, file: Any) -> None:
-        """Checks what can be read once only."""
-        try:
-            source = Recent(file) if self.order.asked.every else file
-            found = read(name, source, self.order.asked, self.framing(name))
+                    found = self.streamed(name, file)
         except OSError as error:
             self.tell_unread(name, _reason(error))
             return
         self.tell(found)
+
+    def stream(self, name: bytes, file: Any) -> None:
+        try:
+            found = self.streamed(name, file)
+        except OSError as error:
+            self.tell_unread(name, _reason(error))
+            return
+        self.tell(found)
+
+    def streamed(self, name: bytes, file: Any) -> Found:
+        """What can be read once only."""
+        source = Recent(file) if self.order.asked.every else file
+        return read(name, source, self.order.asked, self.framing(name))
 
     def framing(self, name: bytes) -> Optional[str]:
         return self.order.asked.framing or framing_of(name)
