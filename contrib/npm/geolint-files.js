@@ -1,9 +1,9 @@
 #!/usr/bin/env node
 // Checks GeoJSON files and folders in Node, with the options of the program geolint-files as far as they serve.
 
-import { lstat, open, readdir, realpath, stat } from "node:fs/promises";
-import { constants, createReadStream, readFileSync } from "node:fs";
-import { dirname, join, sep } from "node:path";
+import { lstat, open, readdir, stat } from "node:fs/promises";
+import { createReadStream, readFileSync } from "node:fs";
+import { join } from "node:path";
 import { parseArgs } from "node:util";
 import { load, textOf, jsonOf, jsonOfUnread, linesOf, sarifOf, githubOf, githubOfUnread, eachOf } from "./geolint.js";
 import { textOfFindings, jsonOfFindings, linesOfFindings, githubOfFindings } from "./geolint.js";
@@ -58,9 +58,6 @@ const OPTIONS = {
 };
 const FORMATS = ["lines", "json", "github", "sarif", "text"];
 
-const NO_FILE = "no regular file; it is read where it is given by name";
-const NO_INPUT = "a list cannot name standard input; ./- is a file of that name";
-
 class WrongWords extends Error {}
 
 /** The words of the call, tried. */
@@ -91,31 +88,27 @@ function givenWords() {
   return { ...values, maxBytes: most === undefined ? 0 : BigInt(most), allowed, endings, which, framing, most: Number(values.most) || Infinity, paths: positionals, list: values["files-from"] ?? null };
 }
 
-/** The paths that are given, and those of a list, which are found. */
+/** The paths that are given, and those of a list. */
 async function pathsOf({ paths, list, null: isNull }) {
-  const given = paths.map((path) => ({ path }));
-  if (list === null) return given.length ? given : [{ path: "-" }];
+  if (list === null) return paths.length ? paths : ["-"];
   const parts = [];
   try {
     for await (const it of list === "-" ? process.stdin : createReadStream(list)) parts.push(it);
   } catch (error) {
     throw new Error(`${shown(list)}: ${reasonOf(error)}`);
   }
-  const listed = Buffer.concat(parts).toString().split(isNull ? "\0" : "\n").filter(Boolean);
-  return [...given, ...listed.map((path) => ({ path, isFound: true }))];
+  return [...paths, ...Buffer.concat(parts).toString().split(isNull ? "\0" : "\n").filter(Boolean)];
 }
 
-/** The files that the paths name: { name, folder } each, or { name, reason } where one cannot be looked at. One that is found in a folder or a
- * list has the folder whose files are shown: the one that is given, or in which a name of a list stands. */
+/** The files that the paths name: { name } each, or { name, reason } where one cannot be looked at. */
 async function* filesOf(paths, endings, others) {
-  for (const { path, isFound } of paths) {
-    if (path === "-" && isFound) yield { name: path, reason: NO_INPUT };
-    else if (path === "-") yield { name: path };
-    else yield* filesAt(path, endings, others, new Set(), isFound ? dirname(path) : path, isFound);
+  for (const path of paths) {
+    if (path === "-") yield { name: path };
+    else yield* filesAt(path, endings, others, new Set());
   }
 }
 
-async function* filesAt(path, endings, others, seen, folder, isFound, isInFolder = false) {
+async function* filesAt(path, endings, others, seen, isInFolder = false) {
   let is;
   try {
     is = await stat(path);
@@ -125,9 +118,10 @@ async function* filesAt(path, endings, others, seen, folder, isFound, isInFolder
     return;
   }
   if (!is.isDirectory()) {
-    if (isInFolder && !endsSo(path, endings)) others.count += is.isFile() ? 1 : 0;
-    else if (!isFound) yield { name: path };
-    else yield is.isFile() ? { name: path, folder } : { name: path, reason: NO_FILE };
+    if (!isInFolder) yield { name: path };
+    else if (!is.isFile()) return;
+    else if (endsSo(path, endings)) yield { name: path };
+    else others.count++;
     return;
   }
   const identity = `${is.dev} ${is.ino}`;
@@ -139,7 +133,7 @@ async function* filesAt(path, endings, others, seen, folder, isFound, isInFolder
   } catch (error) {
     return yield { name: path, reason: reasonOf(error) };
   }
-  for (const name of names.sort()) yield* filesAt(join(path, name), endings, others, seen, folder, true, true);
+  for (const name of names.sort()) yield* filesAt(join(path, name), endings, others, seen, true);
 }
 
 /** Whether a name was not found since it is a link that leads nowhere. */
@@ -157,21 +151,13 @@ const reasonOf = (error) => error.message.replace(/^\w+: /, "").replace(/, \w+( 
 /** How a file of this name holds many texts; null where it is one. */
 const framingOf = (name) => (/\.geojsons$/i.test(name) ? "sequence" : /\.(?:ndjson|geojsonl)$/i.test(name) ? "lines" : null);
 
-/** Whether what a name leads to stands in this folder. */
-async function standsIn(name, folder) {
-  const [path, root] = await Promise.all([realpath(name), realpath(folder)]);
-  return path.startsWith(root.endsWith(sep) ? root : root + sep);
-}
-
-/** The report of a file, or of standard input. Of a file outside of its folder no text is shown, as of a stream. */
-async function judge(geolint, name, folder, words) {
+/** The report of a file, or of standard input. */
+async function judge(geolint, name, words) {
   if (name === "-") return judgeInput(geolint, name, process.stdin, words);
-  const file = await open(name, constants.O_RDONLY | (folder === undefined ? 0 : constants.O_NONBLOCK ?? 0));
+  const file = await open(name);
   try {
     const is = await file.stat();
-    if (folder !== undefined && !is.isFile()) throw new Error(NO_FILE);
-    const isShown = folder === undefined || (await standsIn(name, folder));
-    const input = is.isFile() && isShown ? { size: is.size, read: (from, to) => bytesOf(file, from, to) } : file.createReadStream({ autoClose: false });
+    const input = is.isFile() ? { size: is.size, read: (from, to) => bytesOf(file, from, to) } : file.createReadStream({ autoClose: false });
     return await judgeInput(geolint, name, input, words);
   } finally {
     await file.close();
@@ -221,10 +207,10 @@ async function run(words) {
   const counts = { valid: 0, "valid with warnings": 0, broken: 0, "not JSON": 0, "not read": 0, ...(words.quick ? { "not valid": 0 } : {}) };
   const [reports, unread, others] = [[], [], { count: 0 }];
   let status = 0;
-  for await (const { name, folder, reason } of filesOf(await pathsOf(words), words.endings, others)) {
+  for await (const { name, reason } of filesOf(await pathsOf(words), words.endings, others)) {
     try {
       if (reason) throw new Error(reason);
-      const report = await judge(geolint, name, folder, words);
+      const report = await judge(geolint, name, words);
       const { verdict } = report;
       await write(forms[words.format](name, report));
       if (words.format === "sarif") reports.push({ name, ...report });
