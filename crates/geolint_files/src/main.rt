@@ -61,7 +61,9 @@ enum NoOrder {
 /// words are wrong or that the report could not be written, and 141 that nobody reads it any more.
 fn main(rt: HostRuntime) -> ExitCode {
     if lacks_stack(&rt) {
-        let _ = eprintln!(rt; "geolint-files: the stack has less than 4 MiB: `ulimit -s 8192` gives it more");
+        let _ = eprintln!(rt;
+            "geolint-files: the stack has less than 4 MiB: `ulimit -s 8192` gives it more"
+        );
         return ExitCode::from(2);
     }
     match read_order(&rt) {

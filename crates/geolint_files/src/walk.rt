@@ -139,11 +139,7 @@ impl Walk {
     ghost use Rattle.geolint_files.specs.Walk.{entries_in, folder_cmp, named_in};
 
     /// From a name that was given, in a folder whose files are shown.
-    pub fn of(
-        rt: &HostRuntime,
-        name: &[u8],
-        folder: Option<PathBuf>,
-    ) -> Result<Walk, AllocError>
+    pub fn of(rt: &HostRuntime, name: &[u8], folder: Option<PathBuf>) -> Result<Walk, AllocError>
         ensures { IfOk result (λ walk. named_in walk.pending.items ≡ (name.now, true) ∷ []) }
     {
         let mut pending = Vec::new(rt.alloc());
