@@ -67,7 +67,7 @@ $(WEB_OUT)/index.html: $(WEB_BUILD)/geolint.wasm $(wildcard $(WEB)/*) $(top)/doc
 	$(WEB_PYTHON) $(WEB)/build $< $@
 	@echo "geolint: the page is $@, $$(($$(gzip -9c $@ | wc -c) / 1000)) kB as a server sends it" >&2
 
-npm_sources := geolint.js geolint.d.ts check.js details.js findings.js hints.js linter.js lines.js names.js paths.js report.js source.js split.js terminal.js width.js
+npm_sources := geolint.js geolint.d.ts check.js details.js endings.js findings.js hints.js linter.js lines.js names.js paths.js report.js source.js split.js terminal.js width.js
 npm: $(WEB_BUILD)/geolint.wasm
 	@$(call needs,npm,npm)
 	rm -rf $(NPM_BUILD)

@@ -1,10 +1,11 @@
 #!/usr/bin/env node
 // Checks GeoJSON files and folders in Node, with the options of the program geolint-files as far as they serve.
 
-import { lstat, open, readdir, stat } from "node:fs/promises";
-import { createReadStream, readFileSync } from "node:fs";
-import { join } from "node:path";
+import { lstat, open, readdir, realpath, stat } from "node:fs/promises";
+import { constants, createReadStream, readFileSync } from "node:fs";
+import { dirname, join, sep } from "node:path";
 import { parseArgs } from "node:util";
+import { endsIn, framingOf, FOLDER_ENDINGS } from "./endings.js";
 import { load, textOf, jsonOf, jsonOfUnread, linesOf, sarifOf, githubOf, githubOfUnread, eachOf } from "./geolint.js";
 import { textOfFindings, jsonOfFindings, linesOfFindings, githubOfFindings } from "./geolint.js";
 
@@ -31,8 +32,8 @@ Usage: geolint-files [--strict] [--allow W4,W9] [--quick] [--max-bytes N] [--for
   --allow-empty    Do not fail if there is no file to check
   --help, --version
 
-A PATH is a file, a folder, in which each *.geojson, *.geojsons, *.ndjson and *.geojsonl is checked, or - for standard input. With
-no PATH and no --files-from, standard input is checked.
+A PATH is a file, a folder, in which each ${FOLDER_ENDINGS.map((it) => `*${it}`).join(", ")} is
+checked, or - for standard input. With no PATH and no --files-from, standard input is checked.
 
 Exit status: 0 if every file is valid, 1 if a file is not, 2 if a file could not be read, no file was checked, or the arguments are wrong.
 `;
@@ -84,44 +85,50 @@ function givenWords() {
   if (unknown !== undefined) throw new WrongWords(`invalid value '${unknown}' for '--allow': it is W1 to W9`);
   const which = values["every-warnings"] ? "findings" : values.every ? "faults" : null;
   const framing = values.seq ? "sequence" : values.ndjson ? "lines" : null;
-  const endings = ["geojson", "geojsons", "ndjson", "geojsonl", ...values.ending].map((it) => `.${it.replace(/^\./, "").toLowerCase()}`);
+  const endings = [...FOLDER_ENDINGS, ...values.ending.map((it) => `.${it.replace(/^\./, "").toLowerCase()}`)];
   return { ...values, maxBytes: most === undefined ? 0 : BigInt(most), allowed, endings, which, framing, most: Number(values.most) || Infinity, paths: positionals, list: values["files-from"] ?? null };
 }
 
-/** The paths that are given, and those of a list. */
+/** The paths that are given, and those of a list: { path, isListed } each. */
 async function pathsOf({ paths, list, null: isNull }) {
-  if (list === null) return paths.length ? paths : ["-"];
+  const given = (list === null && !paths.length ? ["-"] : paths).map((path) => ({ path, isListed: false }));
+  if (list === null) return given;
   const parts = [];
   try {
     for await (const it of list === "-" ? process.stdin : createReadStream(list)) parts.push(it);
   } catch (error) {
     throw new Error(`${shown(list)}: ${reasonOf(error)}`);
   }
-  return [...paths, ...Buffer.concat(parts).toString().split(isNull ? "\0" : "\n").filter(Boolean)];
+  const listed = Buffer.concat(parts).toString().split(isNull ? "\0" : "\n").filter(Boolean);
+  return [...given, ...listed.map((path) => ({ path, isListed: true }))];
 }
 
-/** The files that the paths name: { name } each, or { name, reason } where one cannot be looked at. */
+/** The files that the paths name: { name } each, with the `folder` in which it was found or listed, or with the reason why it cannot be looked
+ *  at. Only a path that is given may be a stream. */
 async function* filesOf(paths, endings, others) {
-  for (const path of paths) {
-    if (path === "-") yield { name: path };
-    else yield* filesAt(path, endings, others, new Set());
+  for (const { path, isListed } of paths) {
+    if (path !== "-") yield* filesAt(path, { endings, others, isListed, seen: new Set() });
+    else if (isListed) yield { name: path, reason: "a list cannot name standard input; ./- is a file of that name" };
+    else yield { name: path };
   }
 }
 
-async function* filesAt(path, endings, others, seen, isInFolder = false) {
+async function* filesAt(path, walk, folder = null) {
+  const { endings, others, isListed, seen } = walk;
+  const isWanted = folder === null || endsIn(path, endings);
   let is;
   try {
     is = await stat(path);
+    folder ??= isListed ? await realpath(dirname(path)) : is.isDirectory() ? await realpath(path) : null;
   } catch (error) {
     // Of a link that leads nowhere only one with an ending is reported. A name that is not Unicode text is not found either, and is no link.
-    if (!isInFolder || endsSo(path, endings) || !(await isLostLink(path, error))) yield { name: path, reason: reasonOf(error) };
+    if (isWanted || !(await isLostLink(path, error))) yield { name: path, reason: reasonOf(error) };
     return;
   }
   if (!is.isDirectory()) {
-    if (!isInFolder) yield { name: path };
-    else if (!is.isFile()) return;
-    else if (endsSo(path, endings)) yield { name: path };
-    else others.count++;
+    if (!isWanted) others.count += Number(is.isFile());
+    else if (folder === null || is.isFile()) yield { name: path, folder };
+    else yield { name: path, reason: NO_FILE };
     return;
   }
   const identity = `${is.dev} ${is.ino}`;
@@ -133,7 +140,7 @@ async function* filesAt(path, endings, others, seen, isInFolder = false) {
   } catch (error) {
     return yield { name: path, reason: reasonOf(error) };
   }
-  for (const name of names.sort()) yield* filesAt(join(path, name), endings, others, seen, true);
+  for (const name of names.sort()) yield* filesAt(join(path, name), walk, folder);
 }
 
 /** Whether a name was not found since it is a link that leads nowhere. */
@@ -145,24 +152,29 @@ async function isLostLink(path, error) {
 /** A text without what a terminal would obey: in its place are the numbers of its bytes. */
 const shown = (text) => text.replace(/[\u0000-\u001f\u007f-\u009f]/g, (it) => [...Buffer.from(it)].map((byte) => `\\x${byte.toString(16).padStart(2, "0")}`).join(""));
 
-const endsSo = (path, endings) => endings.some((it) => path.toLowerCase().endsWith(it));
+const NO_FILE = "no regular file; it is read where it is given by name";
 const reasonOf = (error) => error.message.replace(/^\w+: /, "").replace(/, \w+( '.*')?$/s, "");
 
-/** How a file of this name holds many texts; null where it is one. */
-const framingOf = (name) => (/\.geojsons$/i.test(name) ? "sequence" : /\.(?:ndjson|geojsonl)$/i.test(name) ? "lines" : null);
-
-/** The report of a file, or of standard input. */
-async function judge(geolint, name, words) {
+/** The report of a file, or of standard input. Of a file outside of the folder in which it was found no text is shown. */
+async function judge(geolint, { name, folder = null }, words) {
   if (name === "-") return judgeInput(geolint, name, process.stdin, words);
-  const file = await open(name);
+  // A FIFO that has taken the place of the file is not waited for.
+  const file = await open(name, folder === null ? constants.O_RDONLY : constants.O_RDONLY | constants.O_NONBLOCK);
   try {
     const is = await file.stat();
+    if (folder !== null && !is.isFile()) throw new Error(NO_FILE);
     const input = is.isFile() ? { size: is.size, read: (from, to) => bytesOf(file, from, to) } : file.createReadStream({ autoClose: false });
-    return await judgeInput(geolint, name, input, words);
+    const report = await judgeInput(geolint, name, input, words);
+    if (folder === null || join(await realpath(name), sep).startsWith(join(folder, sep))) return report;
+    return { ...report, verdict: withoutText(report.verdict), items: report.items.map(withoutText) };
   } finally {
     await file.close();
   }
 }
+
+/** A verdict or a finding without what the text shows. */
+const withoutText = (it) => ({ ...it, ...NO_TEXT, warnings: it.warnings.map((one) => ({ ...one, ...NO_TEXT })) });
+const NO_TEXT = { line: null, column: null, path: null, feature: null, excerpt: null, hint: null, id: null, name: null };
 
 /** The verdict, and under --every what is found in the features or records: `items`, and how many `more` there are. */
 async function judgeInput(geolint, name, input, { maxBytes, framing = null, which, most, quick: isQuick }) {
@@ -207,10 +219,10 @@ async function run(words) {
   const counts = { valid: 0, "valid with warnings": 0, broken: 0, "not JSON": 0, "not read": 0, ...(words.quick ? { "not valid": 0 } : {}) };
   const [reports, unread, others] = [[], [], { count: 0 }];
   let status = 0;
-  for await (const { name, reason } of filesOf(await pathsOf(words), words.endings, others)) {
+  for await (const { name, folder, reason } of filesOf(await pathsOf(words), words.endings, others)) {
     try {
       if (reason) throw new Error(reason);
-      const report = await judge(geolint, name, words);
+      const report = await judge(geolint, { name, folder }, words);
       const { verdict } = report;
       await write(forms[words.format](name, report));
       if (words.format === "sarif") reports.push({ name, ...report });

@@ -1,16 +1,9 @@
 // The files that are dropped or chosen, with those in folders.
 
-/** The endings of files that are checked in a folder. */
-export const ENDINGS = [".geojson", ".json", ".geojsons", ".geojsonl", ".ndjson"];
-/** Those that hold many texts, by their framing. */
-const FRAMINGS = [
-  ["sequence", /\.(?:geojsons|geojsonseq)$/i],
-  ["lines", /\.(?:geojsonl|ndgeojson|ndjson|jsonl)$/i],
-];
+import { endsIn, FOLDER_ENDINGS } from "./endings.js";
 
-/** How a file of this name holds many texts; undefined where it is one. */
-export const framingOf = (name) => FRAMINGS.find(([, ending]) => ending.test(name))?.[0];
-const isJudged = (name) => ENDINGS.some((ending) => name.toLowerCase().endsWith(ending));
+/** The endings of files that are checked in a folder. */
+export const ENDINGS = [...FOLDER_ENDINGS, ".json"];
 
 /** What is dropped: `files` as { name, file }, and how many others lie in the folders. */
 export async function droppedFiles(transfer) {
@@ -29,7 +22,7 @@ export async function droppedFiles(transfer) {
 }
 
 async function take(name, fileOf, found) {
-  if (isJudged(name)) found.files.push({ name, file: await fileOf() });
+  if (endsIn(name, ENDINGS)) found.files.push({ name, file: await fileOf() });
   else found.others++;
 }
 

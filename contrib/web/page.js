@@ -2,7 +2,8 @@
 // address at all.
 
 import { say, speak, preferred, languages, size, time } from "./language.js";
-import { droppedFiles, chosenFiles, framingOf, ENDINGS } from "./files.js";
+import { framingOf } from "./endings.js";
+import { droppedFiles, chosenFiles, ENDINGS } from "./files.js";
 import { STRIDE } from "./lines.js";
 import { Packed } from "./packed.js";
 import { make } from "./dom.js";

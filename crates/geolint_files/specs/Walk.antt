@@ -7,9 +7,11 @@ use Rattle.std.specs.Cmp.Lexicographic.{pointwise}
 use Rattle.std.specs.Ordering.{nat_cmp, ordering_then}
 use Rattle.std.specs.declared.cmp.Ordering.{Ordering}
 use Rattle.std.specs.Str.{str_eq_ignore_ascii_case}
+use Rattle.std.specs.Borrow.{Bor}
 use Rattle.std.specs.declared.alloc.Global.{Global}
 use Rattle.gj_rules.specs.declared.records.framing.Framing.{Framing}
 use Rattle.geolint_files.specs.declared.walk.Pending.{Pending}
+use Rattle.geolint_files.specs.declared.walk.TheConstants.{LINES, SEQUENCES}
 
 abbrev pub slash : ℕ
 slash = 47
@@ -22,11 +24,14 @@ abbrev pub ends_in : List ℕ → List ℕ → Bool
 ends_in name ending = str_eq_ignore_ascii_case (drop (length name - length ending) name) ending
 
 -- how the texts of a file of this name are separated; others are one text
+abbrev pub ends_in_any : List ℕ → List (Bor (List ℕ)) → Bool
+ends_in_any name endings = list_any (λ (ending : Bor (List ℕ)). ends_in name ending.now) endings
+
 abbrev pub framing_of : List ℕ → Option Framing
 framing_of name =
-    if ends_in name (codes ".geojsons")
+    if list_any (λ ending. ends_in name ending.now) SEQUENCES
     then Some Framing.Sequence
-    else (if ends_in name (codes ".ndjson") || ends_in name (codes ".geojsonl") then Some Framing.Lines else None)
+    else (if list_any (λ ending. ends_in name ending.now) LINES then Some Framing.Lines else None)
 
 abbrev pub ends_in_one : List ℕ → List (Vec ℕ Global) → Bool
 ends_in_one name endings = list_any (λ (ending : Vec ℕ Global). ends_in name ending.items) endings

@@ -15,9 +15,9 @@ const AFTER_HELP: &str = "\
 A PATH is a file, a folder, or - for standard input. With no PATH and no --files-from, standard input is checked.
 
 In a folder and the folders below it, files are checked by their endings, in upper or lower case, in the order of their names:
-  *.geojson             one text
-  *.geojsons            a text sequence (RFC 8142)
-  *.ndjson, *.geojsonl  newline-delimited texts, one on each line
+  *.geojson                                   one text
+  *.geojsons, *.geojsonseq                    a text sequence (RFC 8142)
+  *.ndjson, *.ndgeojson, *.geojsonl, *.jsonl  newline-delimited texts, one on each line
 
 Exit status:
   0    every file is valid; under --strict, with no warnings but those that --allow lets pass

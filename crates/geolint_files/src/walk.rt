@@ -2,12 +2,18 @@
 
 ghost use Rattle.std.specs.Prelude.{◌≡◌, ◌<◌, ◌-◌, ◌^◌, IfOk};
 ghost use Rattle.geolint_files.specs.Told.{framing_by};
-ghost use Rattle.geolint_files.specs.Walk.{ending_of, start_after, ends_in, ends_in_one, framing_of, is_taken, entry_name, separator_after};
+ghost use Rattle.geolint_files.specs.Walk.{ending_of, start_after, ends_in, ends_in_any, ends_in_one, framing_of, is_taken, entry_name, separator_after};
 
 use gj_rules::Framing;
 use std::alloc::{AllocError, Global};
 use std::collections::BTreeSet;
 use std::path::PathBuf;
+
+/// The endings of text sequences.
+const SEQUENCES: [&[u8]; 2] = [b".geojsons", b".geojsonseq"];
+
+/// Those of newline-delimited texts.
+const LINES: [&[u8]; 4] = [b".ndjson", b".ndgeojson", b".geojsonl", b".jsonl"];
 
 /// Whether a file of this name in a folder is checked: these are the endings beside the usual ones.
 pub fn is_taken(name: &[u8], endings: &[Vec<u8>]) -> bool
@@ -25,13 +31,19 @@ fn ends_in_one(name: &[u8], endings: &[Vec<u8>]) -> bool
         .any(|ending| ends_in(name, ending.as_slice()))
 }
 
+fn ends_in_any(name: &[u8], endings: &[&[u8]]) -> bool
+    ensures { result ≡ ends_in_any name.now endings.now }
+{
+    endings.iter().any(|ending| ends_in(name, ending))
+}
+
 /// How the texts of a file of this name are separated: it is a text sequence, or newline-delimited texts, or one text.
 pub fn framing_of(name: &[u8]) -> Option<Framing>
     ensures { result ≡ framing_of name.now }
 {
-    if ends_in(name, b".geojsons") {
+    if ends_in_any(name, &SEQUENCES) {
         Some(Framing::Sequence)
-    } else if ends_in(name, b".ndjson") || ends_in(name, b".geojsonl") {
+    } else if ends_in_any(name, &LINES) {
         Some(Framing::Lines)
     } else {
         None

@@ -17,8 +17,8 @@ from ._command.run import Order, Run
 
 _AFTER = """\
 A PATH is a file, a folder, or - for standard input. With no PATH and no --files-from, standard input is checked. In a folder, and
-in the folders below it, each file named *.geojson is checked as one text, each named *.geojsons as a text sequence (RFC 8142), and
-each named *.ndjson or *.geojsonl line by line.
+in the folders below it, each file named *.geojson is checked as one text, each named *.geojsons or *.geojsonseq as a text sequence
+(RFC 8142), and each named *.ndjson, *.ndgeojson, *.geojsonl or *.jsonl line by line.
 
 Exit status: 0 if every file is valid (under --strict, with no warnings but those that --allow lets pass), 1 if a file is not, 2 if
 a file, a folder or a list could not be read, no file was checked, the arguments are wrong or the report could not be written, 141

@@ -71,9 +71,9 @@ def _counts(codes: dict[str, int], texts: dict[str, str]) -> str:
 def framing_of(name: bytes) -> Optional[str]:
     """How the texts of a file of this name are set apart."""
     name = name.lower()
-    if name.endswith(b".geojsons"):
+    if name.endswith((b".geojsons", b".geojsonseq")):
         return "sequence"
-    return "newlines" if name.endswith((b".ndjson", b".geojsonl")) else None
+    return "newlines" if name.endswith((b".ndjson", b".ndgeojson", b".geojsonl", b".jsonl")) else None
 
 
 def _reason(error: Exception) -> str:
