@@ -23,6 +23,7 @@ pub fn join(first: SeqVerdict, end: u64, second: SeqVerdict) -> Option<SeqVerdic
     ensures joined { IfSome result (λ whole. (framing : Framing) (limits : Allowed) (part rest : List ℕ) → ArePartsOf framing limits part rest
         → end ≡ length part → IsVerdictOf framing limits part first → IsVerdictOf framing (limits_after limits end) rest second
         → IsVerdictOf framing limits (part ++ rest) whole) }
+    ensures exact { IfSome result (λ whole. whole ≡ joined_verdict end first second) }
     ensures fits { Fit end first second → IsSome result }
 {
     joined_judgements();

@@ -2,14 +2,15 @@
 use Rattle.sequence_parts.proofs.Common.{arith, ◌≡◌, ◌+◌, ◌-◌, ◌<◌, ℕ, refl, ap, sym, subst, ◌∙◌, List, length, take, Option, IfSome, Allowed, Framing}
 use Rattle.sequence_parts.proofs.Common.{CheckedPart}
 use Rattle.std.proofs.Common.{suc, zero, [], ◌∷◌, ◌++◌, drop, inl, inr, Some, None}
-use Rattle.std.specs.Prelude.{◌⊎◌}
+use Rattle.std.specs.Prelude.{◌⊎◌, ◌*◌, ◌^◌, ◌≤◌}
 use Rattle.std.proofs.lemmas.List.{length-take-le, take_all}
+use native.Mathlib.Nat.{mul-le-mul_right}
 use Rattle.std.proofs.Math.Seq.{take-add}
 use Rattle.gj_rules.specs.declared.sequence.verdict.SeqVerdict.{SeqVerdict}
-use Rattle.gj_join.specs.Joined.{IsVerdictOf}
+use Rattle.gj_join.specs.Joined.{Fit, IsVerdictOf, NumbersFit, joined_verdict}
 use Rattle.gj_join.specs.Parts.{separator_first, separator_last, may_begin, ArePartsOf, limits_after}
 use Rattle.sequence_parts.specs.Cuts.{MayBeCut}
-use Rattle.sequence_parts.specs.Checked.{IsPartOf, IsVerdictOfBytes}
+use Rattle.sequence_parts.specs.Checked.{HasAtMost, IsPartOf, IsVerdictOfBytes, records_in}
 use Rattle.sequence_parts.specs.Internal.JoinedSoFar.{IsJoinedTo}
 
 pub begins_taken : (framing : Framing) (n : ℕ) (bytes : List ℕ) → 0 < n → separator_first framing (take n bytes) ≡ separator_first framing bytes
@@ -87,3 +88,27 @@ pub more_joined : (framing : Framing) (limits : Allowed) (text : List ℕ) (part
     → IsJoinedTo framing' limits' text' part.end whole) → IsJoinedTo framing limits text part.end whole
 more_joined framing limits text part end before whole is has there so_far joins =
     joins framing limits text has (is.right has) (subst (λ (n : ℕ). IsJoinedTo framing limits text n before) (sym there) so_far)
+
+-- ---- how many records there are
+
+pub records_of_both : (end : ℕ) (one other : SeqVerdict) → records_in (joined_verdict end one other) ≤ records_in one + records_in other
+records_of_both end (SeqVerdict.Valid n one) (SeqVerdict.Valid m other) = omega arith
+records_of_both end (SeqVerdict.Valid n one) (SeqVerdict.Record m other) = omega arith
+records_of_both end (SeqVerdict.Record n one) other = omega arith
+
+pub both_fit : (end : ℕ) (one other : SeqVerdict) → NumbersFit 0 end other → records_in one + records_in other < 2 ^ 64 → Fit end one other
+both_fit end (SeqVerdict.Valid n one) (SeqVerdict.Valid m other) fits few = (few, fits.1)
+both_fit end (SeqVerdict.Valid n one) (SeqVerdict.Record m other) fits few = (few, fits.1)
+both_fit end (SeqVerdict.Record n one) other fits few = tt
+
+pub one_more : (i most : ℕ) → (i + 1) * most ≡ i * most + most
+one_more i most = omega arith
+
+pub counted_more : (i most before now : ℕ) (part : CheckedPart) → HasAtMost most part → before ≤ i * most → now ≤ before + records_in part.verdict
+    → now ≤ (i + 1) * most
+counted_more i most before now part has so_far more = omega (arith, one_more i most, has.records, so_far, more)
+
+pub few_before : (i parts most before : ℕ) (part : CheckedPart) → i < parts → parts * most < 2 ^ 64 → HasAtMost most part → before ≤ i * most
+    → before + records_in part.verdict < 2 ^ 64
+few_before i parts most before part within few has so_far =
+    omega (arith, few, one_more i most, mul-le-mul_right {m = i + 1} {n = parts} most (omega (arith, within)), has.records, so_far)

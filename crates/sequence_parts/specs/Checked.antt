@@ -1,10 +1,11 @@
 -- What was found of the bytes of one part.
 use Rattle.std.specs.Prelude.{◌≡◌, ◌⊎◌, ℕ, suc, ◌≤◌, ◌<◌, List, [], length, get_or, Option, Some, None, IfSome}
 use Rattle.gj_json.specs.Limits.{Allowed}
-use Rattle.gj_join.specs.Joined.{IsVerdictOf}
+use Rattle.gj_join.specs.Joined.{IsVerdictOf, NumbersFit}
 use Rattle.gj_join.specs.Parts.{limits_after}
 use Rattle.gj_rules.specs.declared.records.framing.Framing.{Framing}
 use Rattle.gj_rules.specs.declared.records.framing.Framing.TheVariants.{Sequence, Lines}
+use Rattle.gj_rules.specs.declared.sequence.verdict.SeqVerdict.{SeqVerdict}
 use Rattle.geolint_report.specs.Every.{AreNotesIn}
 use Rattle.geolint_report.specs.Tallies.{Tallies}
 use Rattle.geolint_report.specs.declared.every.listing.Asked.{Asked}
@@ -29,6 +30,16 @@ pub record IsPartOf (framing : Framing) (limits : Allowed) (text : List ℕ) (pa
 abbrev pub AreAllParts : Framing → Allowed → List ℕ → List CheckedPart → Type 0
 AreAllParts framing limits text parts = (k : ℕ) (none : CheckedPart) → k < length parts
     → ArePart framing limits text (suc k) (length parts) (get_or parts k none).begin (get_or parts k none).end
+
+-- how many records a verdict counts, or the number of the one that is not valid
+abbrev pub records_in : SeqVerdict → ℕ
+records_in (SeqVerdict.Valid records warnings) = records
+records_in (SeqVerdict.Record number verdict) = number
+
+-- no more records than these, and no place of a joined verdict that is too great
+pub record HasAtMost (most : ℕ) (part : CheckedPart) : Type 0 where
+  pub records : records_in part.verdict ≤ most
+  pub places : NumbersFit 0 part.begin part.verdict
 
 -- how such an input is read
 abbrev pub reading_of : Framing → Reading

@@ -1,11 +1,11 @@
 //! The verdict of an input of records from those of all its parts.
 
-ghost use Rattle.std.specs.Prelude.{◌≡◌, ◌<◌, ℕ, [], List, Err, IfOk, IfSome, length};
+ghost use Rattle.std.specs.Prelude.{◌≡◌, ◌+◌, ◌*◌, ◌^◌, ◌<◌, ◌≤◌, ℕ, [], List, Err, IfOk, IfSome, IsSome, length};
 ghost use Rattle.std.specs.List.{All};
 ghost use Rattle.gj_json.specs.Limits.{Allowed};
-ghost use Rattle.gj_join.specs.Joined.{IsVerdictOf};
+ghost use Rattle.gj_join.specs.Joined.{IsVerdictOf, NumbersFit};
 ghost use Rattle.gj_rules.specs.declared.records.framing.Framing.{Framing};
-ghost use Rattle.sequence_parts.specs.Checked.{AreAllParts, IsPartOf, IsVerdictOfBytes};
+ghost use Rattle.sequence_parts.specs.Checked.{AreAllParts, HasAtMost, IsPartOf, IsVerdictOfBytes, records_in};
 ghost use Rattle.sequence_parts.specs.Internal.JoinedSoFar.{IsJoinedTo};
 
 use crate::checked::CheckedPart;
@@ -31,6 +31,7 @@ pub fn join_parts(parts: &[CheckedPart], size: u64) -> Result<SeqVerdict, Misfit
         → IsVerdictOf framing limits text whole) }
     ensures complete { (framing : Framing) (limits : Allowed) (text : List ℕ) → length text ≡ size → 0 < length parts.now
         → AreAllParts framing limits text parts.now → result ≡ Err Misfit.NotInOrder → ⊥ }
+    ensures few { (most : ℕ) → length parts.now * most < 2 ^ 64 → All (HasAtMost most) parts.now → result ≡ Err Misfit.TooMany → ⊥ }
 {
     let mut whole = nothing();
     let mut end = 0;
@@ -55,7 +56,8 @@ pub fn join_parts(parts: &[CheckedPart], size: u64) -> Result<SeqVerdict, Misfit
 
 /// The verdict of no bytes, with which a join begins.
 pub fn nothing() -> SeqVerdict
-    ensures { (framing : Framing) (limits : Allowed) → IsVerdictOf framing limits [] result }
+    ensures verdict { (framing : Framing) (limits : Allowed) → IsVerdictOf framing limits [] result }
+    ensures none { records_in result ≡ 0 }
 {
     SeqVerdict::Valid {
         records: 0,
@@ -65,9 +67,11 @@ pub fn nothing() -> SeqVerdict
 
 /// The verdict of the bytes up to the end of a part that has some, given that of the bytes before them.
 fn with_part(before: SeqVerdict, part: &CheckedPart) -> Option<SeqVerdict>
-    ensures { IfSome result (λ whole. (framing : Framing) (limits : Allowed) (text : List ℕ) → part.now.begin < part.now.end
+    ensures joined { IfSome result (λ whole. (framing : Framing) (limits : Allowed) (text : List ℕ) → part.now.begin < part.now.end
         → IsVerdictOfBytes framing limits text part.now
         → IsJoinedTo framing limits text part.now.begin before → IsJoinedTo framing limits text part.now.end whole) }
+    ensures records { IfSome result (λ whole. records_in whole ≤ records_in before + records_in part.now.verdict) }
+    ensures fits { NumbersFit 0 part.now.begin part.now.verdict → records_in before + records_in part.now.verdict < 2 ^ 64 → IsSome result }
 {
     if part.begin == 0 {
         Some(part.verdict)

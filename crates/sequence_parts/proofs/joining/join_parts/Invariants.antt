@@ -1,6 +1,7 @@
 use Rattle.sequence_parts.proofs.Common.{◌≤◌, ℕ, List, length, Allowed, Framing}
+use Rattle.std.specs.Prelude.{◌*◌}
 use Rattle.std.specs.List.{All}
-use Rattle.sequence_parts.specs.Checked.{AreAllParts, IsPartOf}
+use Rattle.sequence_parts.specs.Checked.{AreAllParts, HasAtMost, IsPartOf, records_in}
 use Rattle.sequence_parts.specs.Internal.Covered.{GoTo}
 use Rattle.sequence_parts.specs.Internal.JoinedSoFar.{IsJoinedTo}
 use Rattle.sequence_parts.proofs.joining.join_parts.Given as goal
@@ -11,4 +12,5 @@ invariant-loop-part l = record {
   within : l.part-index ≤ length l.parts;
   covered : (framing : Framing) (limits : Allowed) (text : List ℕ) → AreAllParts framing limits text l.parts
       → GoTo framing limits text (length l.parts) l.part-index l.end;
+  few : (most : ℕ) → All (HasAtMost most) l.parts → records_in l.whole ≤ l.part-index * most;
 }
