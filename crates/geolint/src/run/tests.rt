@@ -115,208 +115,32 @@ fn replaced_bytes_in_pieces(rt: &impl Abort, input: &[u8], line: &str) {
     }
 }
 
-/// A text, and its report.
-static TEXTS: [(&[u8], &str); 67] = [
+/// A text, and its report: one of each form. The rows of all rules are those of the tests of the linter.
+static TEXTS: [(&[u8], &str); 15] = [
     (b"{\"type\":\"Point\",\"coordinates\":[1,2]}", "valid\n"),
-    (
-        b"{\"coordinates\":[1,2],\"type\":\"LineString\"}",
-        "broken G11 at 16: coordinates of the wrong shape\n",
-    ),
     (
         b"{\"type\":\"Point\",\"coordinates\":[]}",
         "valid\nwarning W6 count 1 first 30: empty coordinates\n",
-    ),
-    (
-        b"{\"type\":\"Polygon\",\"coordinates\":[[[0,0],[0,1],[1,1],[0,0]]]}",
-        "valid\nwarning W2 count 1 first 33: ring runs the wrong way\n",
     ),
     (
         b"{\"type\":\"Polygon\",\"coordinates\":[[[0,0],[1,0],[1,1],[0,0,0]]]}",
         "broken G15 at 33: ring not closed\n",
     ),
     (
-        b"{\"type\":\"Polygon\",\"coordinates\":[[[1.50,0],[2,0],[2,1],[15e-1,-0.0]]]}",
-        "valid\n",
-    ),
-    (
-        b"{\"type\":\"Polygon\",\"coordinates\":[[[0,0],[1,0],[0,0]]]}",
-        "broken G14 at 33: ring of fewer than four elements\n",
-    ),
-    (
-        b"{\"coordinates\":[1,2],\"type\":\"Point\",\"type\":\"Polygon\"}",
-        "broken G10 at 36: name repeated\n",
-    ),
-    (
         b"{\"\\u0074ype\":\"\\u0050oint\",\"coordinates\":[1,2]}",
         "valid\n",
-    ),
-    (
-        b"{\"geometry\":{\"type\":\"Nope\"},\"type\":\"Point\",\"coordinates\":[1,2]}",
-        "broken G9 at 1: member forbidden by section 7.1\n",
-    ),
-    (
-        b"{\"features\":[{\"type\":\"Feature\",\"geometry\":null,\"properties\":null},7],\"type\":\"FeatureCollection\"}",
-        "broken G1 at 66: not an object\n",
-    ),
-    (
-        b"{\"type\":\"Point\",\"coordinates\":[1.4210854715202004e-14,1]}",
-        "valid\nwarning W4 count 1 first 31: more than seven decimal places\n",
-    ),
-    (
-        b"{\"type\":\"Point\",\"coordinates\":[1234567890123456789012345678901,1]}",
-        "broken G16 at 31: number beyond the profile\n",
-    ),
-    (
-        b"{\"type\":\"Point\",\"coordinates\":[0e99999,1]}",
-        "valid\n",
-    ),
-    (
-        b"{\"type\":\"FeatureCollection\",\"name\":\"a\",\"crs\":{\"type\":\"name\",\"properties\":{\"name\":\"urn:ogc:def:crs:OGC:1.3:CRS84\"}},\"features\":[]}",
-        "valid\nwarning W9 count 1 first 39: crs is no longer used\n",
     ),
     (
         b"{\"type\":\"Feature\"}",
         "broken G6 at 0: geometry missing\n",
     ),
     (
-        b"{\"type\":\"Feature\",\"geometry\":null}",
-        "broken G7 at 0: properties missing\n",
-    ),
-    (
-        b"{\"type\":\"Feature\",\"geometry\":null,\"properties\":{\"geometry\":7,\"type\":1,\"type\":2}}",
-        "valid\n",
-    ),
-    (
-        b"{\"type\":\"Point\",\"coordinates\":[180.0000001,90]}",
-        "valid\nwarning W5 count 1 first 30: position out of range\n",
-    ),
-    (
         b"{\"type\":\"Point\",\"coordinates\":[180.00000009,90]}",
         "valid\nwarning W4 count 1 first 31: more than seven decimal places\n",
     ),
     (
-        b"{\"type\":\"Point\",\"coordinates\":[1,2,3,4,5]}",
-        "valid\nwarning W3 count 1 first 30: more than three numbers in a position\n",
-    ),
-    (
-        b"{\"type\":\"Point\",\"coordinates\":[1,2,3,\"x\"]}",
-        "broken G11 at 37: coordinates of the wrong shape\n",
-    ),
-    (
-        b"{\"type\":\"Point\",\"coordinates\":[1]}",
-        "broken G12 at 30: position of fewer than two elements\n",
-    ),
-    (
-        b"{\"type\":\"GeometryCollection\",\"geometries\":[{\"type\":\"GeometryCollection\",\"geometries\":[]}]}",
-        "valid\nwarning W7 count 1 first 43: collection in a collection\n",
-    ),
-    (
-        b"{\"type\":\"Point\",\"coordinates\":[1,2],\"bbox\":[1,2,3]}",
-        "broken G21 at 43: bbox length odd or below 4\n",
-    ),
-    (
-        b"{\"type\":\"Point\",\"coordinates\":[1,2],\"bbox\":[0,20,1,10]}",
-        "valid\nwarning W8 count 1 first 43: bbox south above north\n",
-    ),
-    (
-        b"{\"type\":\"Point\",\"coordinates\":[1,2],\"bbox\":[170,10,-170,20]}",
-        "valid\n",
-    ),
-    (
-        b"{\"type\":\"Point\",\"coordinates\":[1,2],\"bbox\":[1,2,\"a\",4]}",
-        "broken G20 at 48: bbox or its element of the wrong kind\n",
-    ),
-    (
         b"\xEF\xBB\xBF{\"type\":\"Point\",\"coordinates\":[1,2]}",
         "valid\nwarning W1 count 1 first 0: byte order mark\n",
-    ),
-    (
-        b"{\"type\":\"Feature\",\"id\":null,\"geometry\":null,\"properties\":null}",
-        "broken G19 at 23: id neither string nor number\n",
-    ),
-    (
-        b"{\"type\":\"MultiPolygon\",\"coordinates\":[[]]}",
-        "valid\n",
-    ),
-    (
-        b"{\"type\":\"Polygon\",\"coordinates\":[[]]}",
-        "broken G14 at 33: ring of fewer than four elements\n",
-    ),
-    (
-        b"{\"type\":\"Polygon\",\"coordinates\":[[[0,0],[4,0],[4,4],[0,0]],[[1,1],[2,1],[2,2],[1,1]]]}",
-        "valid\nwarning W2 count 1 first 59: ring runs the wrong way\n",
-    ),
-    (b"[]", "broken G1 at 0: not an object\n"),
-    (b"{}", "broken G2 at 0: type missing\n"),
-    (
-        b"{\"type\":\"point\"}",
-        "broken G3 at 8: type not allowed here\n",
-    ),
-    (
-        b"{\"type\":\"MultiLineString\",\"coordinates\":[[[1,2]]]}",
-        "broken G13 at 41: line of fewer than two elements\n",
-    ),
-    (
-        b"{\"type\":\"Feature\",\"geometry\":null,\"properties\":[]}",
-        "broken G18 at 47: properties neither object nor null\n",
-    ),
-    (
-        b"{\"type\":\"FeatureCollection\",\"features\":{}}",
-        "broken G17 at 39: not an array\n",
-    ),
-    (
-        b"{\"type\":\"Point\"}",
-        "broken G4 at 0: coordinates missing\n",
-    ),
-    (
-        b"{\"type\":\"GeometryCollection\"}",
-        "broken G5 at 0: geometries missing\n",
-    ),
-    (
-        b"{\"type\":\"FeatureCollection\"}",
-        "broken G8 at 0: features missing\n",
-    ),
-    (b"\"\\ud800\"", "broken G1 at 0: not an object\n"),
-    (
-        b"{\"type\":\"GeometryCollection\",\"geometries\":[{\"type\":\"Point\"},7]}",
-        "broken G4 at 43: coordinates missing\n",
-    ),
-    (
-        b"{\"geometries\":[7],\"type\":\"Point\",\"coordinates\":[1,2]}",
-        "valid\n",
-    ),
-    (
-        b"{\"geometries\":[7],\"type\":\"GeometryCollection\"}",
-        "broken G1 at 15: not an object\n",
-    ),
-    (
-        b"{\"type\":\"GeometryCollection\",\"geometries\":[{\"geometries\":[7],\"type\":\"Point\",\"coordinates\":[1]}]}",
-        "broken G12 at 90: position of fewer than two elements\n",
-    ),
-    (
-        b"{\"type\":\"Feature\",\"geometry\":null,\"properties\":null,\"features\":1}",
-        "broken G9 at 52: member forbidden by section 7.1\n",
-    ),
-    (
-        b"{\"type\":\"Feature\",\"geometry\":7,\"properties\":null}",
-        "broken G1 at 29: not an object\n",
-    ),
-    (
-        b"{\"geometry\":{\"type\":\"Nope\"},\"type\":\"Feature\",\"properties\":null}",
-        "broken G3 at 20: type not allowed here\n",
-    ),
-    (
-        b"{\"type\":\"GeometryCollection\",\"geometries\":[{\"type\":\"Feature\"}]}",
-        "broken G3 at 51: type not allowed here\n",
-    ),
-    (
-        b"{\"bbox\":[1],\"type\":\"x\"}",
-        "broken G21 at 8: bbox length odd or below 4\n",
-    ),
-    (b"{\"bbox\":7}", "broken G2 at 0: type missing\n"),
-    (
-        b"{\"type\":\"Point\",\"coordinates\":[1,2],\"bbox\":[1e999,0,1,1]}",
-        "valid\n",
     ),
     (
         b"{\"type\":\"LineString\",\"coordinates\":[[1,2,3,4],[1,2,3,4,5]]}",
@@ -325,10 +149,6 @@ static TEXTS: [(&[u8], &str); 67] = [
     (
         b"{\"crs\":1,\"crs\":2,\"type\":\"Point\",\"coordinates\":[1,2]}",
         "valid\nwarning W9 count 2 first 1: crs is no longer used\n",
-    ),
-    (
-        b"{\"geometries\":[{\"crs\":1}],\"type\":\"Point\",\"coordinates\":[1,2]}",
-        "valid\n",
     ),
     (
         b"{\"type\":\"Point\",\"coordinates\":[1e10,1]}",
@@ -343,10 +163,6 @@ static TEXTS: [(&[u8], &str); 67] = [
         "valid\n",
     ),
     (b" {} \r\n", "broken G2 at 1: type missing\n"),
-    (b"7", "broken G1 at 0: not an object\n"),
-    (b"1.5", "broken G1 at 0: not an object\n"),
-    (b"\"x\"", "broken G1 at 0: not an object\n"),
-    (b"[{}]", "broken G1 at 0: not an object\n"),
     (b"\xEF\xBB\xBFnull", "broken G1 at 3: not an object\n"),
     (b"{\"a\":-0}", "broken G2 at 0: type missing\n"),
 ];
@@ -361,27 +177,11 @@ fn texts_are_judged_by_the_rules(rt: HostRuntime) {
 }
 
 /// Bytes that are no text, and the report of them.
-static NO_TEXTS: [(&[u8], &str); 21] = [
+static NO_TEXTS: [(&[u8], &str); 5] = [
     (b"", "not JSON at 0: truncated\n"),
-    (b"{\"a\":\"\xE2\x82\x28", "not JSON at 8: syntax\n"),
-    (b"{\"type\":\"Point\"} x", "not JSON at 17: syntax\n"),
-    (b"01", "not JSON at 1: syntax\n"),
     (b"[1,2", "not JSON at 4: truncated\n"),
     (b"{\"a\":1,}", "not JSON at 7: syntax\n"),
-    (b"[1 2]", "not JSON at 3: syntax\n"),
-    (b"-", "not JSON at 1: truncated\n"),
-    (b"1.", "not JSON at 2: truncated\n"),
-    (b"1.e", "not JSON at 2: syntax\n"),
-    (b"+1", "not JSON at 0: syntax\n"),
-    (b"tru", "not JSON at 3: truncated\n"),
-    (b"True", "not JSON at 0: syntax\n"),
-    (b"\"\\x\"", "not JSON at 2: syntax\n"),
-    (b"\"\\u12G4\"", "not JSON at 5: syntax\n"),
-    (b"\"\n", "not JSON at 1: syntax\n"),
-    (b"\"\xC0\x80", "not JSON at 1: syntax\n"),
     (b"\"\xED\xA0\x80", "not JSON at 2: syntax\n"),
-    (b"\"\xF4\x90\x80\x80", "not JSON at 2: syntax\n"),
-    (b"\xEF\xBB", "not JSON at 2: truncated\n"),
     (b"\xEF\x7B", "not JSON at 1: syntax\n"),
 ];
 
