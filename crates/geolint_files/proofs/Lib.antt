@@ -1,4 +1,3 @@
-mod AddedInTurn
 mod Common
 mod Runs
 mod Walks

@@ -2,7 +2,7 @@
 use Rattle.std.specs.Prelude.{ℕ, List, Option, Some, None, codes, nat_eq, if◌then◌else◌}
 use Rattle.std.specs.Cmp.Lexicographic.{pointwise}
 use Rattle.gj_coords.specs.declared.kind.Kind.{Kind}
-use Rattle.gj_coords.specs.declared.kind.Kind.TheVariants.{W1, W2, W3, W4, W5, W6, W7, W8, W9}
+use Rattle.geolint_report.specs.declared.texts.Code.{Code}
 use Rattle.report_forms.specs.declared.options.Every.{Every}
 use Rattle.report_forms.specs.declared.options.Format.{Format}
 
@@ -26,14 +26,7 @@ abbrev pub every_by : Option (List ℕ) → Every
 every_by None = Every.Nothing
 every_by (Some word) = if pointwise nat_eq word (codes "warnings") then Every.Warnings else Every.Faults
 
--- the word for a kind of warning
-abbrev pub kind_name : Kind → List ℕ
-kind_name W1 = codes "W1"
-kind_name W2 = codes "W2"
-kind_name W3 = codes "W3"
-kind_name W4 = codes "W4"
-kind_name W5 = codes "W5"
-kind_name W6 = codes "W6"
-kind_name W7 = codes "W7"
-kind_name W8 = codes "W8"
-kind_name W9 = codes "W9"
+-- the kind of warning that a code is
+abbrev pub kind_in : Option Code → Option Kind
+kind_in (Some (Code.Kind kind)) = Some kind
+kind_in found = None

@@ -35,7 +35,8 @@ use crate::walk::Others;
 use crate::words::{Order, order_in};
 use clap::Error;
 use clap::error::ErrorKind;
-use gj_manual::Topic;
+use geolint_report::texts::Code;
+use gj_manual::section;
 use own_build::{lacks_stack, own_build};
 use report_forms::formats::put_name;
 use sequence_parts::Share;
@@ -195,7 +196,7 @@ fn read_order(rt: &HostRuntime) -> Result<Order, NoOrder> {
     };
     match order_in(rt.alloc(), words.as_slice()) {
         Ok(order) => match order.explained {
-            Some(topic) => Err(explain(rt, topic)),
+            Some(code) => Err(explain(rt, code)),
             None => Ok(order),
         },
         Err(error) => Err(answer(rt, words.as_slice(), &error)),
@@ -203,8 +204,8 @@ fn read_order(rt: &HostRuntime) -> Result<Order, NoOrder> {
 }
 
 /// Writes what a rule, a warning or a cause means.
-fn explain(rt: &HostRuntime, topic: Topic) -> NoOrder {
-    answered(rt.stdout().write_all(topic.text().as_bytes()))
+fn explain(rt: &HostRuntime, code: Code) -> NoOrder {
+    answered(rt.stdout().write_all(section(code).as_bytes()))
 }
 
 /// Whether what was asked for was written.

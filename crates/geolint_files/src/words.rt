@@ -2,22 +2,22 @@
 //! command would repeat it, so `.ci/files` tries each word.
 
 ghost use Rattle.std.specs.Prelude.{◌≡◌, List, ℕ, Option, Some, None, IfErr, IfOk, IsSome, Ok, codes, find, true, false};
-ghost use Rattle.std.specs.Str.{str_eq_ignore_ascii_case};
 ghost use Rattle.clap.specs.Matches.{found_of, first_value, one_text};
-ghost use Rattle.gj_coords.specs.Warnings.{kinds};
+ghost use Rattle.geolint_report.specs.Texts.{is_named};
+ghost use Rattle.geolint_report.specs.declared.texts.TheConstants.{ALL};
 ghost use Rattle.gj_json.specs.Limits.{most};
 ghost use Rattle.gj_rules.specs.declared.records.framing.Framing.{Framing};
 ghost use Rattle.name_lists.specs.declared.listed.NameEnd.{NameEnd};
-ghost use Rattle.geolint_files.specs.Words.{every_by, format_by, kind_name};
+ghost use Rattle.geolint_files.specs.Words.{every_by, format_by, kind_in};
 
 use crate::arguments::to_bytes;
 use crate::command::command;
 use crate::cut_words::{Cut, cut_in, wrong_cut};
 use clap::error::ErrorKind;
 use clap::{ArgMatches, Command, Error};
-use gj_coords::{KINDS, Kind};
+use geolint_report::texts::{Code, code_named};
+use gj_coords::Kind;
 use gj_json::Limits;
-use gj_manual::{Topic, named};
 use gj_rules::Framing;
 use name_lists::NameEnd;
 use report_forms::options::{Every, Format, Kinds, Options};
@@ -41,7 +41,7 @@ pub struct Order {
     /// How files are checked and reported.
     pub options: Options,
     /// What is to be explained, in place of a run.
-    pub explained: Option<Topic>,
+    pub explained: Option<Code>,
     /// What is to be checked, as it was given.
     pub paths: Vec<Vec<u8>>,
     /// The file with more names.
@@ -235,14 +235,14 @@ fn parts_in(alloc: Global, given: &ArgMatches<'_>) -> Result<Option<Parts>, Allo
 }
 
 /// What is to be explained, or a word that is no code.
-fn explained_in<'a>(given: &ArgMatches<'a>) -> Result<Option<Topic>, &'a str>
+fn explained_in<'a>(given: &ArgMatches<'a>) -> Result<Option<Code>, &'a str>
     ensures unasked { first_value (found_of given.now) (codes "explain") ≡ None → result ≡ Ok None }
-    ensures asked { (word : List ℕ) → first_value (found_of given.now) (codes "explain") ≡ Some word → IfOk result (λ topic. IsSome topic) }
+    ensures asked { (word : List ℕ) → first_value (found_of given.now) (codes "explain") ≡ Some word → IfOk result (λ code. IsSome code) }
     ensures wrong { (word : List ℕ) → first_value (found_of given.now) (codes "explain") ≡ Some word → IfErr result (λ wrong. wrong.now ≡ word) }
 {
     match given.get_str("explain") {
-        Some(word) => match named(word) {
-            Some(topic) => Ok(Some(topic)),
+        Some(word) => match code_named(word) {
+            Some(code) => Ok(Some(code)),
             None => Err(word),
         },
         None => Ok(None),
@@ -366,28 +366,11 @@ fn allowed_in<'a>(given: &ArgMatches<'a>) -> Result<Kinds, &'a str> {
 
 /// The kind of warning of this name, in capitals or not.
 fn kind_named(name: &str) -> Option<Kind>
-    ensures { result ≡ find (λ kind. str_eq_ignore_ascii_case name.now (kind_name kind)) kinds }
+    ensures { result ≡ kind_in (find (is_named name.now) ALL) }
 {
-    KINDS
-        .iter()
-        .copied()
-        .find(|kind| name.eq_ignore_ascii_case(kind_name(*kind)))
-}
-
-/// The word of a kind of warning.
-fn kind_name(kind: Kind) -> &'static str
-    ensures { result.now ≡ kind_name kind }
-{
-    match kind {
-        Kind::W1 => "W1",
-        Kind::W2 => "W2",
-        Kind::W3 => "W3",
-        Kind::W4 => "W4",
-        Kind::W5 => "W5",
-        Kind::W6 => "W6",
-        Kind::W7 => "W7",
-        Kind::W8 => "W8",
-        Kind::W9 => "W9",
+    match code_named(name) {
+        Some(Code::Kind(kind)) => Some(kind),
+        _ => None,
     }
 }
 

@@ -1,11 +1,12 @@
 -- Lemmas on where the count of a code lies, and on counts with one more.
-use Rattle.std.specs.Prelude.{cond}
+use Rattle.std.specs.Prelude.{cond, map}
 use Rattle.std.proofs.Common.{arith, inl, inr, set, length, ◌≡◌, ◌≤◌, ◌<◌, ◌+◌, ◌-◌, ℕ, Bool, true, false, List, [], ◌∷◌, ◌++◌, get_or, ap}
 use Rattle.std.proofs.Common.{sym, ◌∙◌, nat_eq}
 use Rattle.std.specs.Io.Iter.{u64_saturate}
 use Rattle.std.specs.List.{count_by}
 use Rattle.std.proofs.lemmas.Bool.Decides.{nat_tests, eqb_tells}
-use Rattle.std.proofs.lemmas.List.{get_or-set_same, get_or-set_other}
+use Rattle.std.proofs.lemmas.List.{get_or-map, get_or-set_same, get_or-set_other}
+use Rattle.std.proofs.lemmas.List.FromFn.{get_or-range_with_len}
 use Rattle.std.proofs.lemmas.List.Sums.{sum_by_push}
 use Rattle.gj_coords.specs.Fault.{number_of}
 use Rattle.gj_coords.specs.Warnings.{kind_number, kinds}
@@ -16,7 +17,7 @@ use Rattle.gj_coords.specs.declared.kind.Kind.{Kind}
 use Rattle.gj_json.specs.declared.fault.Cause.{Cause}
 use Rattle.gj_json.specs.declared.fault.Cause.TheVariants.{Syntax, Truncated, Depth, Length}
 use Rattle.geolint_report.specs.declared.texts.Code.{Code}
-use Rattle.geolint_report.specs.declared.texts.TheConstants.{CODES}
+use Rattle.geolint_report.specs.declared.texts.TheConstants.{ALL, CODES}
 use Rattle.geolint_report.specs.Slots.{same, slot_of, more}
 use Rattle.geolint_report.specs.Texts.{cause_number}
 pub use Rattle.std.proofs.lemmas.Bool.{le-leb as below, lt-leb as above}
@@ -50,15 +51,11 @@ cause-range Truncated = (omega arith, omega arith)
 cause-range Depth = (omega arith, omega arith)
 cause-range Length = (omega arith, omega arith)
 
--- each rule, kind and cause has a count
-pub rule-slot : (rule : Rule) → slot_of (Code.Rule rule) < CODES
-rule-slot rule = let w = rule-range rule in omega (arith, w.0, w.1)
-
-pub kind-slot : (kind : Kind) → slot_of (Code.Kind kind) < CODES
-kind-slot kind = let w = kind_range kind in omega (arith, w.0, w.1)
-
-pub cause-slot : (cause : Cause) → slot_of (Code.Cause cause) < CODES
-cause-slot cause = let w = cause-range cause in omega (arith, w.0, w.1)
+-- each code of the table has its count where it stands
+pub slot-at : (i : ℕ) (d : Code) → i < CODES → slot_of (get_or ALL i d) ≡ i
+slot-at i d within =
+    let here : get_or (map slot_of ALL) i 0 ≡ 0 + i = get_or-range_with_len 0 CODES i 0 within in
+    sym (get_or-map slot_of ALL i d 0 within) ∙ (here ∙ omega arith)
 
 lessened : (m n : ℕ) → 1 ≤ m → 1 ≤ n → nat_eq m n ≡ nat_eq (m - 1) (n - 1)
 lessened m n positive also = grind (arith, nat_tests, positive, also)

@@ -4,7 +4,7 @@ use Rattle.std.specs.Io.Iter.{u64_saturate}
 use Rattle.gj_coords.specs.Fault.{number_of}
 use Rattle.gj_coords.specs.Warnings.{kinds, index_of, kind_number}
 use Rattle.geolint_report.specs.declared.texts.Code.{Code}
-use Rattle.geolint_report.specs.Texts.{cause_number}
+use Rattle.gj_json.specs.Texts.{cause_number}
 
 abbrev pub same : Code → Code → Bool
 same (Code.Rule first) (Code.Rule second) = nat_eq (number_of first) (number_of second)

@@ -1,24 +1,12 @@
 -- What is reported of rules, kinds of warning and causes: their names and their texts.
-use Rattle.std.specs.Prelude.{ℕ, Bool, true, false, List, ◌++◌, codes}
-use Rattle.std.specs.Fmt.{decimal}
-use Rattle.gj_coords.specs.Fault.{number_of}
-use Rattle.gj_coords.specs.Warnings.{kind_number}
+use Rattle.std.specs.Prelude.{Bool, true, false, List, ℕ, Option, None, Some, codes, option_map, slice_get}
+use Rattle.std.specs.Str.{str_eq_ignore_ascii_case}
 use Rattle.gj_coords.specs.Texts.{rule_text, kind_text}
 use Rattle.gj_json.specs.Texts.{cause_text}
+use Rattle.geolint_report.specs.Slots.{slot_of}
 use Rattle.geolint_report.specs.declared.texts.Code.{Code}
+use Rattle.geolint_report.specs.declared.texts.TheConstants.{NAMES}
 pub use Rattle.gj_json.specs.Texts.{cause_number}
-
-abbrev pub code_letter : Code → List ℕ
-code_letter (Code.Rule rule) = codes "G"
-code_letter (Code.Kind kind) = codes "W"
-code_letter (Code.Cause cause) = codes "J"
-code_letter Code.NotValid = codes "N"
-
-abbrev pub code_number : Code → ℕ
-code_number (Code.Rule rule) = number_of rule
-code_number (Code.Kind kind) = kind_number kind
-code_number (Code.Cause cause) = cause_number cause
-code_number Code.NotValid = 0
 
 abbrev pub code_text : Code → List ℕ
 code_text (Code.Rule rule) = rule_text rule
@@ -26,9 +14,23 @@ code_text (Code.Kind kind) = kind_text kind
 code_text (Code.Cause cause) = cause_text cause
 code_text Code.NotValid = codes "not valid"
 
--- as G15
+-- as G15: the one that stands at its place in the table
+-- a text of a table, or another
+abbrev pub text_or : List ℕ → Option (List ℕ) → List ℕ
+text_or other (Some text) = text
+text_or other None = other
+
 unfoldable pub code_name : Code → List ℕ
-code_name code = code_letter code ++ decimal (code_number code)
+code_name code = text_or (codes "not-valid") (option_map (λ name. name.now) (slice_get NAMES (slot_of code)))
+
+-- in capitals or not
+abbrev pub is_named : List ℕ → Code → Bool
+is_named name code = str_eq_ignore_ascii_case (code_name code) name
+
+-- it stands in the table
+abbrev pub is_listed : Code → Bool
+is_listed Code.NotValid = false
+is_listed code = true
 
 -- it refuses the bytes: they are no JSON
 abbrev pub is_cause : Code → Bool

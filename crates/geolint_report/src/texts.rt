@@ -1,44 +1,65 @@
 //! What each rule, kind of warning and cause is called.
-ghost use Rattle.std.specs.Prelude.{◌≡◌, is_some};
+ghost use Rattle.std.specs.Prelude.{◌≡◌, ◌-◌, is_some};
+ghost use Rattle.std.specs.List.{find};
 ghost use Rattle.gj_coords.specs.Internal.KeptWarnings.{first_in};
-ghost use Rattle.geolint_report.specs.Texts.{cause_number};
+ghost use Rattle.geolint_report.specs.declared.texts.TheConstants.{ALL};
+ghost use Rattle.geolint_report.specs.Texts.{cause_number, is_named};
 
-use crate::line::{put, put_all};
+use crate::line::put;
 use gj_coords::{KINDS, Kind, Rule, Warnings};
 use gj_json::Cause;
-use itoa::Buffer;
 use std::alloc::AllocError;
 
-/// The rules in the order of their numbers.
-pub const RULES: [Rule; 21] = [
-    Rule::G1,
-    Rule::G2,
-    Rule::G3,
-    Rule::G4,
-    Rule::G5,
-    Rule::G6,
-    Rule::G7,
-    Rule::G8,
-    Rule::G9,
-    Rule::G10,
-    Rule::G11,
-    Rule::G12,
-    Rule::G13,
-    Rule::G14,
-    Rule::G15,
-    Rule::G16,
-    Rule::G17,
-    Rule::G18,
-    Rule::G19,
-    Rule::G20,
-    Rule::G21,
+/// The rules, the kinds of warning and the causes, each in the order of their numbers: so they are counted and listed.
+pub const ALL: [Code; 34] = [
+    Code::Rule(Rule::G1),
+    Code::Rule(Rule::G2),
+    Code::Rule(Rule::G3),
+    Code::Rule(Rule::G4),
+    Code::Rule(Rule::G5),
+    Code::Rule(Rule::G6),
+    Code::Rule(Rule::G7),
+    Code::Rule(Rule::G8),
+    Code::Rule(Rule::G9),
+    Code::Rule(Rule::G10),
+    Code::Rule(Rule::G11),
+    Code::Rule(Rule::G12),
+    Code::Rule(Rule::G13),
+    Code::Rule(Rule::G14),
+    Code::Rule(Rule::G15),
+    Code::Rule(Rule::G16),
+    Code::Rule(Rule::G17),
+    Code::Rule(Rule::G18),
+    Code::Rule(Rule::G19),
+    Code::Rule(Rule::G20),
+    Code::Rule(Rule::G21),
+    Code::Kind(Kind::W1),
+    Code::Kind(Kind::W2),
+    Code::Kind(Kind::W3),
+    Code::Kind(Kind::W4),
+    Code::Kind(Kind::W5),
+    Code::Kind(Kind::W6),
+    Code::Kind(Kind::W7),
+    Code::Kind(Kind::W8),
+    Code::Kind(Kind::W9),
+    Code::Cause(Cause::Syntax),
+    Code::Cause(Cause::Truncated),
+    Code::Cause(Cause::Depth),
+    Code::Cause(Cause::Length),
 ];
 
-/// The causes in the order of their numbers.
-pub const CAUSES: [Cause; 4] = [Cause::Syntax, Cause::Truncated, Cause::Depth, Cause::Length];
+/// What each of them is called.
+const NAMES: [&str; 34] = [
+    "G1", "G2", "G3", "G4", "G5", "G6", "G7", "G8", "G9", "G10", "G11", "G12", "G13", "G14", "G15",
+    "G16", "G17", "G18", "G19", "G20", "G21", "W1", "W2", "W3", "W4", "W5", "W6", "W7", "W8", "W9",
+    "J1", "J2", "J3", "J4",
+];
+
+/// How many rules there are.
+const RULES: usize = 21;
 
 /// How many rules, kinds of warning and causes there are.
-pub const CODES: usize = RULES.len() + KINDS.len() + CAUSES.len();
+pub const CODES: usize = ALL.len();
 
 /// The code and the text of what is reported of a file.
 #[derive(Clone, Copy, PartialEq, Eq)]
@@ -54,41 +75,28 @@ impl Code {
     ghost use Rattle.std.specs.Prelude.{◌≡◌, OnOk};
     ghost use Rattle.geolint_report.specs.Line.{Adds};
     ghost use Rattle.geolint_report.specs.Slots.{slot_of};
-    ghost use Rattle.geolint_report.specs.Texts.{code_letter, code_number, code_text, code_name};
-
-    fn letter(self) -> &'static [u8]
-        ensures { result.now ≡ code_letter self }
-    {
-        match self {
-            Code::Rule(_) => b"G",
-            Code::Kind(_) => b"W",
-            Code::Cause(_) => b"J",
-            Code::NotValid => b"N",
-        }
-    }
-
-    /// Its number: of a rule 1 to 21, of a kind of warning 1 to 9, of a cause 1 to 4, and 0 for `NotValid`.
-    pub fn number(self) -> u8
-        ensures { result ≡ code_number self }
-    {
-        match self {
-            Code::Rule(rule) => rule.number(),
-            Code::Kind(kind) => kind.number(),
-            Code::Cause(cause) => cause_number(cause),
-            Code::NotValid => 0,
-        }
-    }
+    ghost use Rattle.geolint_report.specs.Texts.{code_text, code_name};
 
     /// Where its count lies among those of all codes.
     pub fn slot(self) -> usize
         ensures { result ≡ slot_of self }
     {
-        let number = (self.number() as usize).saturating_sub(1);
         match self {
-            Code::Rule(_) => number,
-            Code::Kind(_) => number + RULES.len(),
-            Code::Cause(_) => number + RULES.len() + KINDS.len(),
+            Code::Rule(rule) => (rule.number() as usize).saturating_sub(1),
+            Code::Kind(kind) => kind.index() + RULES,
+            Code::Cause(cause) => cause_index(cause) + RULES + KINDS.len(),
             Code::NotValid => usize::MAX,
+        }
+    }
+
+    /// Its name, as G15.
+    #[tactic(auto, unfolding(crate::specs::Texts::code_name))]
+    pub fn name(self) -> &'static str
+        ensures { result.now ≡ code_name self }
+    {
+        match NAMES.get(self.slot()) {
+            Some(name) => name,
+            None => "not-valid",
         }
     }
 
@@ -111,28 +119,36 @@ impl Code {
         put(line, self.text())
     }
 
-    /// Appends its name, as G15.
-    #[tactic(auto, unfolding(crate::specs::Texts::code_name))]
+    /// Appends its name.
     pub fn put_name(self, line: &mut Vec<u8>) -> Result<(), AllocError>
         ensures { OnOk result (Adds line.old line.new (code_name self)) }
     {
-        let mut digits = Buffer::new();
-        put_all(
-            line,
-            &[self.letter(), digits.format(self.number()).as_bytes()],
-        )
+        put(line, self.name().as_bytes())
     }
 }
 
-fn cause_number(cause: Cause) -> u8
-    ensures { result ≡ cause_number cause }
+fn cause_index(cause: Cause) -> usize
+    ensures { result ≡ cause_number cause - 1 }
 {
     match cause {
-        Cause::Syntax => 1,
-        Cause::Truncated => 2,
-        Cause::Depth => 3,
-        Cause::Length => 4,
+        Cause::Syntax => 0,
+        Cause::Truncated => 1,
+        Cause::Depth => 2,
+        Cause::Length => 3,
     }
+}
+
+/// The code of this name, in capitals or not.
+pub fn code_named(name: &str) -> Option<Code>
+    ensures { result ≡ find (is_named name.now) ALL }
+{
+    ALL.iter().copied().find(|code| is_named(name, *code))
+}
+
+fn is_named(name: &str, code: Code) -> bool
+    ensures { result ≡ is_named name.now code }
+{
+    code.name().eq_ignore_ascii_case(name)
 }
 
 /// Whether there is a warning of the kind.

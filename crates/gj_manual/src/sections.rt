@@ -1,11 +1,6 @@
-//! The sections of docs/rules.md, one for each code. `.ci/explain --write` makes this file from that page: change the page.
-ghost use Rattle.std.specs.Prelude.{◌≡◌, true, codes};
-ghost use Rattle.gj_manual.specs.Manual.{begins};
+//! The sections of docs/rules.md, in the order of the codes. `.ci/explain --write` makes this file from that page: change the page.
 
-/// G1: not an object.
-pub fn g1() -> &'static str
-    ensures { begins result.now (codes "G1: ") ≡ true }
-{
+pub const SECTIONS: [&str; 34] = [
     "G1: not an object
 
 A GeoJSON object is required at the place, and there is another value. The text itself must be an object, and so must each
@@ -27,13 +22,7 @@ Usual causes:
 - `[]`, `\"\"` or `false` as `geometry` where there is no location. Write `null`.
 
 RFC 7946, sections 2, 3, 3.1.8, 3.2 and 3.3.
-"
-}
-
-/// G2: type missing.
-pub fn g2() -> &'static str
-    ensures { begins result.now (codes "G2: ") ≡ true }
-{
+",
     "G2: type missing
 
 The object at the place has no member `type`. The place is that of the object.
@@ -52,13 +41,7 @@ Usual causes:
 - A response of a web service that has the GeoJSON inside, such as `{\"status\":\"ok\",\"data\":{...}}`. Take the inner object out.
 
 RFC 7946, section 3.
-"
-}
-
-/// G3: type not allowed here.
-pub fn g3() -> &'static str
-    ensures { begins result.now (codes "G3: ") ≡ true }
-{
+",
     "G3: type not allowed here
 
 The value of `type` is not one of those that are allowed there. Upper and lower case differ. The place is that of the value
@@ -88,13 +71,7 @@ Usual causes:
 - A type of your own, such as `\"type\":\"cafe\"`. Write `\"type\":\"Feature\"`, and put the other one into `properties`.
 
 RFC 7946, sections 1.4, 3, 3.1, 3.2, 3.3 and 7.
-"
-}
-
-/// G4: coordinates missing.
-pub fn g4() -> &'static str
-    ensures { begins result.now (codes "G4: ") ≡ true }
-{
+",
     "G4: coordinates missing
 
 A Point, MultiPoint, LineString, MultiLineString, Polygon or MultiPolygon has no member `coordinates`. The place is that of
@@ -116,13 +93,7 @@ Usual causes:
 - A name that is not quite `coordinates`: `coords`, `coordinate`, `Coordinates`.
 
 RFC 7946, section 3.1.
-"
-}
-
-/// G5: geometries missing.
-pub fn g5() -> &'static str
-    ensures { begins result.now (codes "G5: ") ≡ true }
-{
+",
     "G5: geometries missing
 
 A GeometryCollection has no member `geometries`. The place is that of the GeometryCollection.
@@ -140,13 +111,7 @@ Usual causes:
 - The name in the singular, `geometry`.
 
 RFC 7946, section 3.1.8.
-"
-}
-
-/// G6: geometry missing.
-pub fn g6() -> &'static str
-    ensures { begins result.now (codes "G6: ") ≡ true }
-{
+",
     "G6: geometry missing
 
 A Feature has no member `geometry`. The member is required even if there is no location; its value is then `null`. The place
@@ -166,13 +131,7 @@ Usual causes:
 - `coordinates` directly in the Feature. Put a geometry around it: `\"geometry\":{\"type\":\"Point\",\"coordinates\":[9.43,54.79]}`.
 
 RFC 7946, section 3.2.
-"
-}
-
-/// G7: properties missing.
-pub fn g7() -> &'static str
-    ensures { begins result.now (codes "G7: ") ≡ true }
-{
+",
     "G7: properties missing
 
 A Feature has no member `properties`. The member is required even if there is nothing to say; its value is then `{}` or
@@ -192,13 +151,7 @@ Usual causes:
 - The properties are directly in the Feature, or in `attributes`. Put them into `properties`.
 
 RFC 7946, section 3.2.
-"
-}
-
-/// G8: features missing.
-pub fn g8() -> &'static str
-    ensures { begins result.now (codes "G8: ") ≡ true }
-{
+",
     "G8: features missing
 
 A FeatureCollection has no member `features`. The place is that of the FeatureCollection.
@@ -217,13 +170,7 @@ Usual causes:
 - The object is one Feature. Then its `type` is `Feature`.
 
 RFC 7946, section 3.3.
-"
-}
-
-/// G9: member forbidden by section 7.1.
-pub fn g9() -> &'static str
-    ensures { begins result.now (codes "G9: ") ≡ true }
-{
+",
     "G9: member forbidden by section 7.1
 
 An object has a member that belongs to objects of another type. The table Members says which must not be
@@ -246,13 +193,7 @@ Usual causes:
 `coordinates` in a GeometryCollection and `geometries` in another geometry are not forbidden. They are ignored.
 
 RFC 7946, section 7.1.
-"
-}
-
-/// G10: name repeated.
-pub fn g10() -> &'static str
-    ensures { begins result.now (codes "G10: ") ≡ true }
-{
+",
     "G10: name repeated
 
 An object has one of these names twice: `type`, `coordinates`, `geometries`, `geometry`, `properties`, `features`, `bbox`,
@@ -278,13 +219,7 @@ Usual causes:
 - Two sets of properties that were joined as text.
 
 RFC 8259, section 4, says that names should be unique. That these eight are refused is this program's choice.
-"
-}
-
-/// G11: coordinates of the wrong shape.
-pub fn g11() -> &'static str
-    ensures { begins result.now (codes "G11: ") ≡ true }
-{
+",
     "G11: coordinates of the wrong shape
 
 The `coordinates` do not have the arrays and numbers that the type asks for. The place is that of the value that is not
@@ -337,13 +272,7 @@ of the value where a position, a line or a ring is required:
 A position may have more than three elements, though RFC 7946 advises against it. Each of them must be a number.
 
 RFC 7946, sections 3.1 and 3.1.1 to 3.1.7.
-"
-}
-
-/// G12: position of fewer than two elements.
-pub fn g12() -> &'static str
-    ensures { begins result.now (codes "G12: ") ≡ true }
-{
+",
     "G12: position of fewer than two elements
 
 A position needs a longitude and a latitude. The place is that of the position.
@@ -363,13 +292,7 @@ Usual causes:
 - One level of brackets too many in a Point: `[[9.43,54.79]]`.
 
 RFC 7946, section 3.1.1.
-"
-}
-
-/// G13: line of fewer than two elements.
-pub fn g13() -> &'static str
-    ensures { begins result.now (codes "G13: ") ≡ true }
-{
+",
     "G13: line of fewer than two elements
 
 A LineString, or one part of a MultiLineString, needs two or more positions. The place is that of the line.
@@ -388,13 +311,7 @@ Usual causes:
 - One level of brackets too many in a LineString: `[[[9.43,54.79],[9.44,54.79]]]`.
 
 RFC 7946, sections 3.1.4 and 3.1.5.
-"
-}
-
-/// G14: ring of fewer than four elements.
-pub fn g14() -> &'static str
-    ensures { begins result.now (codes "G14: ") ≡ true }
-{
+",
     "G14: ring of fewer than four elements
 
 A linear ring needs four or more positions, since the last is the first once more: a triangle has four. The place is that
@@ -417,13 +334,7 @@ Usual causes:
   G11.
 
 RFC 7946, section 3.1.6.
-"
-}
-
-/// G15: ring not closed.
-pub fn g15() -> &'static str
-    ensures { begins result.now (codes "G15: ") ≡ true }
-{
+",
     "G15: ring not closed
 
 The last position of a linear ring must be the same as its first. The place is that of the ring.
@@ -446,13 +357,7 @@ Usual causes:
 - A hole in the same array as its exterior ring. Give each ring an array of its own.
 
 RFC 7946, section 3.1.6.
-"
-}
-
-/// G16: number beyond the profile.
-pub fn g16() -> &'static str
-    ensures { begins result.now (codes "G16: ") ≡ true }
-{
+",
     "G16: number beyond the profile
 
 One of the first three numbers of a position has more digits, is greater or is nearer to zero than geolint reads. What it reads
@@ -484,13 +389,7 @@ Usual causes:
 
 RFC 7946 has no limit; its section 11.2 speaks of precision. RFC 8259, section 6, allows a program to set limits, and these
 are this program's.
-"
-}
-
-/// G17: not an array.
-pub fn g17() -> &'static str
-    ensures { begins result.now (codes "G17: ") ≡ true }
-{
+",
     "G17: not an array
 
 The `features` of a FeatureCollection or the `geometries` of a GeometryCollection must be an array. The place is that of
@@ -510,13 +409,7 @@ Usual causes:
 - A list printed as an object, `{\"0\":...,\"2\":...}`, as PHP does where elements were taken out. Use `array_values` first.
 
 RFC 7946, sections 3.1.8 and 3.3.
-"
-}
-
-/// G18: properties neither object nor null.
-pub fn g18() -> &'static str
-    ensures { begins result.now (codes "G18: ") ≡ true }
-{
+",
     "G18: properties neither object nor null
 
 The `properties` of a Feature must be an object or `null`. The place is that of the value.
@@ -536,13 +429,7 @@ Usual causes:
 - `\"\"`, `0` or `false` for nothing. Write `null`.
 
 RFC 7946, section 3.2.
-"
-}
-
-/// G19: id neither string nor number.
-pub fn g19() -> &'static str
-    ensures { begins result.now (codes "G19: ") ≡ true }
-{
+",
     "G19: id neither string nor number
 
 The `id` of a Feature must be a string or a number. The place is that of the value. In other objects `id` is a foreign
@@ -561,13 +448,7 @@ Usual causes:
 - A key of a database that is an object, such as `{\"$oid\":\"65f0\"}` of MongoDB, or a list of two keys. Write it as one string.
 
 RFC 7946, section 3.2.
-"
-}
-
-/// G20: bbox or its element of the wrong kind.
-pub fn g20() -> &'static str
-    ensures { begins result.now (codes "G20: ") ≡ true }
-{
+",
     "G20: bbox or its element of the wrong kind
 
 A bounding box must be an array of numbers. The place is that of the value of `bbox` if it is not an array, and otherwise
@@ -587,13 +468,7 @@ Usual causes:
 - An object: `{\"west\":9.42,\"south\":54.78,\"east\":9.45,\"north\":54.8}`. Write `[9.42,54.78,9.45,54.8]`.
 
 RFC 7946, section 5.
-"
-}
-
-/// G21: bbox length odd or below 4.
-pub fn g21() -> &'static str
-    ensures { begins result.now (codes "G21: ") ≡ true }
-{
+",
     "G21: bbox length odd or below 4
 
 A bounding box has two numbers for each dimension: four are west, south, east, north; six are west, south, least height,
@@ -614,13 +489,7 @@ Usual causes:
 - An empty array for the bounding box of nothing. Leave the member out.
 
 RFC 7946, section 5.
-"
-}
-
-/// W1: byte order mark.
-pub fn w1() -> &'static str
-    ensures { begins result.now (codes "W1: ") ≡ true }
-{
+",
     "W1: byte order mark
 
 The text begins with the bytes EF BB BF. JSON must be written without them. geolint passes over them, but many readers
@@ -641,13 +510,7 @@ Usual causes:
 - A PowerShell or .NET program. Ask it for UTF-8 without a byte order mark.
 
 RFC 8259, section 8.1.
-"
-}
-
-/// W2: ring runs the wrong way.
-pub fn w2() -> &'static str
-    ensures { begins result.now (codes "W2: ") ≡ true }
-{
+",
     "W2: ring runs the wrong way
 
 The exterior ring of a polygon runs clockwise, or a hole runs counterclockwise. By the right-hand rule the polygon lies to
@@ -686,13 +549,7 @@ Which way a ring runs is checked in the plane of longitudes and latitudes, on va
 that bounds no area there gives no warning, and neither does one with a position out of range (W5).
 
 RFC 7946, sections 3.1.6 and 3.1.9.
-"
-}
-
-/// W3: more than three numbers in a position.
-pub fn w3() -> &'static str
-    ensures { begins result.now (codes "W3: ") ≡ true }
-{
+",
     "W3: more than three numbers in a position
 
 The position has a fourth number or more. The standard says that they should not be there, and leaves open what they mean.
@@ -715,13 +572,7 @@ Usual causes:
 - Several positions in one array: `[9.43,54.79,9.44,54.8]`. Give each its own brackets.
 
 RFC 7946, section 3.1.1.
-"
-}
-
-/// W4: more than seven decimal places.
-pub fn w4() -> &'static str
-    ensures { begins result.now (codes "W4: ") ≡ true }
-{
+",
     "W4: more than seven decimal places
 
 One of the first three numbers of a position has more than seven decimal places. Zeros at its end do not count. The place
@@ -748,13 +599,7 @@ Round before the file is compared or signed, and round the first and the last po
 (G15).
 
 RFC 7946, section 11.2.
-"
-}
-
-/// W5: position out of range.
-pub fn w5() -> &'static str
-    ensures { begins result.now (codes "W5: ") ≡ true }
-{
+",
     "W5: position out of range
 
 The first number of a position is not from -180 to 180, or the second not from -90 to 90. Values are cut after seven
@@ -779,13 +624,7 @@ Usual causes:
 - Degrees that are multiplied, such as `94300000` for 9.43.
 
 RFC 7946, sections 3.1.1, 3.1.9 and 4.
-"
-}
-
-/// W6: empty coordinates.
-pub fn w6() -> &'static str
-    ensures { begins result.now (codes "W6: ") ≡ true }
-{
+",
     "W6: empty coordinates
 
 The value of `coordinates` is an empty array. The standard lets a reader treat such a geometry as none. The place is that of
@@ -807,13 +646,7 @@ Usual causes:
 - A place that is not known yet. Write `null` for the geometry.
 
 RFC 7946, section 3.1.
-"
-}
-
-/// W7: collection in a collection.
-pub fn w7() -> &'static str
-    ensures { begins result.now (codes "W7: ") ≡ true }
-{
+",
     "W7: collection in a collection
 
 An element of the `geometries` of a GeometryCollection is itself a GeometryCollection. The standard advises against it. The
@@ -834,13 +667,7 @@ Usual causes:
 - Collections that were joined. Put their geometries into one list.
 
 RFC 7946, section 3.1.8.
-"
-}
-
-/// W8: bbox south above north.
-pub fn w8() -> &'static str
-    ensures { begins result.now (codes "W8: ") ≡ true }
-{
+",
     "W8: bbox south above north
 
 In a bounding box of four numbers the second, its south, is greater than the fourth, its north; in one of six, the second
@@ -865,13 +692,7 @@ Usual causes:
 West above east is right: such a box crosses the antimeridian.
 
 RFC 7946, section 5.
-"
-}
-
-/// W9: crs is no longer used.
-pub fn w9() -> &'static str
-    ensures { begins result.now (codes "W9: ") ≡ true }
-{
+",
     "W9: crs is no longer used
 
 The object has a member `crs`. GeoJSON of 2008 named the reference system there. Today's standard has only longitudes and
@@ -894,13 +715,7 @@ Usual causes:
 - An export of a GIS that writes the older format. Ask for RFC 7946: `ogr2ogr -lco RFC7946=YES`.
 
 RFC 7946, section 4 and appendix B.1.
-"
-}
-
-/// J1: syntax.
-pub fn j1() -> &'static str
-    ensures { begins result.now (codes "J1: ") ≡ true }
-{
+",
     "J1: syntax
 
 The byte at the place is not allowed there; everything before it could begin a JSON text.
@@ -971,13 +786,7 @@ size:
     { printf '{\"type\":\"FeatureCollection\",\"features\":['
       grep -a '[^[:space:]]' map.geojson | tr -d '\\036' | paste -sd, -
       printf ']}'; } > mended.geojson
-"
-}
-
-/// J2: truncated.
-pub fn j2() -> &'static str
-    ensures { begins result.now (codes "J2: ") ≡ true }
-{
+",
     "J2: truncated
 
 The text is right as far as it goes, and then it ends. The place is its length.
@@ -991,13 +800,7 @@ at the end, add them:
     {\"type\":\"Point\",\"coordinates\":[9.43,54.79]}
 
 An empty file is truncated at 0, and with `--seq` valid, with no records. RFC 8259, section 2.
-"
-}
-
-/// J3: too deep.
-pub fn j3() -> &'static str
-    ensures { begins result.now (codes "J3: ") ≡ true }
-{
+",
     "J3: too deep
 
 The byte at the place opens an array or object inside 256 that are open. The limit is this program's; RFC 8259, section 9,
@@ -1008,13 +811,7 @@ allows one.
 
 GeoJSON itself needs few levels: the numbers of a MultiPolygon in a FeatureCollection are inside eight. Look for
 GeometryCollections inside one another and for deep values in `properties`, and flatten them.
-"
-}
-
-/// J4: too long.
-pub fn j4() -> &'static str
-    ensures { begins result.now (codes "J4: ") ≡ true }
-{
+",
     "J4: too long
 
 The text is right up to the place and goes on, but no further byte is allowed: after as many bytes as `--max-bytes` says, or
@@ -1025,5 +822,5 @@ after 2^60.
 
 Either the file is longer than it should be, or the limit is too low. Without the option no real file is too long, so
 something sends bytes to geolint without end.
-"
-}
+",
+];

@@ -84,7 +84,6 @@ all-warnings-same it begin one other (items, found, (list, are, stands)) (others
     stands ∙ (ap (λ (l : List Warning). warnings_of l) lists ∙ sym stand)
 
 record-same : (it : Data) (begin : ℕ) (one other : Verdict) → IsRecordIn it begin one → IsRecordIn it begin other → one ≡ other
-unfolding code_name
 record-same it begin (Verdict.Broken a) (Verdict.Broken b) e f =
     let rule = same-rule a.rule b.rule (both-said (text_in (codes "fault") it) _ _ e.0 f.0) in
     let place = place-same (number_in (codes "at") it) begin a.place b.place e.1 f.1 in
@@ -95,8 +94,10 @@ record-same it begin (Verdict.NotJson a) (Verdict.NotJson b) e f =
     let place = place-same (number_in (codes "at") it) begin a.place b.place e.1 f.1 in
     ap (λ (c : Cause). Verdict.NotJson (record { place = a.place; cause = c })) cause
     ∙ ap (λ (p : ℕ). Verdict.NotJson (record { place = p; cause = b.cause })) place
-record-same it begin (Verdict.Broken a) (Verdict.NotJson b) e f = absurd (apart 71 74 _ _ refl (both-said (text_in (codes "fault") it) _ _ e.0 f.0))
-record-same it begin (Verdict.NotJson a) (Verdict.Broken b) e f = absurd (apart 74 71 _ _ refl (both-said (text_in (codes "fault") it) _ _ e.0 f.0))
+record-same it begin (Verdict.Broken a) (Verdict.NotJson b) e f =
+    let same = same-code (Code.Rule a.rule) (Code.Cause b.cause) (both-said (text_in (codes "fault") it) _ _ e.0 f.0) in cc
+record-same it begin (Verdict.NotJson a) (Verdict.Broken b) e f =
+    let same = same-code (Code.Cause a.cause) (Code.Rule b.rule) (both-said (text_in (codes "fault") it) _ _ e.0 f.0) in cc
 record-same it begin (Verdict.Valid warnings) other e f = absurd e
 record-same it begin (Verdict.Broken a) (Verdict.Valid warnings) e f = absurd f
 record-same it begin (Verdict.NotJson a) (Verdict.Valid warnings) e f = absurd f

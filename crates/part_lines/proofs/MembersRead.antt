@@ -1,10 +1,9 @@
 -- The object of a written line is read.
 use Rattle.part_lines.proofs.Common.{arith, ◌<◌, ◌+◌, ℕ, ap, sym, subst, Bool, true, false, Some, List, [], ◌∷◌, ◌++◌, get_or}
-use Rattle.part_lines.proofs.Common.{flat_map, kinds, Kind, Warnings, Code, Note, PartLine, code_name}
+use Rattle.part_lines.proofs.Common.{kinds, Kind, Warnings, Code, Note, PartLine, code_name}
 use Rattle.std.proofs.Common.{None, Option}
 use Rattle.std.specs.Prelude.{◌^◌, ◌≡◌, nat_lt, if◌then◌else◌, string_bytes}
 use Rattle.std.specs.Io.Iter.{u64_saturate}
-use Rattle.serde_json.specs.Data.{Data}
 use Rattle.gj_coords.proofs.Lists.ListsStoodFor.{kept_of}
 use Rattle.gj_coords.specs.Internal.KeptWarnings.{first_in, count_in}
 use Rattle.gj_coords.specs.Warnings.{Warning, count_of}
@@ -13,19 +12,19 @@ use Rattle.gj_coords.specs.declared.kind_warnings.KindWarnings.{KindWarnings}
 use Rattle.geolint_report.specs.Items.{item_number}
 use Rattle.geolint_report.specs.Slots.{slot_of}
 use Rattle.geolint_report.specs.declared.every.tally.Tally.{Tally}
-use Rattle.geolint_report.specs.declared.texts.TheConstants.{RULES, CAUSES}
+use Rattle.geolint_report.specs.declared.texts.TheConstants.{ALL}
 use Rattle.gj_rules.specs.declared.sequence.verdict.SeqVerdict.{SeqVerdict}
 use Rattle.gj_rules.specs.declared.verdict.Verdict.{Verdict}
 use Rattle.report_forms.specs.Passing.{contains}
 use Rattle.report_forms.specs.declared.options.Kinds.{Kinds}
 use Rattle.part_lines.specs.Lines.{every_word, framing_word}
 use Rattle.part_lines.specs.LineText.{object_of, place_in_file, name_of, file_members, allowed_kind, allowed_kinds, settings_members, warning_members, warning_if}
-use Rattle.part_lines.specs.LineText.{kind_items, warning_items, valid_members, fault_members, verdict_members, count_members, code_items, rule_items}
-use Rattle.part_lines.specs.LineText.{warned_items, cause_items, count_items, tally_members, note_members, note_items, listed_members}
+use Rattle.part_lines.specs.LineText.{kind_items, warning_items, valid_members, fault_members, verdict_members, count_members, code_items}
+use Rattle.part_lines.specs.LineText.{count_items, tally_members, note_members, note_items, listed_members}
 use Rattle.part_lines.specs.LineText.{listed_members_if, head_members}
 use Rattle.part_lines.specs.Writable.{Fits, IsWritableVerdict, AreWritableNotes, IsWritableIf, IsWritable}
 use Rattle.part_lines.specs.declared.line.Listed.{Listed}
-use Rattle.part_lines.proofs.ReadTexts.{IsReadable, AreReadable, AreNamed, reads-number, reads-string, reads-boolean, reads-append, reads-flat, named-append}
+use Rattle.part_lines.proofs.ReadTexts.{IsReadable, AreReadable, AreNamed, reads-number, reads-string, reads-boolean, reads-flat, named-append}
 use Rattle.part_lines.proofs.ReadTexts.{reads-array, reads-object}
 use Rattle.part_lines.proofs.WrittenItems.{line-members}
 
@@ -121,14 +120,8 @@ count-read false code count small = tt
 counts-read : (tally : Tally) → ((slot : ℕ) → Fits (get_or tally.counts slot 0)) → AreReadable 1 (count_items tally)
 unfolding count_items
 counts-read tally small =
-    let each : (code : Code) → AreReadable 1 (code_items tally code) =
-    λ code. count-read (nat_lt 0 (get_or tally.counts (slot_of code) 0)) code (get_or tally.counts (slot_of code) 0) (small (slot_of code)) in
-    let rules : List Data = flat_map (rule_items tally) RULES in
-    let warned : List Data = flat_map (warned_items tally) kinds in
-    reads-append 1 (rules ++ warned) (flat_map (cause_items tally) CAUSES)
-    (reads-append 1 rules warned (reads-flat 1 (rule_items tally) (λ rule. each (Code.Rule rule)) RULES)
-    (reads-flat 1 (warned_items tally) (λ kind. each (Code.Kind kind)) kinds))
-    (reads-flat 1 (cause_items tally) (λ cause. each (Code.Cause cause)) CAUSES)
+    reads-flat 1 (code_items tally)
+    (λ code. count-read (nat_lt 0 (get_or tally.counts (slot_of code) 0)) code (get_or tally.counts (slot_of code) 0) (small (slot_of code))) ALL
 
 notes-read : (begin : ℕ) (notes : List Note) → AreWritableNotes begin notes → AreReadable 1 (note_items begin notes)
 unfolding note_items note_members

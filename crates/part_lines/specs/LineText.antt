@@ -8,10 +8,8 @@ use Rattle.serde_json.specs.View.{items_of}
 use Rattle.serde_json.specs.Written.{compact_text}
 use Rattle.gj_coords.specs.Internal.KeptWarnings.{first_in, count_in}
 use Rattle.gj_coords.specs.Warnings.{kinds}
-use Rattle.gj_coords.specs.declared.fault.Rule.{Rule}
 use Rattle.gj_coords.specs.declared.kind.Kind.{Kind}
 use Rattle.gj_coords.specs.declared.warnings.Warnings.{Warnings}
-use Rattle.gj_json.specs.declared.fault.Cause.{Cause}
 use Rattle.gj_rules.specs.declared.sequence.verdict.SeqVerdict.{SeqVerdict}
 use Rattle.gj_rules.specs.declared.verdict.Verdict.{Verdict}
 use Rattle.geolint_report.specs.Items.{item_number}
@@ -20,7 +18,7 @@ use Rattle.geolint_report.specs.Texts.{code_name}
 use Rattle.geolint_report.specs.declared.every.listing.Note.{Note}
 use Rattle.geolint_report.specs.declared.every.tally.Tally.{Tally}
 use Rattle.geolint_report.specs.declared.texts.Code.{Code}
-use Rattle.geolint_report.specs.declared.texts.TheConstants.{RULES, CAUSES}
+use Rattle.geolint_report.specs.declared.texts.TheConstants.{ALL}
 use Rattle.report_forms.specs.Passing.{contains}
 use Rattle.report_forms.specs.declared.options.Kinds.{Kinds}
 use Rattle.part_lines.specs.Lines.{every_word, framing_word}
@@ -125,18 +123,9 @@ count_if code count = if nat_lt 0 count then object_of (count_members code count
 abbrev pub code_items : Tally → Code → List Data
 code_items tally code = count_if code (get_or tally.counts (slot_of code) 0)
 
-abbrev pub rule_items : Tally → Rule → List Data
-rule_items tally rule = code_items tally (Code.Rule rule)
-
-abbrev pub warned_items : Tally → Kind → List Data
-warned_items tally kind = code_items tally (Code.Kind kind)
-
-abbrev pub cause_items : Tally → Cause → List Data
-cause_items tally cause = code_items tally (Code.Cause cause)
-
--- of rules, of kinds and of causes
+-- of all codes
 unfoldable pub count_items : Tally → List Data
-count_items tally = (flat_map (rule_items tally) RULES ++ flat_map (warned_items tally) kinds) ++ flat_map (cause_items tally) CAUSES
+count_items tally = flat_map (code_items tally) ALL
 
 unfoldable pub tally_members : Tally → List Named
 tally_members tally = (codes "items", num tally.items) ∷ (codes "items_broken", num tally.broken) ∷ (codes "counts", array_of (count_items tally)) ∷ []

@@ -1,7 +1,7 @@
 //! Reads the line of a part.
 
 ghost use Rattle.std.specs.Str.{IsUtf8};
-ghost use Rattle.std.specs.Prelude.{◌≡◌, ◌≢◌, ◌<◌, ◌^◌, ◌++◌, ℕ, Bool, IfSome, IsSome, IfOk, Some, None, Err, option_map, map, codes, replicate};
+ghost use Rattle.std.specs.Prelude.{◌≡◌, ◌≢◌, ◌<◌, ◌^◌, ◌++◌, ℕ, Bool, IfSome, IsSome, IfOk, Some, None, Err, true, option_map, map, codes, replicate};
 ghost use Rattle.std.specs.List.{All};
 ghost use Rattle.gj_coords.specs.Warnings.{warning_at};
 ghost use Rattle.gj_coords.specs.WarningsStand.{StandsFor};
@@ -13,7 +13,7 @@ ghost use Rattle.gj_json.specs.declared.fault.Cause.{Cause};
 ghost use Rattle.gj_rules.specs.declared.records.framing.Framing.{Framing};
 ghost use Rattle.gj_rules.specs.declared.sequence.verdict.SeqVerdict.{SeqVerdict};
 ghost use Rattle.gj_rules.specs.declared.verdict.Verdict.{Verdict};
-ghost use Rattle.geolint_report.specs.Texts.{code_name};
+ghost use Rattle.geolint_report.specs.Texts.{code_name, is_listed};
 ghost use Rattle.geolint_report.specs.declared.texts.Code.{Code};
 ghost use Rattle.serde_json.specs.Data.{Data};
 ghost use Rattle.serde_json.specs.Find.{get, as_str};
@@ -41,7 +41,7 @@ use crate::warnings::warnings_at;
 use geolint_report::every::listing::{Asked, Item, Note, Notes};
 use geolint_report::every::tally::Tally;
 use geolint_report::report::Told;
-use geolint_report::texts::{CODES, Code};
+use geolint_report::texts::{CODES, Code, code_named};
 use gj_coords::{Fault, Kind, Rule, Warnings};
 use gj_json::{Cause, JsonFault, Limits};
 use gj_rules::{Framing, SeqVerdict, Verdict};
@@ -380,81 +380,42 @@ fn read_count(value: &Value) -> Option<u32>
 }
 
 /// The code of this name, as G15.
-fn code_named(name: &str) -> Option<Code>
-    ensures { IfSome result (λ code. code_name code ≡ name.now) }
+fn code_of(name: &str) -> Option<Code>
+    ensures word { IfSome result (λ code. code_name code ≡ name.now) }
+    ensures all { (code : Code) → is_listed code ≡ true → name.now ≡ code_name code → result ≡ Some code }
 {
-    if let Some(rule) = rule_named(name) {
-        return Some(Code::Rule(rule));
+    match code_named(name) {
+        Some(code) if code.name() == name => Some(code),
+        _ => None,
     }
-    if let Some(kind) = kind_named(name) {
-        return Some(Code::Kind(kind));
-    }
-    if let Some(cause) = cause_named(name) {
-        return Some(Code::Cause(cause));
-    }
-    None
 }
 
-#[tactic(auto, unfolding(crate::proofs::NamesRead::names_computed))]
 fn rule_named(name: &str) -> Option<Rule>
     ensures word { IfSome result (λ rule. code_name (Code.Rule rule) ≡ name.now) }
     ensures all { (rule : Rule) → name.now ≡ code_name (Code.Rule rule) → IsSome result }
 {
-    match name {
-        "G1" => Some(Rule::G1),
-        "G2" => Some(Rule::G2),
-        "G3" => Some(Rule::G3),
-        "G4" => Some(Rule::G4),
-        "G5" => Some(Rule::G5),
-        "G6" => Some(Rule::G6),
-        "G7" => Some(Rule::G7),
-        "G8" => Some(Rule::G8),
-        "G9" => Some(Rule::G9),
-        "G10" => Some(Rule::G10),
-        "G11" => Some(Rule::G11),
-        "G12" => Some(Rule::G12),
-        "G13" => Some(Rule::G13),
-        "G14" => Some(Rule::G14),
-        "G15" => Some(Rule::G15),
-        "G16" => Some(Rule::G16),
-        "G17" => Some(Rule::G17),
-        "G18" => Some(Rule::G18),
-        "G19" => Some(Rule::G19),
-        "G20" => Some(Rule::G20),
-        "G21" => Some(Rule::G21),
+    match code_of(name)? {
+        Code::Rule(rule) => Some(rule),
         _ => None,
     }
 }
 
-#[tactic(auto, using(crate::proofs::NamesRead::no_kind), unfolding(crate::proofs::NamesRead::names_computed))]
 fn kind_named(name: &str) -> Option<Kind>
     ensures word { IfSome result (λ kind. code_name (Code.Kind kind) ≡ name.now) }
     ensures all { (kind : Kind) → name.now ≡ code_name (Code.Kind kind) → IsSome result }
 {
-    match name {
-        "W1" => Some(Kind::W1),
-        "W2" => Some(Kind::W2),
-        "W3" => Some(Kind::W3),
-        "W4" => Some(Kind::W4),
-        "W5" => Some(Kind::W5),
-        "W6" => Some(Kind::W6),
-        "W7" => Some(Kind::W7),
-        "W8" => Some(Kind::W8),
-        "W9" => Some(Kind::W9),
+    match code_of(name)? {
+        Code::Kind(kind) => Some(kind),
         _ => None,
     }
 }
 
-#[tactic(auto, using(crate::proofs::NamesRead::no_cause), unfolding(crate::proofs::NamesRead::names_computed))]
 fn cause_named(name: &str) -> Option<Cause>
     ensures word { IfSome result (λ cause. code_name (Code.Cause cause) ≡ name.now) }
     ensures all { (cause : Cause) → name.now ≡ code_name (Code.Cause cause) → IsSome result }
 {
-    match name {
-        "J1" => Some(Cause::Syntax),
-        "J2" => Some(Cause::Truncated),
-        "J3" => Some(Cause::Depth),
-        "J4" => Some(Cause::Length),
+    match code_of(name)? {
+        Code::Cause(cause) => Some(cause),
         _ => None,
     }
 }
@@ -570,7 +531,7 @@ fn read_tally(value: &Value) -> Option<Tally>
 fn read_counts(value: &Value) -> Option<[u64; CODES]> {
     let mut counts = [0; CODES];
     for found in array_of(value, "counts")? {
-        let slot = code_named(text_of(found, "code")?)?.slot();
+        let slot = code_of(text_of(found, "code")?)?.slot();
         *counts.get_mut(slot)? = number_of(found, "count")?;
     }
     Some(counts)
@@ -580,7 +541,7 @@ fn read_note(value: &Value, begin: u64) -> Option<Note>
     ensures { IfSome result (λ note. (number : ℕ) × IsNoteIn (view value.now) begin note number) }
 {
     let number = number_of(value, "record")?;
-    let code = code_named(text_of(value, "code")?)?;
+    let code = code_of(text_of(value, "code")?)?;
     let place = read_place(value, begin)?;
     Some(Note {
         item: Item::Record(number),

@@ -2,19 +2,16 @@
 
 ghost use Rattle.std.specs.Prelude.{◌≡◌, ◌∷◌, ◌++◌, IfOk, OnOk, string_bytes, get_or, codes, drop};
 ghost use Rattle.std.specs.Fmt.{decimal};
-ghost use Rattle.std.specs.List.{flat_map};
-ghost use Rattle.gj_coords.specs.Warnings.{kinds};
 ghost use Rattle.geolint_report.specs.Items.{item_number};
 ghost use Rattle.geolint_report.specs.Slots.{slot_of};
 ghost use Rattle.geolint_report.specs.Texts.{code_name};
-ghost use Rattle.geolint_report.specs.declared.texts.TheConstants.{RULES, CAUSES};
 ghost use Rattle.geolint_report.specs.Line.{Adds};
 ghost use Rattle.json.specs.Print.{quoted};
 ghost use Rattle.serde_json.specs.Written.{compact_text};
 ghost use Rattle.part_lines.specs.LineText.{line_text, body_text, num, array_of, object_of, items_text, more_text, file_members, settings_members};
 ghost use Rattle.part_lines.specs.LineText.{allowed_kinds, allowed_kind, place_in_file, verdict_members, valid_members, record_members, fault_members};
 ghost use Rattle.part_lines.specs.LineText.{warning_items, kind_items, warning_members, listed_members, listed_members_if, tally_members, count_items};
-ghost use Rattle.part_lines.specs.LineText.{rule_items, warned_items, cause_items, code_items, count_members, note_items, one_note, note_members};
+ghost use Rattle.part_lines.specs.LineText.{code_items, count_members, note_items, one_note, note_members};
 ghost use Rattle.part_lines.specs.Lines.{every_word, framing_word};
 
 use crate::line::{FileState, Listed, PartLine, Settings};
@@ -22,7 +19,7 @@ use crate::sealing::put_seal;
 use geolint_report::every::listing::{Item, Note};
 use geolint_report::every::tally::Tally;
 use geolint_report::line::{put, put_number, put_truth};
-use geolint_report::texts::{CAUSES, Code, RULES};
+use geolint_report::texts::{ALL, Code};
 use gj_coords::{KINDS, Kind, Warnings};
 use gj_json::Limits;
 use gj_rules::{Framing, SeqVerdict, Verdict};
@@ -353,37 +350,10 @@ fn put_counts(alloc: Global, tally: &Tally, out: &mut Vec<u8>) -> Result<(), All
     ensures { OnOk result (Adds out.old out.new (compact_text (array_of (count_items tally.now)))) }
 {
     let mut items = Vec::new(alloc);
-    put_rule_counts(tally, &mut items)?;
-    put_kind_counts(tally, &mut items)?;
-    put_cause_counts(tally, &mut items)?;
+    for code in &ALL {
+        put_count(tally, *code, &mut items)?;
+    }
     put_array(items.as_slice(), out)
-}
-
-fn put_rule_counts(tally: &Tally, items: &mut Vec<u8>) -> Result<(), AllocError>
-    ensures { OnOk result (Adds items.old items.new (items_text (flat_map (rule_items tally.now) RULES))) }
-{
-    for rule in &RULES {
-        put_count(tally, Code::Rule(*rule), items)?;
-    }
-    Ok(())
-}
-
-fn put_kind_counts(tally: &Tally, items: &mut Vec<u8>) -> Result<(), AllocError>
-    ensures { OnOk result (Adds items.old items.new (items_text (flat_map (warned_items tally.now) kinds))) }
-{
-    for kind in &KINDS {
-        put_count(tally, Code::Kind(*kind), items)?;
-    }
-    Ok(())
-}
-
-fn put_cause_counts(tally: &Tally, items: &mut Vec<u8>) -> Result<(), AllocError>
-    ensures { OnOk result (Adds items.old items.new (items_text (flat_map (cause_items tally.now) CAUSES))) }
-{
-    for cause in &CAUSES {
-        put_count(tally, Code::Cause(*cause), items)?;
-    }
-    Ok(())
 }
 
 /// Appends after a comma of how many records a code is reported, where there are some.

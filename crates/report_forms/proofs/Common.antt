@@ -5,7 +5,6 @@ pub use Rattle.std.proofs.lemmas.Result.{on_ok_weaker}
 pub use Rattle.std.specs.Fmt.{decimal}
 pub use Rattle.std.specs.List.{flat_map}
 pub use Rattle.std.specs.Prelude.{Option, string_bytes}
-pub use Rattle.report_forms.proofs.JoinedElements.{after}
 pub use Rattle.geolint_report.specs.Texts.{code_name, code_text}
 pub use Rattle.geolint_report.specs.declared.texts.Code.{Code}
 pub use Rattle.gj_coords.specs.Warnings.{kinds}

@@ -11,7 +11,6 @@ use Rattle.std.proofs.lemmas.Bool.Decides.{nat_tests, eqb_tells}
 use Rattle.std.proofs.lemmas.List.{get_or-map}
 use Rattle.std.proofs.lemmas.List.FromFn.{get_or-range_with_len}
 use Rattle.std.proofs.Math.Bool.{and-false, or-false}
-use Rattle.gj_coords.specs.Fault.{number_of}
 use Rattle.gj_coords.specs.Warnings.{kind_number}
 use Rattle.gj_coords.specs.declared.warnings.Warnings.{Warnings}
 use Rattle.gj_coords.specs.Internal.KeptWarnings.{none_in, first_in}
@@ -21,7 +20,7 @@ use Rattle.gj_rules.specs.declared.verdict.Verdict.TheVariants.{Valid, Broken, N
 use Rattle.geolint_report.specs.declared.judge.Finding.{Finding}
 use Rattle.geolint_report.specs.declared.report.Told.{Told}
 use Rattle.geolint_report.specs.Finding.{fault_of, warnings_of}
-use Rattle.geolint_report.specs.Texts.{is_cause, cause_number, code_number}
+use Rattle.geolint_report.specs.Texts.{is_cause}
 use Rattle.report_forms.specs.declared.summary.Summary.{Summary}
 use Rattle.report_forms.specs.Counts.{of_fault, of_warnings, is_valid, is_warned, is_broken, is_refused, is_not_valid, warns, tells}
 use Rattle.geolint_report.specs.Slots.{same, slot_of, more}
@@ -33,30 +32,31 @@ use Rattle.report_forms.specs.Internal.AddedFiles.{Adds}
 
 -- the kind is told, and is among the first
 abbrev pub until : ℕ → Warnings → Code → Bool
-until i warnings code = nat_le (code_number code) i && warns code warnings
+until i warnings (Code.Kind kind) = nat_le (kind_number kind) i && is_some (first_in kind warnings)
+until i warnings code = false
 
 pub until-none : (warnings : Warnings) (code : Code) → until 0 warnings code ≡ false
-until-none warnings (Code.Rule rule) = and-false (nat_le (number_of rule) 0)
-until-none warnings (Code.Cause cause) = and-false (nat_le (cause_number cause) 0)
-until-none warnings Code.NotValid = refl
 until-none warnings (Code.Kind kind) =
     ap (λ (b : Bool). b && is_some (first_in kind warnings)) (above (kind_number kind) 0 (omega (arith, (kind_range kind).0)))
+until-none warnings (Code.Rule rule) = refl
+until-none warnings (Code.Cause cause) = refl
+until-none warnings Code.NotValid = refl
 
 pub until-all : (i : ℕ) (warnings : Warnings) (code : Code) → length kinds ≤ i → until i warnings code ≡ warns code warnings
-until-all i warnings (Code.Rule rule) all = and-false (nat_le (number_of rule) i)
-until-all i warnings (Code.Cause cause) all = and-false (nat_le (cause_number cause) i)
-until-all i warnings Code.NotValid all = and-false (nat_le 0 i)
 until-all i warnings (Code.Kind kind) all =
     ap (λ (b : Bool). b && is_some (first_in kind warnings)) (below (kind_number kind) i (omega (arith, all, (kind_range kind).1)))
+until-all i warnings (Code.Rule rule) all = refl
+until-all i warnings (Code.Cause cause) all = refl
+until-all i warnings Code.NotValid all = refl
 
 later : (m i : ℕ) → m ≢ i + 1 → nat_le m (i + 1) ≡ nat_le m i
 later m i other = grind (arith, nat_tests, other)
 
 pub until-more : (i : ℕ) (kind : Kind) (warnings : Warnings) (other : Code) (n : ℕ) → kind_number kind ≡ i + 1 → is_some (first_in kind warnings) ≡ true
     → more (same other (Code.Kind kind)) (more (until i warnings other) n) ≡ more (until (i + 1) warnings other) n
-until-more i kind warnings (Code.Rule rule) n here has = rw (and-false (nat_le (number_of rule) i), and-false (nat_le (number_of rule) (i + 1))) refl
-until-more i kind warnings (Code.Cause cause) n here has = rw (and-false (nat_le (cause_number cause) i), and-false (nat_le (cause_number cause) (i + 1))) refl
-until-more i kind warnings Code.NotValid n here has = rw (and-false (nat_le 0 i), and-false (nat_le 0 (i + 1))) refl
+until-more i kind warnings (Code.Rule rule) n here has = refl
+until-more i kind warnings (Code.Cause cause) n here has = refl
+until-more i kind warnings Code.NotValid n here has = refl
 until-more i kind warnings (Code.Kind j) n here has = elim (eqb_tells (kind_number j) (kind_number kind)) [
   | inl e ↦ (let is = one_kind j kind e.0 in
       let told : is_some (first_in j warnings) ≡ true = ap (λ (k : Kind). is_some (first_in k warnings)) is ∙ has in
@@ -70,9 +70,9 @@ until-more i kind warnings (Code.Kind j) n here has = elim (eqb_tells (kind_numb
 
 pub until-same : (i : ℕ) (kind : Kind) (warnings : Warnings) (other : Code) → kind_number kind ≡ i + 1 → is_some (first_in kind warnings) ≡ false
     → until (i + 1) warnings other ≡ until i warnings other
-until-same i kind warnings (Code.Rule rule) here has = and-false (nat_le (number_of rule) (i + 1)) ∙ sym (and-false (nat_le (number_of rule) i))
-until-same i kind warnings (Code.Cause cause) here has = and-false (nat_le (cause_number cause) (i + 1)) ∙ sym (and-false (nat_le (cause_number cause) i))
-until-same i kind warnings Code.NotValid here has = and-false (nat_le 0 (i + 1)) ∙ sym (and-false (nat_le 0 i))
+until-same i kind warnings (Code.Rule rule) here has = refl
+until-same i kind warnings (Code.Cause cause) here has = refl
+until-same i kind warnings Code.NotValid here has = refl
 until-same i kind warnings (Code.Kind j) here has = elim (eqb_tells (kind_number j) (kind_number kind)) [
   | inl e ↦ (let is = one_kind j kind e.0 in
       let none : is_some (first_in j warnings) ≡ false = ap (λ (k : Kind). is_some (first_in k warnings)) is ∙ has in

@@ -1,14 +1,7 @@
 -- What is put of the elements of a list, one after another.
 use Rattle.std.proofs.Common.{◌≡◌, ℕ, ◌+◌, ◌<◌, List, ◌++◌, length, get_or, take, ap, sym, ◌∙◌, append_assoc}
-use Rattle.std.specs.Prelude.{Result, Ok, Err, OnOk}
 use Rattle.std.specs.List.{flat_map}
 use Rattle.geolint_report.proofs.ElementsInTurn.{parts-more}
-
--- what a last call appends stands after what was appended before it
-pub after : {T E : Type 0} (r : Result T E) (start middle new first last : List ℕ) → middle ≡ start ++ first → OnOk r (new ≡ middle ++ last)
-    → OnOk r (new ≡ start ++ (first ++ last))
-after (Ok x) start middle new first last before is = is ∙ (ap (λ (ys : List ℕ). ys ++ last) before ∙ append_assoc start first last)
-after (Err x) start middle new first last before is = is
 
 -- with one element more
 pub one-more : {A : Type 0} (line : A → List ℕ) (xs : List A) (i : ℕ) (d : A) (start middle new : List ℕ) → i < length xs

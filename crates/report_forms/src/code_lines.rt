@@ -4,12 +4,11 @@ ghost use Rattle.geolint_report.specs.declared.texts.Code.{Code};
 ghost use Rattle.geolint_report.specs.declared.texts.TheConstants.{CODES};
 ghost use Rattle.geolint_report.specs.Line.{Adds};
 ghost use Rattle.geolint_report.specs.Slots.{slot_of};
-ghost use Rattle.report_forms.specs.CodeLines.{AreCounts, code_lines, rule_lines, kind_lines, cause_lines, code_line, count_line, count_line_if};
+ghost use Rattle.report_forms.specs.CodeLines.{AreCounts, code_lines, code_line, count_line, count_line_if};
 ghost use Rattle.report_forms.specs.CodeLines.{in_eight_places, spaces_before};
 
 use geolint_report::line::{put, put_all};
-use geolint_report::texts::{CAUSES, CODES, Code, RULES};
-use gj_coords::KINDS;
+use geolint_report::texts::{ALL, CODES, Code};
 use itoa::Buffer;
 use std::alloc::AllocError;
 
@@ -17,34 +16,8 @@ use std::alloc::AllocError;
 pub fn put_codes(counts: &[u64; CODES], line: &mut Vec<u8>) -> Result<(), AllocError>
     ensures { (count : Code → ℕ) → AreCounts counts.now count → OnOk result (Adds line.old line.new (code_lines count)) }
 {
-    put_rules(counts, line)?;
-    put_kinds(counts, line)?;
-    put_causes(counts, line)
-}
-
-fn put_rules(counts: &[u64; CODES], line: &mut Vec<u8>) -> Result<(), AllocError>
-    ensures { (count : Code → ℕ) → AreCounts counts.now count → OnOk result (Adds line.old line.new (rule_lines count)) }
-{
-    for rule in &RULES {
-        put_code(Code::Rule(*rule), counts, line)?;
-    }
-    Ok(())
-}
-
-fn put_kinds(counts: &[u64; CODES], line: &mut Vec<u8>) -> Result<(), AllocError>
-    ensures { (count : Code → ℕ) → AreCounts counts.now count → OnOk result (Adds line.old line.new (kind_lines count)) }
-{
-    for kind in &KINDS {
-        put_code(Code::Kind(*kind), counts, line)?;
-    }
-    Ok(())
-}
-
-fn put_causes(counts: &[u64; CODES], line: &mut Vec<u8>) -> Result<(), AllocError>
-    ensures { (count : Code → ℕ) → AreCounts counts.now count → OnOk result (Adds line.old line.new (cause_lines count)) }
-{
-    for cause in &CAUSES {
-        put_code(Code::Cause(*cause), counts, line)?;
+    for code in &ALL {
+        put_code(*code, counts, line)?;
     }
     Ok(())
 }

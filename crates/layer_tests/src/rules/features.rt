@@ -270,3 +270,17 @@ fn clean_feature(rt: HostRuntime) {
     let is_fine = sink.features[0] == Some(fine);
     holds(&rt, is_fine, "it has no fault and no warning");
 }
+
+/// What follows goes to another sink, and the one that had the features before comes back.
+#[test]
+fn features_of_two_sinks(rt: HostRuntime) {
+    let mut linter = linter();
+    linter.feed(b"{\"features\":[7,8,");
+    let before = linter.set_sink(FirstFeatures::new());
+    linter.feed(b"9]}");
+    let (_, after) = linter.finish();
+    holds(&rt, before.count == 2, "two before");
+    let last = feature_of(2, &(19, 17, None, None, Breaks(Rule::G1, 17)));
+    let is_last = after.count == 1 && after.features[0] == Some(last);
+    holds(&rt, is_last, "one after");
+}

@@ -3,11 +3,9 @@ use Rattle.std.specs.Prelude.{◌/◌, ◌%◌, ℕ, Bool, true, false, ◌||◌
 use Rattle.std.specs.Char.{is_ascii_alphanumeric}
 use Rattle.std.specs.Fmt.{decimal}
 use Rattle.std.specs.List.{flat_map, list_any}
-use Rattle.gj_coords.specs.declared.fault.Rule.{Rule}
 use Rattle.gj_coords.specs.declared.kind.Kind.{Kind}
 use Rattle.gj_coords.specs.declared.warnings.Warnings.{Warnings}
 use Rattle.gj_coords.specs.Warnings.{kinds}
-use Rattle.gj_json.specs.declared.fault.Cause.{Cause}
 use Rattle.gj_json.specs.declared.path.Path.{Path}
 use Rattle.gj_json.specs.declared.path.PathStep.{PathStep}
 use Rattle.gj_json.specs.Path.{steps_of}
@@ -23,7 +21,7 @@ use Rattle.report_forms.specs.declared.options.Kinds.{Kinds}
 use Rattle.report_forms.specs.Forms.Messages.{and_record, and_times, level_of, path_text}
 use Rattle.report_forms.specs.Names.{digit_in}
 use Rattle.report_forms.specs.Passing.{fails}
-use Rattle.report_forms.specs.CodeLines.{rules, causes}
+use Rattle.geolint_report.specs.declared.texts.TheConstants.{ALL}
 pub use Rattle.gj_rules.specs.Records.{are_none as is_nothing}
 
 -- ---- a reference to a file
@@ -46,11 +44,6 @@ unfoldable pub uri_of : List ℕ → List ℕ
 uri_of name = scheme_of name ++ (flat_map in_uri name ++ codes "\"")
 
 -- ---- a result
-
-abbrev pub id_of : Code → List ℕ
-id_of Code.NotValid = codes "not-valid"
-id_of code = code_name code
-
 unfoldable pub sarif_message : Report → Told → ℕ → List ℕ
 sarif_message report told count = code_text told.code ++ (and_record (record_of report.finding) ++ and_times count)
 
@@ -85,7 +78,7 @@ logical_location_of None = []
 unfoldable pub sarif_result : Report → List ℕ → Told → ℕ → List ℕ
 sarif_result report level told count =
     codes "{\"ruleId\":\""
-    ++ (id_of told.code
+    ++ (code_name told.code
     ++ (codes "\",\"level\":\""
     ++ (level
     ++ (codes "\",\"message\":{\"text\":\""
@@ -156,29 +149,25 @@ abbrev pub section_of : Code → List ℕ
 section_of Code.NotValid = codes "what geolint says"
 section_of code = explained code
 
-unfoldable pub sarif_rule : Code → List ℕ → List ℕ
-sarif_rule code level =
+-- the level of what is reported under a code
+abbrev pub code_level : Code → List ℕ
+code_level (Code.Kind kind) = codes "warning"
+code_level code = codes "error"
+
+unfoldable pub sarif_rule : Code → List ℕ
+sarif_rule code =
     codes "{\"id\":\""
-    ++ (id_of code
+    ++ (code_name code
     ++ (codes "\",\"shortDescription\":{\"text\":\""
     ++ (code_text code
     ++ (codes "\"},\"help\":{\"text\":\"docs/rules.md, "
-    ++ (section_of code ++ (codes "\"},\"defaultConfiguration\":{\"level\":\"" ++ (level ++ codes "\"}}")))))))
+    ++ (section_of code ++ (codes "\"},\"defaultConfiguration\":{\"level\":\"" ++ (code_level code ++ codes "\"}}")))))))
 
 abbrev pub rule_and_break : Code → List ℕ
-rule_and_break code = sarif_rule code (codes "error") ++ codes ",\n"
-
-abbrev pub break_and_warning : Code → List ℕ
-break_and_warning code = codes ",\n" ++ sarif_rule code (codes "warning")
+rule_and_break code = sarif_rule code ++ codes ",\n"
 
 unfoldable pub sarif_rules : List ℕ
-sarif_rules = flat_map (λ (rule : Rule). rule_and_break (Code.Rule rule)) rules
-
-unfoldable pub sarif_causes : List ℕ
-sarif_causes = flat_map (λ (cause : Cause). rule_and_break (Code.Cause cause)) causes
-
-unfoldable pub sarif_kinds : List ℕ
-sarif_kinds = flat_map (λ (kind : Kind). break_and_warning (Code.Kind kind)) kinds
+sarif_rules = flat_map rule_and_break ALL
 
 -- the head of a log: the form, its version and the program
 abbrev pub sarif_head : List ℕ
@@ -188,9 +177,7 @@ sarif_head =
 
 -- what comes before the first result: the head and the rules of the program
 unfoldable pub sarif_begin : List ℕ
-sarif_begin =
-    sarif_head
-    ++ (sarif_rules ++ (sarif_causes ++ (sarif_rule Code.NotValid (codes "error") ++ (sarif_kinds ++ codes "]}},\"results\":[\n"))))
+sarif_begin = sarif_head ++ (sarif_rules ++ (sarif_rule Code.NotValid ++ codes "]}},\"results\":[\n"))
 
 -- what comes after the last: whether each file was read, and those that were not
 unfoldable pub sarif_end : List ℕ → List ℕ

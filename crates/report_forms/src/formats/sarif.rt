@@ -5,17 +5,16 @@ ghost use Rattle.gj_json.specs.Path.{steps_of};
 ghost use Rattle.geolint_report.specs.Finding.{record_of};
 ghost use Rattle.geolint_report.specs.Line.{Adds};
 ghost use Rattle.report_forms.specs.Forms.Messages.{and_record};
-ghost use Rattle.report_forms.specs.Forms.Sarif.{is_plain_in_uri, percent_of, in_uri, scheme_of, uri_of, id_of, sarif_message, location, region_start};
+ghost use Rattle.report_forms.specs.Forms.Sarif.{is_plain_in_uri, percent_of, in_uri, scheme_of, uri_of, sarif_message, location, region_start};
 ghost use Rattle.report_forms.specs.Forms.Sarif.{region_start_of, region, region_if, logical_location, logical_location_of, sarif_result, break_unless};
-ghost use Rattle.report_forms.specs.Forms.Sarif.{sarif_unread, name_and_text, explained, section_of, sarif_rule, rule_and_break, break_and_warning};
-ghost use Rattle.report_forms.specs.Forms.Sarif.{sarif_rules, sarif_causes, sarif_kinds};
+ghost use Rattle.report_forms.specs.Forms.Sarif.{sarif_unread, name_and_text, explained, section_of, code_level, sarif_rule, sarif_rules, rule_and_break};
 
 use crate::formats::{digit_in, level, put_and_record, put_and_times, put_path};
 use crate::options::Options;
 use geolint_report::line::{put, put_all, put_number, put_truth};
 use geolint_report::report::{Report, Told, warning};
 use geolint_report::sites::Spot;
-use geolint_report::texts::{CAUSES, Code, RULES};
+use geolint_report::texts::{ALL, Code};
 use gj_coords::{KINDS, Kind, Warnings};
 use gj_json::Path;
 use gj_places::json_string;
@@ -58,9 +57,7 @@ impl Log {
               \"tool\":{\"driver\":{\"name\":\"geolint-files\",\"version\":\"0.1.0\",\"rules\":[\n",
         )?;
         put_rules(line)?;
-        put_causes(line)?;
-        put_rule(Code::NotValid, b"error", line)?;
-        put_kinds(line)?;
+        put_rule(Code::NotValid, line)?;
         put(line, b"]}},\"results\":[\n")
     }
 
@@ -252,7 +249,7 @@ fn put_one(
     ensures { OnOk result (Adds line.old line.new (sarif_result report.now level.now told.now count)) }
 {
     put(line, b"{\"ruleId\":\"")?;
-    put_id(told.code, line)?;
+    told.code.put_name(line)?;
     put(line, b"\",\"level\":\"")?;
     put(line, level)?;
     put(line, b"\",\"message\":{\"text\":\"")?;
@@ -352,38 +349,11 @@ fn put_logical_location(path: &Path, line: &mut Vec<u8>) -> Result<(), AllocErro
     put(line, b"\"}]")
 }
 
-fn put_id(code: Code, line: &mut Vec<u8>) -> Result<(), AllocError>
-    ensures { OnOk result (Adds line.old line.new (id_of code)) }
-{
-    match code {
-        Code::NotValid => put(line, b"not-valid"),
-        code => code.put_name(line),
-    }
-}
-
 fn put_rules(line: &mut Vec<u8>) -> Result<(), AllocError>
     ensures { OnOk result (Adds line.old line.new sarif_rules) }
 {
-    for rule in &RULES {
-        put_rule_and_break(Code::Rule(*rule), line)?;
-    }
-    Ok(())
-}
-
-fn put_causes(line: &mut Vec<u8>) -> Result<(), AllocError>
-    ensures { OnOk result (Adds line.old line.new sarif_causes) }
-{
-    for cause in &CAUSES {
-        put_rule_and_break(Code::Cause(*cause), line)?;
-    }
-    Ok(())
-}
-
-fn put_kinds(line: &mut Vec<u8>) -> Result<(), AllocError>
-    ensures { OnOk result (Adds line.old line.new sarif_kinds) }
-{
-    for kind in &KINDS {
-        put_break_and_warning(Code::Kind(*kind), line)?;
+    for code in &ALL {
+        put_rule_and_break(*code, line)?;
     }
     Ok(())
 }
@@ -391,30 +361,33 @@ fn put_kinds(line: &mut Vec<u8>) -> Result<(), AllocError>
 fn put_rule_and_break(code: Code, line: &mut Vec<u8>) -> Result<(), AllocError>
     ensures { OnOk result (Adds line.old line.new (rule_and_break code)) }
 {
-    put_rule(code, b"error", line)?;
+    put_rule(code, line)?;
     put(line, b",\n")
 }
 
-fn put_break_and_warning(code: Code, line: &mut Vec<u8>) -> Result<(), AllocError>
-    ensures { OnOk result (Adds line.old line.new (break_and_warning code)) }
-{
-    put(line, b",\n")?;
-    put_rule(code, b"warning", line)
-}
-
 /// A rule, with its section of docs/rules.md.
-fn put_rule(code: Code, level: &[u8], line: &mut Vec<u8>) -> Result<(), AllocError>
-    ensures { OnOk result (Adds line.old line.new (sarif_rule code level.now)) }
+fn put_rule(code: Code, line: &mut Vec<u8>) -> Result<(), AllocError>
+    ensures { OnOk result (Adds line.old line.new (sarif_rule code)) }
 {
     put(line, b"{\"id\":\"")?;
-    put_id(code, line)?;
+    code.put_name(line)?;
     put(line, b"\",\"shortDescription\":{\"text\":\"")?;
     code.put_text(line)?;
     put(line, b"\"},\"help\":{\"text\":\"docs/rules.md, ")?;
     put_section(code, line)?;
     put(line, b"\"},\"defaultConfiguration\":{\"level\":\"")?;
-    put(line, level)?;
+    put(line, code_level(code))?;
     put(line, b"\"}}")
+}
+
+/// The level of what is reported under a code.
+fn code_level(code: Code) -> &'static [u8]
+    ensures { result.now ≡ code_level code }
+{
+    match code {
+        Code::Kind(_) => b"warning",
+        _ => b"error",
+    }
 }
 
 fn put_section(code: Code, line: &mut Vec<u8>) -> Result<(), AllocError>

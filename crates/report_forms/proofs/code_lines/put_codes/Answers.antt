@@ -1,15 +1,22 @@
-use Rattle.report_forms.proofs.Common.{ℕ, List, ◌++◌, after}
-use Rattle.report_forms.specs.CodeLines.{rule_lines, kind_lines, cause_lines, code_lines}
+use Rattle.report_forms.proofs.Common.{arith, subst, ◌≡◌, ◌++◌, ℕ, length, take, flat_map}
+use Rattle.geolint_report.specs.declared.texts.TheConstants.{ALL}
+use Rattle.gj_coords.specs.declared.fault.Rule.TheVariants.{G1}
+use Rattle.geolint_report.specs.declared.texts.Code.{Code}
+use Rattle.geolint_report.proofs.CodeSlots.{slot-at}
+use Rattle.report_forms.specs.CodeLines.{code_line, code_lines}
+use Rattle.report_forms.proofs.JoinedElements.{one-more}
 use Rattle.report_forms.proofs.code_lines.put_codes.Goals as goal
+
+pub loop-code-preserved : goal.loop-code-preserved
+loop-code-preserved c = record {
+  done = λ count are.
+      let i = c.loop-code.code-index in
+      one-more (code_line count) ALL i (Code.Rule G1) _ _ _ c.loop-code-test.true (c.loop-code.invariant.done count are)
+      (c.in_ok-put_code.ensures (omega (arith, slot-at i (Code.Rule G1) c.loop-code-test.true, c.loop-code-test.true)) count are);
+}
 
 pub returns : goal.returns
 unfolding code_lines
 returns c = λ count are.
-    let rest2 : List ℕ = cause_lines count in
-    let part2 : List ℕ = kind_lines count in
-    let rest1 : List ℕ = part2 ++ rest2 in
-    let part1 : List ℕ = rule_lines count in
-    after c.put_causes.result c.args.line.now.items c.put_rules.new.line.items c.put_causes.new.line.items part1 rest1 (c.in_ok-put_rules.ensures count are)
-    (after c.put_causes.result c.put_rules.new.line.items c.put_kinds.new.line.items c.put_causes.new.line.items part2 rest2
-    (c.in_ok-put_kinds.ensures count are)
-    (c.put_causes.ensures count are))
+    let end : c.loop-code.code-index ≡ length ALL = omega (arith, c.loop-code-test.false, c.loop-code.auto.code-index-end) in
+    subst (λ (i : ℕ). c.loop-code.line.items ≡ c.args.line.now.items ++ flat_map (code_line count) (take i ALL)) end (c.loop-code.invariant.done count are)

@@ -1,21 +1,8 @@
-use Rattle.report_forms.proofs.Common.{ℕ, List, ◌++◌, codes, code_name, after}
-use Rattle.report_forms.specs.Forms.Features.{github_entry, github_text, spot_at}
-use Rattle.report_forms.specs.Forms.Github.{github_file, github_spot}
+use Rattle.report_forms.proofs.Common.{append_assoc}
+use Rattle.report_forms.specs.Forms.Features.{github_entry}
 use Rattle.report_forms.proofs.every.github.put_command.Goals as goal
 
 pub returns : goal.returns
 unfolding github_entry
 returns c =
-    let rest4 : List ℕ = github_text c.args.entry.now in
-    let part4 : List ℕ = code_name c.args.entry.now.note.told.code in
-    let rest3 : List ℕ = part4 ++ rest4 in
-    let part3 : List ℕ = codes ",title=" in
-    let rest2 : List ℕ = part3 ++ rest3 in
-    let part2 : List ℕ = github_spot (spot_at c.args.entry.now.mark) in
-    let rest1 : List ℕ = part2 ++ rest2 in
-    let part1 : List ℕ = github_file c.args.level.now c.args.entry.now.name.now in
-    after c.put_message.result c.args.line.now.items c.put_file.new.line.items c.put_message.new.line.items part1 rest1 c.in_ok-put_file.ensures
-    (after c.put_message.result c.put_file.new.line.items c.put_spot_at.new.line.items c.put_message.new.line.items part2 rest2 c.in_ok-put_spot_at.ensures
-    (after c.put_message.result c.put_spot_at.new.line.items c.put.new.line.items c.put_message.new.line.items part3 rest3 c.in_ok-put.ensures
-    (after c.put_message.result c.put.new.line.items c.put_name.new.line.items c.put_message.new.line.items part4 rest4 c.in_ok-put_name.ensures
-    (c.put_message.ensures))))
+    simp (append_assoc, c.in_ok-put_file.ensures, c.in_ok-put_spot_at.ensures, c.in_ok-put.ensures, c.in_ok-put_name.ensures) at c.put_message.ensures

@@ -1,24 +1,9 @@
-use Rattle.report_forms.proofs.Common.{ℕ, List, ◌++◌, ◌∙◌, ap, codes, Option, decimal, after}
-use Rattle.geolint_report.specs.declared.sites.Spot.{Spot}
-use Rattle.geolint_report.specs.Report.{spot_of}
-use Rattle.report_forms.specs.Forms.Sarif.{region_start_of, region}
+use Rattle.report_forms.proofs.Common.{append_assoc}
+use Rattle.report_forms.specs.Forms.Sarif.{region}
 use Rattle.report_forms.proofs.formats.sarif.put_region.Goals as goal
 
 pub returns : goal.returns
 unfolding region
 returns c =
-    let rest4 : List ℕ = codes ",\"byteLength\":0}" in
-    let part4 : List ℕ = decimal c.args.place in
-    let rest3 : List ℕ = part4 ++ rest4 in
-    let part3 : List ℕ = codes "\"byteOffset\":" in
-    let rest2 : List ℕ = part3 ++ rest3 in
-    let part2 : List ℕ = region_start_of (spot_of c.args.report.now c.args.place) in
-    let rest1 : List ℕ = part2 ++ rest2 in
-    let part1 : List ℕ = codes ",\"region\":{" in
-    after c.put-3.result c.args.line.now.items c.put.new.line.items c.put-3.new.line.items part1 rest1 c.in_ok-put.ensures
-    (after c.put-3.result c.put.new.line.items c.put_region_start_of.new.line.items c.put-3.new.line.items part2 rest2
-    (c.in_ok-put_region_start_of.ensures
-    ∙ ap (λ (ys : List ℕ). c.put.new.line.items ++ ys) (ap (λ (spot : Option Spot). region_start_of spot) c.spot.ensures))
-    (after c.put-3.result c.put_region_start_of.new.line.items c.put-2.new.line.items c.put-3.new.line.items part3 rest3 c.in_ok-put-2.ensures
-    (after c.put-3.result c.put-2.new.line.items c.put_number.new.line.items c.put-3.new.line.items part4 rest4 c.in_ok-put_number.ensures
-    (c.put-3.ensures))))
+    let so_far = simp (append_assoc, c.in_ok-put.ensures, c.in_ok-put_region_start_of.ensures, c.spot.ensures) at c.in_ok-put-2.ensures in
+    simp (append_assoc, so_far, c.in_ok-put_number.ensures) at c.put-3.ensures

@@ -1,15 +1,7 @@
-use Rattle.report_forms.proofs.Common.{ℕ, List, ◌++◌, codes, steps_of, after}
+use Rattle.report_forms.proofs.Common.{append_assoc}
 use Rattle.report_forms.specs.Forms.Text.{path_line}
-use Rattle.report_forms.specs.Forms.Messages.{path_text}
 use Rattle.report_forms.proofs.formats.text.put_path_line.Goals as goal
 
 pub returns : goal.returns
 unfolding path_line
-returns c =
-    let rest2 : List ℕ = codes "\n" in
-    let part2 : List ℕ = path_text (steps_of c.args.path.now) in
-    let rest1 : List ℕ = part2 ++ rest2 in
-    let part1 : List ℕ = codes "path " in
-    after c.put-2.result c.args.line.now.items c.put.new.line.items c.put-2.new.line.items part1 rest1 c.in_ok-put.ensures
-    (after c.put-2.result c.put.new.line.items c.put_path.new.line.items c.put-2.new.line.items part2 rest2 c.in_ok-put_path.ensures
-    (c.put-2.ensures))
+returns c = simp (append_assoc, c.in_ok-put.ensures, c.in_ok-put_path.ensures) at c.put-2.ensures

@@ -1,6 +1,6 @@
-use Rattle.report_forms.proofs.Common.{subst, ◌≡◌, ◌++◌, ℕ, List, after}
+use Rattle.report_forms.proofs.Common.{append_assoc, subst, ◌≡◌, ◌++◌, ℕ, List}
 use Rattle.std.specs.Prelude.{OnOk}
-use Rattle.report_forms.specs.Forms.Sarif.{sarif_result, break_unless}
+use Rattle.report_forms.specs.Forms.Sarif.{sarif_result}
 use Rattle.report_forms.proofs.ResultsBetween.{one-result}
 use Rattle.report_forms.proofs.formats.sarif.Log.put_result.Goals as goal
 
@@ -10,5 +10,4 @@ returns-clause-bytes c =
     let is_first = c.args.self.now.is_first in
     let bytes : List ℕ = sarif_result c.args.report.now c.args.level.now c.args.told.now c.args.count in
     subst (λ (ys : List ℕ). OnOk c.put_one.result (c.put_one.new.line.items ≡ start ++ ys)) (one-result is_first bytes)
-    (after c.put_one.result start c.begin_result.new.line.items c.put_one.new.line.items
-    (break_unless is_first) bytes c.in_ok-begin_result.ensures.bytes c.put_one.ensures)
+    (simp (append_assoc, c.in_ok-begin_result.ensures.bytes) at c.put_one.ensures)
