@@ -1,26 +1,20 @@
 -- What is found in the records of an input, by its parts.
-use Rattle.std.proofs.Common.{arith, ◌≡◌, ◌⊎◌, ◌+◌, ◌-◌, ◌<◌, ◌≤◌, ℕ, suc, zero, refl, ap, sym, subst, ◌∙◌, List, [], ◌∷◌, ◌++◌, length, map, take, true, false}
-use Rattle.std.proofs.Common.{Bool, inl, inr, length-append}
-use Rattle.std.specs.Prelude.{nat_eq, nat_lt, if◌then◌else◌}
-use Rattle.std.proofs.lemmas.Bool.{cases_Bool, false≢true}
+use Rattle.gj_join.proofs.Common.{Allowed, AreFindings, ArePartsOf, Bool, Framing, Input, IsNumberedVerdict, Limit, Lines, List, Part, Record}
+use Rattle.gj_join.proofs.Common.{RecordEnd, Separator, Sequence, Verdict, ap, arith, cases_Bool, entries_from, false, false≢true, inl, inr}
+use Rattle.gj_join.proofs.Common.{is_counted, length, length-append, limits_after, map, moved_finding, nat_lt, number_after, part_at, parts_of, refl}
+use Rattle.gj_join.proofs.Common.{separator_last, subst, suc, sym, take, true, zero, ℕ, [], ◌++◌, ◌+◌, ◌-◌, ◌<◌, ◌∙◌, ◌∷◌, ◌≡◌, ◌≤◌}
+use Rattle.std.proofs.Common.{◌⊎◌}
+use Rattle.std.specs.Prelude.{nat_eq, if◌then◌else◌}
 use Rattle.std.proofs.lemmas.Bool.Decides.{nat_tests}
 use Rattle.std.proofs.lemmas.List.{length-map}
-use Rattle.gj_json.specs.Limits.{Allowed}
 use Rattle.gj_json.specs.declared.fault.Cause.TheVariants.{Syntax}
-use Rattle.gj_rules.specs.Records.{Part, Entry, part_at, entry_at, entry_if, with_first, parts_from, parts_of, counts, is_counted, are_none}
-use Rattle.gj_rules.specs.Records.{number_after, number_from, first_number, entries_from, entries_in}
-use Rattle.gj_rules.specs.declared.records.framing.Framing.{Framing}
-use Rattle.gj_rules.specs.declared.records.framing.Framing.TheVariants.{Sequence, Lines}
-use Rattle.gj_rules.specs.declared.records.framing.RecordEnd.{RecordEnd}
-use Rattle.gj_rules.specs.declared.records.framing.RecordEnd.TheVariants.{Separator, Input, Limit}
-use Rattle.gj_rules.specs.declared.records.record.Record.{Record}
-use Rattle.gj_rules.specs.declared.verdict.Verdict.{Verdict}
-use Rattle.gj_rules.specs.RecordFindings.{IsNumberedVerdict, AreFindings, AreAllFindings}
+use Rattle.gj_rules.specs.Records.{Entry, entry_at, entry_if, with_first, parts_from, counts, are_none}
+use Rattle.gj_rules.specs.Records.{number_from, first_number, entries_in}
+use Rattle.gj_rules.specs.RecordFindings.{AreAllFindings}
 use Rattle.gj_rules.specs.Sequence.{separator, begins_with_separator, not_json}
 use Rattle.gj_rules.proofs.Parts.CountedParts.{entries-append}
 use Rattle.gj_rules.proofs.Parts.PartCuts.{short_parts}
-use Rattle.gj_join.specs.Joined.{moved_finding, records_among, joined_findings}
-use Rattle.gj_join.specs.Parts.{separator_last, ArePartsOf, limits_after}
+use Rattle.gj_join.specs.Joined.{records_among, joined_findings}
 use Rattle.gj_join.proofs.JoinedLines.{ended, moved_part, first-length, first-append, some-ended, stays_some, parts-moved, found-moved}
 use Rattle.gj_join.proofs.JoinedRecords.{first_whole, second_begins, begins-taken, take-second, less-both}
 use Rattle.gj_join.proofs.JoinedWholes.{records_in, found-first, findings-append, findings-joined}

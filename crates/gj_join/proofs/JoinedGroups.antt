@@ -1,10 +1,9 @@
 -- Three parts give the same, whichever two are joined first.
-use Rattle.std.proofs.Common.{arith, ◌≡◌, ◌+◌, ℕ, refl, ap, sym, ◌∙◌, add_comm, List, ◌++◌, map, append_assoc}
-use Rattle.std.proofs.lemmas.List.{map-append}
-use Rattle.gj_coords.specs.Warnings.{Warning, shifted_by}
-use Rattle.gj_rules.specs.Sequence.{SequenceJudgement, all_valid, failing}
+use Rattle.gj_join.proofs.Common.{List, SequenceJudgement, Warning, ap, arith, joined_judgement, map, map-append, refl, shifted_by, sym, ℕ, ◌++◌, ◌+◌}
+use Rattle.gj_join.proofs.Common.{◌∙◌, ◌≡◌}
+use Rattle.std.proofs.Common.{add_comm, append_assoc}
+use Rattle.gj_rules.specs.Sequence.{all_valid, failing}
 use Rattle.gj_rules.specs.SequenceJudgement.{shifted_judgement}
-use Rattle.gj_join.specs.Joined.{joined_judgement}
 use Rattle.gj_join.proofs.JoinedParts.{warnings-twice, judgement-twice}
 
 pub grouped : (end more : ℕ) (one two three : SequenceJudgement)

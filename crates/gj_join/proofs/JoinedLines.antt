@@ -1,24 +1,17 @@
 -- Newline-delimited texts, by their parts.
-use Rattle.std.proofs.Common.{arith, ◌≡◌, ◌+◌, ◌-◌, ◌<◌, ◌≤◌, ℕ, suc, zero, refl, ap, sym, subst, ◌∙◌, List, [], ◌∷◌, ◌++◌, length, map, take, true, false}
-use Rattle.std.proofs.Common.{Bool, inl, inr, length-append, if◌then◌else◌}
-use Rattle.std.specs.Prelude.{nat_eq, nat_lt}
-use Rattle.std.proofs.lemmas.Bool.{cases_Bool, false≢true}
+use Rattle.gj_join.proofs.Common.{Allowed, AreFindings, ArePartsOf, Bool, Framing, Input, IsNumberedVerdict, Limit, Lines, List, Part, Record}
+use Rattle.gj_join.proofs.Common.{RecordEnd, Separator, Sequence, Verdict, ap, arith, cases_Bool, entries_from, false, false≢true, inl, inr}
+use Rattle.gj_join.proofs.Common.{is_counted, length, length-append, limits_after, map, moved_finding, nat_lt, number_after, part_at, parts_of, refl}
+use Rattle.gj_join.proofs.Common.{separator_last, shifted_verdict, subst, suc, sym, take, true, zero, ℕ, [], ◌++◌, ◌+◌, ◌-◌, ◌<◌, ◌∙◌, ◌∷◌, ◌≡◌, ◌≤◌}
+use Rattle.std.proofs.Common.{if◌then◌else◌}
+use Rattle.std.specs.Prelude.{nat_eq}
 use Rattle.std.proofs.lemmas.List.{append-nil}
 use Rattle.gj_json.specs.Bytes.{line_feed}
-use Rattle.gj_json.specs.Limits.{Allowed}
-use Rattle.gj_rules.specs.Records.{Part, part_at, entry_at, entry_if, with_first, parts_from, parts_of, counts, is_counted, is_void}
-use Rattle.gj_rules.specs.Records.{separator_of, at_least_one, number_after, entries_from}
-use Rattle.gj_rules.specs.declared.records.framing.Framing.{Framing}
-use Rattle.gj_rules.specs.declared.records.framing.Framing.TheVariants.{Sequence, Lines}
-use Rattle.gj_rules.specs.declared.records.framing.RecordEnd.{RecordEnd}
-use Rattle.gj_rules.specs.declared.records.framing.RecordEnd.TheVariants.{Separator, Input, Limit}
-use Rattle.gj_rules.specs.declared.records.record.Record.{Record}
-use Rattle.gj_rules.specs.declared.verdict.Verdict.{Verdict}
-use Rattle.gj_rules.specs.RecordFindings.{IsOwnVerdict, IsNumberedVerdict, IsFinding, AreFindings, ended_as}
-use Rattle.gj_rules.specs.Sequence.{shifted_verdict, ends_in_line_feed}
+use Rattle.gj_rules.specs.Records.{entry_at, entry_if, with_first, parts_from, counts, is_void}
+use Rattle.gj_rules.specs.Records.{separator_of, at_least_one}
+use Rattle.gj_rules.specs.RecordFindings.{IsOwnVerdict, IsFinding, ended_as}
+use Rattle.gj_rules.specs.Sequence.{ends_in_line_feed}
 use Rattle.gj_rules.proofs.Parts.PartCuts.{short_parts}
-use Rattle.gj_join.specs.Joined.{moved_finding}
-use Rattle.gj_join.specs.Parts.{separator_last, ArePartsOf, limits_after}
 use Rattle.gj_join.proofs.JoinedRecords.{take-second, less-both}
 use Rattle.gj_join.proofs.MovedVerdicts.{verdict-twice, own-kept}
 

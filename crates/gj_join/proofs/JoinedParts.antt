@@ -1,16 +1,13 @@
 -- What a text sequence is, by its parts.
-use Rattle.std.proofs.Common.{arith, ◌≡◌, ◌+◌, ℕ, refl, ap, sym, subst, ◌∙◌, List, [], ◌∷◌, ◌++◌, length, map, true, false, Bool, length-append, append_assoc}
-use Rattle.std.proofs.lemmas.List.{map-append, length-map}
-use Rattle.gj_json.specs.Limits.{Allowed}
+use Rattle.gj_join.proofs.Common.{Allowed, ArePartsOf, Bool, List, Sequence, SequenceJudgement, Warning, ap, arith, false, joined_judgement, length}
+use Rattle.gj_join.proofs.Common.{length-append, limits_after, map, map-append, refl, shifted_by, subst, sym, true, ℕ, [], ◌++◌, ◌+◌, ◌∙◌, ◌∷◌, ◌≡◌}
+use Rattle.std.proofs.Common.{append_assoc}
+use Rattle.std.proofs.lemmas.List.{length-map}
 use Rattle.gj_coords.specs.Fault.{fault_at}
-use Rattle.gj_coords.specs.Warnings.{Warning, shifted_by}
-use Rattle.gj_rules.specs.Sequence.{SequenceRecord, records_of, is_stray, SequenceJudgement, all_valid, failing}
+use Rattle.gj_rules.specs.Sequence.{SequenceRecord, records_of, is_stray, all_valid, failing}
 use Rattle.gj_rules.specs.SequenceJudgement.{shifted_judgement, judged_end, IsRecordJudgement, is_valid_judgement, AllValidWith, IsFirstFailingAs, IsJudgedAs}
 use Rattle.gj_rules.specs.SequenceJudgement.{IsSequenceJudgement}
 use Rattle.gj_rules.specs.Verdict.{Judgement, valid, broken, refused}
-use Rattle.gj_join.specs.Joined.{joined_judgement}
-use Rattle.gj_join.specs.Parts.{ArePartsOf, limits_after}
-use Rattle.gj_rules.specs.declared.records.framing.Framing.TheVariants.{Sequence}
 use Rattle.gj_join.proofs.JoinedRecords.{moved_record, records_of-parts, stray-parts, stray-second, second_begins}
 
 -- ---- places further on, twice
@@ -60,8 +57,7 @@ all-append levels (r ∷ records) others warnings more (first, rest, of_first, o
 
 fails-moved : (by : ℕ) (judgement : Judgement) → is_valid_judgement (shifted_judgement by judgement) ≡ is_valid_judgement judgement
 fails-moved by (valid warnings) = refl
-fails-moved by (broken fault) = refl
-fails-moved by (refused fault) = refl
+fails-moved by other = refl
 
 -- ---- both parts
 

@@ -1,15 +1,14 @@
 -- The records of two parts of a text sequence, one after the other.
-use Rattle.std.proofs.Common.{arith, ◌≡◌, ◌+◌, ◌-◌, ◌<◌, ◌≤◌, ℕ, suc, zero, refl, ap, sym, subst, ◌∙◌, List, [], ◌∷◌, ◌++◌, length, map, take, true, false}
-use Rattle.std.proofs.Common.{Bool, length-append, inl, inr}
-use Rattle.std.specs.Prelude.{◌&&◌, not, nat_lt}
-use Rattle.std.proofs.lemmas.Bool.{cases_Bool, cases_lt, false≢true, lt-ltb, le-ltb}
+use Rattle.gj_join.proofs.Common.{Allowed, ArePartsOf, Bool, List, Sequence, ap, arith, cases_Bool, false, false≢true, inl, inr, length}
+use Rattle.gj_join.proofs.Common.{length-append, limits_after, map, nat_lt, refl, separator_last, subst, suc, sym, take, true, zero, ℕ, [], ◌++◌, ◌+◌}
+use Rattle.gj_join.proofs.Common.{◌-◌, ◌<◌, ◌∙◌, ◌∷◌, ◌≡◌, ◌≤◌}
+use Rattle.std.specs.Prelude.{◌&&◌, not}
+use Rattle.std.proofs.lemmas.Bool.{cases_lt, lt-ltb, le-ltb}
 use Rattle.std.proofs.Math.Bool.{and-false}
 use Rattle.std.proofs.Math.Seq.{take-append-add}
 use Rattle.std.proofs.lemmas.List.{take_all}
-use Rattle.gj_json.specs.Limits.{Allowed}
 use Rattle.gj_rules.specs.Sequence.{is_separator, begins_with_separator, has_separator, up_to_separator, SequenceRecord, records_from, records_of, is_stray}
-use Rattle.gj_rules.specs.declared.records.framing.Framing.TheVariants.{Sequence}
-use Rattle.gj_join.specs.Parts.{separator_first, separator_last, ArePartsOf, limits_after}
+use Rattle.gj_join.specs.Parts.{separator_first}
 
 -- ---- the next part begins with a separator
 

@@ -1,23 +1,18 @@
 -- What newline-delimited texts are as a whole, by their parts.
-use Rattle.std.proofs.Common.{arith, ◌≡◌, ◌+◌, ◌-◌, ◌<◌, ℕ, suc, zero, refl, ap, sym, subst, ◌∙◌, add_comm, List, [], ◌∷◌, ◌++◌, length, map, true, false, Bool}
+use Rattle.gj_join.proofs.Common.{Allowed, AreFindings, ArePartsOf, Bool, Framing, Input, IsNumberedVerdict, Lines, List, Part, Record, Verdict, ap}
+use Rattle.gj_join.proofs.Common.{arith, entries_from, false, is_counted, length, limits_after, map, moved_finding, number_after, part_at, parts_of}
+use Rattle.gj_join.proofs.Common.{refl, shifted_verdict, subst, suc, sym, true, zero, ℕ, [], ◌++◌, ◌+◌, ◌-◌, ◌<◌, ◌∙◌, ◌∷◌, ◌≡◌}
+use Rattle.std.proofs.Common.{add_comm}
 use Rattle.std.proofs.lemmas.List.{append-nil}
-use Rattle.gj_json.specs.Limits.{Allowed}
 use Rattle.gj_coords.specs.Internal.KeptWarnings.{no_warnings, joined, shifted}
 use Rattle.gj_coords.specs.Internal.WarningLaws.{joined_none_last, joined_assoc}
 use Rattle.gj_coords.specs.declared.warnings.Warnings.{Warnings}
-use Rattle.gj_rules.specs.Records.{Part, Entry, part_at, is_counted, number_after, number_from, entries_from, parts_of}
-use Rattle.gj_rules.specs.declared.records.framing.Framing.{Framing}
-use Rattle.gj_rules.specs.declared.records.framing.Framing.TheVariants.{Lines}
-use Rattle.gj_rules.specs.declared.records.framing.RecordEnd.TheVariants.{Input}
-use Rattle.gj_rules.specs.declared.records.record.Record.{Record}
+use Rattle.gj_rules.specs.Records.{Entry, number_from}
 use Rattle.gj_rules.specs.declared.sequence.verdict.SeqVerdict.{SeqVerdict}
-use Rattle.gj_rules.specs.declared.verdict.Verdict.{Verdict}
 use Rattle.gj_rules.specs.declared.verdict.Verdict.TheVariants.{Valid, Broken, NotJson}
-use Rattle.gj_rules.specs.RecordFindings.{IsNumberedVerdict, AreFindings, AreAllFindings, IsWholeVerdict, joined_with, after, whole_from, whole_of}
-use Rattle.gj_rules.specs.Sequence.{shifted_verdict}
+use Rattle.gj_rules.specs.RecordFindings.{AreAllFindings, IsWholeVerdict, joined_with, after, whole_from, whole_of}
 use Rattle.gj_rules.proofs.Parts.CountedParts.{entries-append}
-use Rattle.gj_join.specs.Joined.{joined_verdict, moved_finding}
-use Rattle.gj_join.specs.Parts.{ArePartsOf, limits_after}
+use Rattle.gj_join.specs.Joined.{joined_verdict}
 use Rattle.gj_join.proofs.JoinedLines.{ended, moved_part, parts_of-parts, alone, stays_some, found-moved}
 use Rattle.gj_join.proofs.MovedVerdicts.{IsKept, KeepsSome, kept-none, kept-joined, shifted-none, shifted-joined, keeps-shifted, own-kept}
 

@@ -1,3 +1,4 @@
+mod Common
 mod JoinedRecords
 mod JoinedParts
 mod JoinedGroups

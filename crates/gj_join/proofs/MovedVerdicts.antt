@@ -1,25 +1,17 @@
 -- Verdicts and warnings so many bytes further on.
-use Rattle.std.proofs.Common.{arith, ◌≡◌, ◌+◌, ℕ, ap, sym, ◌∙◌, List, [], ◌++◌, length, map, Bool, true, false}
-use Rattle.std.proofs.lemmas.List.{map-append}
-use Rattle.gj_json.specs.Limits.{Allowed}
+use Rattle.gj_join.proofs.Common.{Allowed, Bool, Framing, Input, Limit, Lines, List, Part, RecordEnd, Separator, Sequence, Verdict, Warning, ap}
+use Rattle.gj_join.proofs.Common.{arith, false, length, map, map-append, shifted_by, shifted_verdict, sym, true, ℕ, [], ◌++◌, ◌+◌, ◌∙◌, ◌≡◌}
 use Rattle.gj_json.specs.declared.fault.Cause.{Cause}
 use Rattle.gj_json.specs.declared.fault.Cause.TheVariants.{Syntax, Truncated, Depth, Length}
 use Rattle.gj_coords.specs.Fault.{fault_at}
 use Rattle.gj_coords.specs.Internal.KeptWarnings.{warnings_of, no_warnings, joined, shifted}
 use Rattle.gj_coords.specs.Internal.WarningLaws.{warnings_of_none, warnings_of-append}
-use Rattle.gj_coords.specs.Warnings.{Warning, shifted_by}
 use Rattle.gj_coords.specs.WarningsStand.{StandsFor}
 use Rattle.gj_coords.specs.declared.warnings.Warnings.{Warnings}
 use Rattle.gj_coords.proofs.Lists.ShiftedWarnings.{shifted_stands}
-use Rattle.gj_rules.specs.Records.{Part}
-use Rattle.gj_rules.specs.declared.records.framing.Framing.{Framing}
-use Rattle.gj_rules.specs.declared.records.framing.Framing.TheVariants.{Sequence, Lines}
-use Rattle.gj_rules.specs.declared.records.framing.RecordEnd.{RecordEnd}
-use Rattle.gj_rules.specs.declared.records.framing.RecordEnd.TheVariants.{Separator, Input, Limit}
-use Rattle.gj_rules.specs.declared.verdict.Verdict.{Verdict}
 use Rattle.gj_rules.specs.declared.verdict.Verdict.TheVariants.{Valid, Broken, NotJson}
 use Rattle.gj_rules.specs.RecordFindings.{ended_as}
-use Rattle.gj_rules.specs.Sequence.{shifted_verdict, cut_fault, if_ended, if_cut, ends_in_line_feed, own_limits}
+use Rattle.gj_rules.specs.Sequence.{cut_fault, if_ended, if_cut, ends_in_line_feed, own_limits}
 use Rattle.gj_rules.specs.TextWarnings.{text_warnings}
 use Rattle.gj_rules.specs.Verdict.{IsVerdict}
 use Rattle.gj_join.proofs.JoinedParts.{warnings-twice}
@@ -59,8 +51,7 @@ shifted-twice one more a (xs, x) =
 
 abbrev pub KeepsSome : Verdict → Type 0
 KeepsSome (Valid warnings) = IsKept warnings
-KeepsSome (Broken fault) = Unit {0}
-KeepsSome (NotJson fault) = Unit {0}
+KeepsSome other = Unit {0}
 
 pub verdict-twice : (one more : ℕ) (verdict : Verdict) → KeepsSome verdict
     → shifted_verdict (one + more) verdict ≡ shifted_verdict more (shifted_verdict one verdict)
@@ -70,20 +61,16 @@ verdict-twice one more (NotJson fault) kept = ap (λ (p : ℕ). NotJson (record 
 
 pub keeps-shifted : (by : ℕ) (verdict : Verdict) → KeepsSome verdict → KeepsSome (shifted_verdict by verdict)
 keeps-shifted by (Valid warnings) kept = kept-shifted by warnings kept
-keeps-shifted by (Broken fault) kept = tt
-keeps-shifted by (NotJson fault) kept = tt
+keeps-shifted by other kept = tt
 
 keeps-cut : (cause : Cause) (place end : ℕ) → KeepsSome (cut_fault cause place end)
 keeps-cut Syntax place end = tt
-keeps-cut Truncated place end = tt
-keeps-cut Depth place end = tt
-keeps-cut Length place end = tt
+keeps-cut other place end = tt
 
 keeps-if : (has_line_feed : Bool) (long : ℕ) (own : Verdict) → KeepsSome own → KeepsSome (if_ended has_line_feed long own)
 keeps-if true long own kept = kept
 keeps-if false long (Valid warnings) kept = tt
-keeps-if false long (Broken fault) kept = tt
-keeps-if false long (NotJson fault) kept = tt
+keeps-if false long other kept = tt
 
 keeps-limit : (long : ℕ) (own : Verdict) → KeepsSome (if_cut long own)
 keeps-limit long (Valid warnings) = tt
@@ -101,8 +88,7 @@ keeps-ended Sequence Limit has_line_feed long own kept = keeps-limit long own
 
 keeps-own : (limits : Allowed) (bytes : List ℕ) (own : Verdict) → IsVerdict limits bytes own → KeepsSome own
 keeps-own limits bytes (Valid warnings) is = (text_warnings is.0, is.3)
-keeps-own limits bytes (Broken fault) is = tt
-keeps-own limits bytes (NotJson fault) is = tt
+keeps-own limits bytes other is = tt
 
 pub own-kept : (framing : Framing) (levels : ℕ) (part : Part) (own : Verdict) → IsVerdict (own_limits levels part.bytes) part.bytes own
     → KeepsSome (ended_as framing part.end (ends_in_line_feed part.bytes) (length part.bytes) own)

@@ -1,3 +1,4 @@
+mod Common
 pub mod Grammar
 pub mod Machine
 pub mod Events

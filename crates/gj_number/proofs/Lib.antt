@@ -1,3 +1,4 @@
+mod Common
 pub mod Grammar
 pub mod Value
 pub mod Literals

@@ -1,21 +1,20 @@
 -- Where the elements of an array stand in a text, and what follows each.
-use Rattle.std.proofs.Common.{◌≡◌, ℕ, ◌+◌, ◌≤◌, ◌⊎◌, inl, inr, max, Bool, true, false, if◌then◌else◌, List, [], ◌∷◌, ◌++◌, length, Option, Some, refl, sym, ap}
-use Rattle.std.proofs.Common.{subst, ◌∙◌, arith, add-zero, append_assoc}
+use Rattle.gj_split.proofs.Common.{AllByRecursion, Bool, Exactly, IsText, IsWhite, List, Members, Option, Some, Spells, SpellsElements, SpellsMembers}
+use Rattle.gj_split.proofs.Common.{SpellsMoreElements, SpellsMoreMembers, Text, Then, Tree, White, add-zero, ap, append_assoc, arith, array}
+use Rattle.gj_split.proofs.Common.{close_bracket, constant, depth, element, end_of_array, end_of_object, false, features_of, if◌then◌else◌, inl, inr}
+use Rattle.gj_split.proofs.Common.{length, member, number, object, refl, string, subst, sym, true, ℕ, [], ◌++◌, ◌+◌, ◌∙◌, ◌∷◌, ◌≡◌, ◌≤◌, ◌⊎◌}
+use Rattle.std.proofs.Common.{max}
 use Rattle.std.proofs.Math.Nat.{le-max_left, le-max_right}
 use Rattle.std.proofs.lemmas.List.{length-append, append-nil}
-use Rattle.std.specs.List.{AllByRecursion}
 use Rattle.gj_json.specs.declared.names.Known.TheVariants.{Features}
-use Rattle.gj_json.specs.Bytes.{close_bracket, comma, colon, IsWhite}
-use Rattle.gj_json.specs.Grammar.{Then, White, Exactly, Spells, SpellsElements, SpellsMoreElements, SpellsMembers, SpellsMoreMembers}
+use Rattle.gj_json.specs.Bytes.{comma, colon}
 use Rattle.gj_json.specs.Names.{known_of}
-use Rattle.gj_json.specs.Text.{IsText}
 use Rattle.gj_json.specs.Tree as Tree
-use Rattle.gj_json.specs.Tree.{Tree, constant, number, string, array, object, end_of_array, element, Members, end_of_object, member, Text, depth}
 use Rattle.gj_json.specs.Tree.{elements_depth, members_depth}
 use Rattle.gj_coords.specs.Items.{items, elements_of}
 use Rattle.gj_rules.specs.Members.{same}
 use Rattle.gj_rules.specs.TextWarnings.{first_value}
-use Rattle.gj_rules.specs.FeatureFindings.{elements_if, features_of}
+use Rattle.gj_rules.specs.FeatureFindings.{elements_if}
 
 -- ---- values in bytes
 
@@ -134,10 +133,7 @@ array_in place es close n bytes h =
 
 value_in : (v : Tree) (n : ℕ) (bytes : List ℕ) → Spells v n bytes → AreElementsIn (elements_of v) n bytes
 value_in (array place es close) n bytes h = array_in place es close n bytes h
-value_in (constant which place) n bytes h = tt
-value_in (number place literal end) n bytes h = tt
-value_in (string place content end) n bytes h = tt
-value_in (object place members close) n bytes h = tt
+value_in other n bytes h = tt
 
 -- ---- the features
 
@@ -197,10 +193,7 @@ root_in (object place members close) n bytes h =
     features_after (first_value Features members) n bytes h.1.first h.1.rest h.1.joined
     (features_after (first_value Features members) (n + length h.1.first) h.1.rest h.1.after.first h.1.after.rest h.1.after.joined
     (members_in members close _ h.1.after.rest h.1.after.after))
-root_in (array place es close) n bytes h = tt
-root_in (constant which place) n bytes h = tt
-root_in (number place literal end) n bytes h = tt
-root_in (string place content end) n bytes h = tt
+root_in other n bytes h = tt
 
 -- each feature of a text stands in its bytes
 pub features_in : (text : Text) (bytes : List ℕ) → IsText text bytes → AllByRecursion (λ v. IsElementIn v 0 bytes) (features_of text.value)
@@ -230,10 +223,7 @@ items_within (element v more) = (
 
 elements_within : (v : Tree) → AreWithin (elements_of v) (depth v)
 elements_within (array place es close) = deeper (items es) (elements_depth es) _ (omega arith) (items_within es)
-elements_within (constant which place) = tt
-elements_within (number place literal end) = tt
-elements_within (string place content end) = tt
-elements_within (object place members close) = tt
+elements_within other = tt
 
 found_within : (ms : Members) → AreWithin (elements_if (first_value Features ms)) (members_depth ms)
 found_within end_of_object = tt
@@ -250,7 +240,4 @@ found_within (member place name end v more) =
 pub features_within : (v : Tree) → AllByRecursion (λ w. depth w ≤ depth v) (features_of v)
 features_within (object place members close) =
     deeper (elements_if (first_value Features members)) (members_depth members) _ (omega arith) (found_within members)
-features_within (array place es close) = tt
-features_within (constant which place) = tt
-features_within (number place literal end) = tt
-features_within (string place content end) = tt
+features_within other = tt

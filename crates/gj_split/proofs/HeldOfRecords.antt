@@ -1,25 +1,19 @@
 -- What two writers hold after one record of an input more.
-use Rattle.std.proofs.Common.{◌≡◌, ℕ, ◌+◌, true, List, [], ◌∷◌, ◌++◌, Option, Some, None, refl, sym, ap, subst, ◌∙◌}
-use Rattle.std.specs.Io.KnownBytes.{Appends}
+use Rattle.gj_split.proofs.Common.{Appends, AreHeld, Broken, Counts, List, None, NotJson, Option, Record, Some, Split, Valid, Verdict, ap, refl}
+use Rattle.gj_split.proofs.Common.{split_records, subst, sym, true, ℕ, [], ◌++◌, ◌+◌, ◌∙◌, ◌∷◌, ◌≡◌}
 use Rattle.std.specs.Io.Iter.{u64_saturate}
 use Rattle.gj_coords.specs.declared.warnings.Warnings.{Warnings}
-use Rattle.gj_rules.specs.declared.records.record.Record.{Record}
-use Rattle.gj_rules.specs.declared.verdict.Verdict.{Verdict}
-use Rattle.gj_rules.specs.declared.verdict.Verdict.TheVariants.{Valid, Broken, NotJson}
 use Rattle.gj_rules.specs.Sequence.{is_valid}
-use Rattle.gj_split.specs.Holding.{AreHeld}
 use Rattle.gj_split.specs.Internal.HeldOfRecords.{HoldsRecords}
-use Rattle.gj_split.specs.RecordSplit.{found_text, with_record, split_records}
-use Rattle.gj_split.specs.Split.{Split, record_of}
-use Rattle.gj_split.specs.declared.splitter.Counts.{Counts}
+use Rattle.gj_split.specs.RecordSplit.{found_text, with_record}
+use Rattle.gj_split.specs.Split.{record_of}
 use Rattle.gj_split.proofs.HeldRecords.{counted_more, known_more}
 
 -- ---- one record more, after the others
 
 abbrev appended : Verdict → List ℕ → Split → Split
 appended (Valid warnings) own parts = record { valid = parts.valid ++ own ∷ []; broken = parts.broken }
-appended (Broken fault) own parts = record { valid = parts.valid; broken = parts.broken ++ own ∷ [] }
-appended (NotJson fault) own parts = record { valid = parts.valid; broken = parts.broken ++ own ∷ [] }
+appended other own parts = record { valid = parts.valid; broken = parts.broken ++ own ∷ [] }
 
 swapped : (a b : Verdict) (own last : List ℕ) (parts : Split) → with_record a own (appended b last parts) ≡ appended b last (with_record a own parts)
 swapped (Valid v) (Valid w) own last parts = refl
@@ -34,8 +28,7 @@ swapped (NotJson v) (NotJson w) own last parts = refl
 
 one_of_none : (a : Verdict) (own : List ℕ) → with_record a own (record { valid = []; broken = [] }) ≡ appended a own (record { valid = []; broken = [] })
 one_of_none (Valid v) own = refl
-one_of_none (Broken v) own = refl
-one_of_none (NotJson v) own = refl
+one_of_none other own = refl
 
 split_more : (bytes : List ℕ) (records : List Record) (found : Record)
     → split_records bytes (records ++ found ∷ []) ≡ appended found.verdict (found_text bytes found) (split_records bytes records)
@@ -48,14 +41,12 @@ split_more bytes (r ∷ records) found =
 more_valid : (verdict : Verdict) (own : List ℕ) (parts : Split) → is_valid verdict ≡ true
     → appended verdict own parts ≡ record { valid = parts.valid ++ own ∷ []; broken = parts.broken }
 more_valid (Valid warnings) own parts e = refl
-more_valid (Broken fault) own parts e = cc
-more_valid (NotJson fault) own parts e = cc
+more_valid other own parts e = cc
 
 more_broken : (verdict : Verdict) (own : List ℕ) (parts : Split) → ((warnings : Warnings) → verdict ≡ Valid warnings → ⊥)
     → appended verdict own parts ≡ record { valid = parts.valid; broken = parts.broken ++ own ∷ [] }
 more_broken (Valid warnings) own parts n = absurd (n warnings refl)
-more_broken (Broken fault) own parts n = refl
-more_broken (NotJson fault) own parts n = refl
+more_broken other own parts n = refl
 
 -- ---- what is held
 

@@ -1,18 +1,13 @@
 -- What two writers hold after one record more, and what that is of a text.
-use Rattle.std.proofs.Common.{◌≡◌, ℕ, ◌+◌, List, [], ◌∷◌, ◌++◌, length, Option, Some, None, refl, sym, ap, subst, ◌∙◌, arith, length-append}
+use Rattle.gj_split.proofs.Common.{AllByRecursion, Appends, AreHeld, Counts, Fault, Feature, List, None, Option, Some, Split, ap, arith, length, refl}
+use Rattle.gj_split.proofs.Common.{same_Some, subst, sym, with_feature, ℕ, [], ◌++◌, ◌+◌, ◌∙◌, ◌∷◌, ◌≡◌}
+use Rattle.std.proofs.Common.{length-append}
 use Rattle.std.proofs.lemmas.Grind.{flat_map-append}
 use Rattle.std.proofs.lemmas.List.{append-nil}
-use Rattle.std.proofs.lemmas.Option.{same_Some}
-use Rattle.std.specs.Io.KnownBytes.{Appends}
 use Rattle.std.specs.Io.Iter.{u64_saturate}
-use Rattle.gj_coords.specs.declared.fault.Fault.{Fault}
-use Rattle.gj_rules.specs.declared.feature.Feature.{Feature}
-use Rattle.gj_split.specs.Split.{Split, with_feature, record_of, sequence_of}
-use Rattle.std.specs.List.{AllByRecursion}
+use Rattle.gj_split.specs.Split.{record_of, sequence_of}
 use Rattle.gj_split.specs.Internal.ToldFeatures.{told_bytes, told_split, EndsKnown}
-use Rattle.gj_split.specs.Holding.{AreHeld}
 use Rattle.gj_split.specs.Internal.HeldRecords.{Holds, WritesRecord}
-use Rattle.gj_split.specs.declared.splitter.Counts.{Counts}
 
 -- ---- one feature more, after the others
 

@@ -1,9 +1,6 @@
 -- What two writers hold stays as they are flushed.
-use Rattle.std.proofs.Common.{◌≡◌, ℕ, List, Option, Some, None, sym, ap, subst, ◌∙◌}
+use Rattle.gj_split.proofs.Common.{AreHeld, Counts, List, None, Option, Some, Split, ap, subst, sym, ℕ, ◌∙◌, ◌≡◌}
 use Rattle.std.specs.Io.KnownBytes.{Keeps}
-use Rattle.gj_split.specs.Holding.{AreHeld}
-use Rattle.gj_split.specs.Split.{Split}
-use Rattle.gj_split.specs.declared.splitter.Counts.{Counts}
 
 kept_known : (old new : Option (List ℕ)) (xs : List ℕ) → Keeps old new → old ≡ Some xs → new ≡ Some xs
 kept_known None new xs k e = cc

@@ -1,3 +1,4 @@
+mod Common
 pub mod MovedTrees
 pub mod SpelledBytes
 pub mod MovedShapes

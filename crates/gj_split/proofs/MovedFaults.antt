@@ -1,15 +1,14 @@
 -- A value has as many faults wherever it stands, and a feature without a fault has none as a text.
-use Rattle.std.proofs.Common.{◌≡◌, ℕ, Bool, true, false, ◌&&◌, if◌then◌else◌, List, [], ◌∷◌, ◌++◌, length, Option, Some, None, refl, ap, ◌∙◌}
+use Rattle.gj_split.proofs.Common.{Bool, Constant, False, Fault, List, Members, None, Null, Option, Some, Tree, True, ap, array, constant, element}
+use Rattle.gj_split.proofs.Common.{end_of_array, end_of_object, false, if◌then◌else◌, length, member, number, object, place_of, refl, string, true, ℕ}
+use Rattle.gj_split.proofs.Common.{[], ◌++◌, ◌∙◌, ◌∷◌, ◌≡◌}
+use Rattle.std.proofs.Common.{◌&&◌}
 use Rattle.std.specs.List.{flat_map}
-use Rattle.gj_json.specs.declared.constant.Constant.{Constant}
-use Rattle.gj_json.specs.declared.constant.Constant.TheVariants.{Null, True, False}
 use Rattle.gj_json.specs.declared.names.Known.{Known}
 use Rattle.gj_json.specs.declared.names.Known.TheVariants.{TypeName, Coordinates, Geometries, Geometry, Properties, Features, Bbox, Id, Crs, Other}
 use Rattle.gj_json.specs.declared.names.Word.{Word}
 use Rattle.gj_json.specs.Names.{known_of}
 use Rattle.gj_json.specs.Tree as Tree
-use Rattle.gj_json.specs.Tree.{Tree, constant, number, string, array, object, end_of_array, element, Members, end_of_object, member, place_of}
-use Rattle.gj_coords.specs.declared.fault.Fault.{Fault}
 use Rattle.gj_coords.specs.declared.fault.Rule.{Rule}
 use Rattle.gj_coords.specs.declared.fault.Rule.TheVariants.{G3, G5, G6, G7, G8, G10}
 use Rattle.gj_coords.specs.declared.simple.Simple.{Simple}
@@ -37,18 +36,11 @@ properties_count f (array place elements close) = refl
 
 id_count : (f : ℕ → ℕ) (v : Tree) → SameCount (id_faults (moved f v)) (id_faults v)
 id_count f (constant which place) = refl
-id_count f (number place literal end) = refl
-id_count f (string place content end) = refl
-id_count f (array place elements close) = refl
-id_count f (object place members close) = refl
+id_count f other = refl
 
 constant_count : (which : Constant) (role : Role) (p q : ℕ) → SameCount (constant_faults which role p) (constant_faults which role q)
 constant_count Null Role.Root p q = refl
-constant_count Null Role.Geometry p q = refl
-constant_count Null Role.Part p q = refl
-constant_count Null Role.Feature p q = refl
-constant_count True role p q = refl
-constant_count False role p q = refl
+constant_count other another p q = refl
 
 -- ---- the first members of an object
 
@@ -65,27 +57,23 @@ either_alike f false x y xs ys h k = k
 forbidden_count : (f : ℕ → ℕ) (a b : Option First) → Alike f a b → SameCount (forbidden a) (forbidden b)
 forbidden_count f None None h = refl
 forbidden_count f (Some a) (Some b) h = refl
-forbidden_count f None (Some b) h = absurd h
-forbidden_count f (Some a) None h = absurd h
+forbidden_count f other another h = absurd h
 
 due_count : (f : ℕ → ℕ) (p q : ℕ) (rule : Rule) (a b : Option First) → Alike f a b → SameCount (due p rule a) (due q rule b)
 due_count f p q rule None None h = refl
 due_count f p q rule (Some a) (Some b) h = h.1
-due_count f p q rule None (Some b) h = absurd h
-due_count f p q rule (Some a) None h = absurd h
+due_count f p q rule other another h = absurd h
 
 optional_count : (f : ℕ → ℕ) (a b : Option First) → Alike f a b → SameCount (optional a) (optional b)
 optional_count f None None h = refl
 optional_count f (Some a) (Some b) h = h.1
-optional_count f None (Some b) h = absurd h
-optional_count f (Some a) None h = absurd h
+optional_count f other another h = absurd h
 
 coordinates_due_count : (f : ℕ → ℕ) (simple : Simple) (p q : ℕ) (a b : Option First) → Alike f a b
     → SameCount (due_coordinates (Some simple) p a) (due_coordinates (Some simple) q b)
 coordinates_due_count f simple p q None None h = refl
 coordinates_due_count f simple p q (Some a) (Some b) h = ap (λ v. length (coordinates_faults simple v)) h.0 ∙ coordinates_count f simple b.value
-coordinates_due_count f simple p q None (Some b) h = absurd h
-coordinates_due_count f simple p q (Some a) None h = absurd h
+coordinates_due_count f simple p q other another h = absurd h
 
 each_forbidden : (f : ℕ → ℕ) (m o : Known → Option First) → ((name : Known) → Alike f (m name) (o name)) → (names : List Known) →
     SameCount (flat_map (λ name. forbidden (m name)) names) (flat_map (λ name. forbidden (o name)) names)
@@ -117,17 +105,11 @@ moved_type f (Some value) = Some (record { place = f value.place; word = value.w
 
 moved_place : (f : ℕ → ℕ) (v : Tree) → place_of (moved f v) ≡ f (place_of v)
 moved_place f (constant which place) = refl
-moved_place f (number place literal end) = refl
-moved_place f (string place content end) = refl
-moved_place f (array place elements close) = refl
-moved_place f (object place members close) = refl
+moved_place f other = refl
 
 same_type : (f : ℕ → ℕ) (v : Tree) → type_of (moved f v) ≡ type_of v
 same_type f (constant which place) = refl
-same_type f (number place literal end) = refl
-same_type f (string place content end) = refl
-same_type f (array place elements close) = refl
-same_type f (object place members close) = refl
+same_type f other = refl
 
 first_moved_type : (f : ℕ → ℕ) (ms : Members) → first_type (moved_members f ms) ≡ moved_type f (first_type ms)
 first_moved_type f end_of_object = refl
@@ -146,8 +128,7 @@ again known before place = if known && before then one place G10 else []
 
 again_count : (a b : Bool) (p q : ℕ) → SameCount (again a b p) (again a b q)
 again_count true true p q = refl
-again_count true false p q = refl
-again_count false b p q = refl
+again_count other another p q = refl
 
 repeated_count : (f : ℕ → ℕ) (before : List Known) (ms : Members) → SameCount (repeated before (moved_members f ms)) (repeated before ms)
 repeated_count f before end_of_object = refl
@@ -186,10 +167,7 @@ selected_count f Features v us bs cs xs ys zs e g h = h
 selected_count f Properties v us bs cs xs ys zs e g h = properties_count f v
 selected_count f Bbox v us bs cs xs ys zs e g h = bbox_count f v
 selected_count f Id v us bs cs xs ys zs e g h = id_count f v
-selected_count f TypeName v us bs cs xs ys zs e g h = refl
-selected_count f Coordinates v us bs cs xs ys zs e g h = refl
-selected_count f Crs v us bs cs xs ys zs e g h = refl
-selected_count f Other v us bs cs xs ys zs e g h = refl
+selected_count f other v us bs cs xs ys zs e g h = refl
 
 mutual
   pub faults_count : (f : ℕ → ℕ) (role : Role) (v : Tree) → SameCount (faults role (moved f v)) (faults role v)
@@ -197,16 +175,11 @@ mutual
       object_count f role (f place) place members (λ name. first name (moved_members f members)) (λ name. first name members)
       (λ name. first_alike f name members)
   faults_count f role (constant which place) = constant_count which role (f place) place
-  faults_count f role (number place literal end) = refl
-  faults_count f role (string place content end) = refl
-  faults_count f role (array place elements close) = refl
+  faults_count f role other = refl
 
   listed_count : (f : ℕ → ℕ) (role : Role) (v : Tree) → SameCount (listed role (moved f v)) (listed role v)
   listed_count f role (array place elements close) = all_count f role elements
-  listed_count f role (constant which place) = refl
-  listed_count f role (number place literal end) = refl
-  listed_count f role (string place content end) = refl
-  listed_count f role (object place members close) = refl
+  listed_count f role other = refl
 
   all_count : (f : ℕ → ℕ) (role : Role) (es : Tree.Elements) → SameCount (all_faults role (moved_elements f es)) (all_faults role es)
   all_count f role end_of_array = refl

@@ -1,14 +1,14 @@
 -- Values of `coordinates` and of `bbox` have as many faults wherever they stand.
-use Rattle.std.proofs.Common.{◌≡◌, ℕ, ◌+◌, Bool, true, false, ◌&&◌, not, if◌then◌else◌, nat_lt, List, [], ◌∷◌, ◌++◌, length, length-append, map, take, drop}
-use Rattle.std.proofs.Common.{is_some, refl, sym, ap, ◌∙◌}
+use Rattle.gj_split.proofs.Common.{Bool, Elements, Fault, List, Tree, ap, array, constant, drop, element, end_of_array, false, if◌then◌else◌, length}
+use Rattle.gj_split.proofs.Common.{map, number, object, refl, string, sym, take, true, ℕ, [], ◌++◌, ◌+◌, ◌∙◌, ◌∷◌, ◌≡◌}
+use Rattle.std.proofs.Common.{◌&&◌, not, nat_lt, length-append}
+use Rattle.std.proofs.Common.{is_some}
 use Rattle.std.specs.List.{flat_map}
 use Rattle.std.proofs.lemmas.List.{length-map, take-map, drop-map}
 use Rattle.std.specs.Option.{option_eq}
 use Rattle.std.specs.Cmp.Lexicographic.{pointwise}
 use Rattle.gj_number.specs.Exact.{same_parts}
 use Rattle.gj_number.specs.Value.{value_of}
-use Rattle.gj_json.specs.Tree.{Tree, constant, number, string, array, object, Elements, end_of_array, element}
-use Rattle.gj_coords.specs.declared.fault.Fault.{Fault}
 use Rattle.gj_coords.specs.declared.fault.Rule.{Rule}
 use Rattle.gj_coords.specs.declared.fault.Rule.TheVariants.{G11, G12, G13, G14, G15, G16, G20, G21}
 use Rattle.gj_coords.specs.declared.simple.Simple.{Simple}
@@ -31,14 +31,12 @@ both_count us bs xs ys e f = length-append us bs ∙ (ap (λ n. n + length bs) e
 pub one_if : (a b : Bool) (x y : Fault) → a ≡ b → SameCount (if a then x ∷ [] else []) (if b then y ∷ [] else [])
 one_if true true x y e = refl
 one_if false false x y e = refl
-one_if true false x y e = cc
-one_if false true x y e = cc
+one_if other another x y e = cc
 
 same_empty : (xs ys : List Fault) → SameCount xs ys → is_empty xs ≡ is_empty ys
 same_empty [] [] e = refl
 same_empty (x ∷ xs) (y ∷ ys) e = refl
-same_empty [] (y ∷ ys) e = cc
-same_empty (x ∷ xs) [] e = cc
+same_empty other another e = cc
 
 pub moved_items : (f : ℕ → ℕ) (es : Elements) → items (moved_elements f es) ≡ map (moved f) (items es)
 moved_items f end_of_array = refl
@@ -66,17 +64,11 @@ held_count f (number place literal end) = if_not (is_some (value_of literal))
     if_not : (t : Bool) → SameCount (if t then [] else fault_at (f place) G16 ∷ []) (if t then [] else fault_at place G16 ∷ [])
     if_not true = refl
     if_not false = refl
-held_count f (constant which place) = refl
-held_count f (string place content end) = refl
-held_count f (array place elements close) = refl
-held_count f (object place members close) = refl
+held_count f other = refl
 
 number_count : (f : ℕ → ℕ) (rule : Rule) → Steady f (number_or rule)
 number_count f rule (number place literal end) = refl
-number_count f rule (constant which place) = refl
-number_count f rule (string place content end) = refl
-number_count f rule (array place elements close) = refl
-number_count f rule (object place members close) = refl
+number_count f rule other = refl
 
 abbrev position_of : ℕ → List Tree → List Fault
 position_of place vs = few 2 G12 place vs ++ (flat_map held_number (take 3 vs) ++ flat_map (number_or G11) (drop 3 vs))
@@ -90,10 +82,7 @@ items_count f place other vs =
 position_count : (f : ℕ → ℕ) → Steady f position
 position_count f (array place elements close) =
     ap (λ vs. length (position_of (f place) vs)) (moved_items f elements) ∙ items_count f (f place) place (items elements)
-position_count f (constant which place) = refl
-position_count f (number place literal end) = refl
-position_count f (string place content end) = refl
-position_count f (object place members close) = refl
+position_count f other = refl
 
 -- ---- lists, lines and linear rings
 
@@ -101,17 +90,11 @@ several_count : (f : ℕ → ℕ) (needed : ℕ) (shape : Shape) → Steady f sh
 several_count f needed shape h (array place elements close) =
     ap (λ vs. length (few needed G13 (f place) vs ++ flat_map shape vs)) (moved_items f elements)
     ∙ both_count _ _ _ _ (few_count f needed G13 (f place) place (items elements)) (each_count f shape h (items elements))
-several_count f needed shape h (constant which place) = refl
-several_count f needed shape h (number place literal end) = refl
-several_count f needed shape h (string place content end) = refl
-several_count f needed shape h (object place members close) = refl
+several_count f needed shape h other = refl
 
 same_value : (f : ℕ → ℕ) (v : Tree) → exact_value (moved f v) ≡ exact_value v
 same_value f (constant which place) = refl
-same_value f (number place literal end) = refl
-same_value f (string place content end) = refl
-same_value f (array place elements close) = refl
-same_value f (object place members close) = refl
+same_value f other = refl
 
 same_values : (f : ℕ → ℕ) (vs : List Tree) → map exact_value (map (moved f) vs) ≡ map exact_value vs
 same_values f [] = refl
@@ -153,10 +136,7 @@ ring_count f (array place elements close) =
     ap (λ vs. length (few 4 G14 (f place) vs ++ (flat_map position vs ++ unclosed (f place) vs))) (moved_items f elements)
     ∙ both_count _ _ _ _ (few_count f 4 G14 (f place) place (items elements))
     (both_count _ _ _ _ (each_count f position (position_count f) (items elements)) (unclosed_count f (f place) place (items elements)))
-ring_count f (constant which place) = refl
-ring_count f (number place literal end) = refl
-ring_count f (string place content end) = refl
-ring_count f (object place members close) = refl
+ring_count f other = refl
 
 -- ---- the six types, and bounding boxes
 
@@ -184,7 +164,4 @@ bbox_count f (array place elements close) =
     ap (λ vs. length (box_of (f place) vs)) (moved_items f elements)
     ∙ both_count _ _ _ _ (one_if _ _ (fault_at (f place) G21) (fault_at place G21) (ap is_wrong_length (length-map (items elements) (moved f))))
     (each_count f (number_or G20) (number_count f G20) (items elements))
-bbox_count f (constant which place) = refl
-bbox_count f (number place literal end) = refl
-bbox_count f (string place content end) = refl
-bbox_count f (object place members close) = refl
+bbox_count f other = refl

@@ -1,9 +1,11 @@
 -- A value by its bytes alone: its tree, with each place from the start of the value.
-use Rattle.std.proofs.Common.{◌≡◌, ℕ, ◌+◌, ◌-◌, List, length, refl, ap, subst, arith, add_assoc, [], ◌∷◌}
-use Rattle.gj_json.specs.Tree.{Tree, constant, number, string, array, object, Elements, end_of_array, element, Members, end_of_object, member, depth}
+use Rattle.gj_split.proofs.Common.{Elements, Exactly, List, Members, Spells, SpellsElements, SpellsMembers, SpellsMoreElements, SpellsMoreMembers}
+use Rattle.gj_split.proofs.Common.{Then, Tree, White, ap, arith, array, close_bracket, constant, depth, element, end_of_array, end_of_object, length}
+use Rattle.gj_split.proofs.Common.{member, number, object, refl, string, subst, ℕ, [], ◌+◌, ◌-◌, ◌∷◌, ◌≡◌}
+use Rattle.std.proofs.Common.{add_assoc}
 use Rattle.gj_json.specs.Tree.{elements_depth, members_depth}
-use Rattle.gj_json.specs.Bytes.{close_bracket, close_brace}
-use Rattle.gj_json.specs.Grammar.{Then, White, Exactly, Closes, Quoted, Spells, SpellsElements, SpellsMoreElements, SpellsMembers, SpellsMoreMembers}
+use Rattle.gj_json.specs.Bytes.{close_brace}
+use Rattle.gj_json.specs.Grammar.{Closes, Quoted}
 
 -- ---- trees
 

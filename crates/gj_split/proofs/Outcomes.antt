@@ -1,5 +1,6 @@
 -- What a result that is some value says.
-use Rattle.std.proofs.Common.{◌≡◌, Result, Ok, Err, IfOk, OnOk, subst}
+use Rattle.gj_split.proofs.Common.{Ok, subst, ◌≡◌}
+use Rattle.std.proofs.Common.{Result, Err, IfOk, OnOk}
 
 abbrev ok_of : (T E : Type 0) → T → Result T E
 ok_of T E value = Ok value

@@ -1,10 +1,9 @@
 -- What a read at a place gives of a text.
-use Rattle.std.proofs.Common.{◌≡◌, ℕ, ◌+◌, ◌-◌, ◌≤◌, ◌<◌, min, List, ◌++◌, length, take, drop, Option, Some, None, Ok, sym, ap, subst, ◌∙◌, arith}
+use Rattle.gj_split.proofs.Common.{List, None, Ok, Option, Some, StandsAt, ap, arith, bytes_between, drop, length, same_Some, subst, sym, take}
+use Rattle.gj_split.proofs.Common.{take-append-drop, ℕ, ◌++◌, ◌+◌, ◌-◌, ◌<◌, ◌∙◌, ◌≡◌, ◌≤◌}
+use Rattle.std.proofs.Common.{min}
 use Rattle.std.proofs.Common.{add-sub_of_le, take-take, take-add, drop-drop, length-take-le, length-take, length-drop}
-use Rattle.std.proofs.lemmas.List.{take-append-drop}
-use Rattle.std.proofs.lemmas.Option.{same_Some}
-use Rattle.gj_split.specs.Ranges.{StandsAt, ReadsFrom}
-use Rattle.gj_split.specs.Split.{bytes_between}
+use Rattle.gj_split.specs.Ranges.{ReadsFrom}
 
 pub part_read : (E : Type 0) (known : Option (List ℕ)) (place n : ℕ) (piece bytes : List ℕ) → ReadsFrom {E = E} known place (Ok n) piece → known ≡ Some bytes
     → StandsAt bytes place (take n piece)

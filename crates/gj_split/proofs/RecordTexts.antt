@@ -1,20 +1,18 @@
 -- The text of a record, by the bytes at its place.
-use Rattle.std.proofs.Common.{◌≡◌, ℕ, zero, suc, get_or, ◌+◌, ◌-◌, ◌≤◌, Bool, true, false, nat_eq, if◌then◌else◌, List, [], ◌∷◌, ◌++◌, length, take, drop}
-use Rattle.std.proofs.Common.{refl, sym, ap, ◌∙◌, arith, add-sub_of_le, Option, Some, Ok, ◌⊎◌, inl, inr, length-append, drop-drop, take-add}
+use Rattle.gj_split.proofs.Common.{AllByRecursion, Allowed, Bool, Framing, List, Ok, Option, Some, StandsAt, ap, arith, bytes_between, drop, false}
+use Rattle.gj_split.proofs.Common.{if◌then◌else◌, inl, inr, length, line_feed, refl, separator, suc, sym, take, take-append-drop, true, ℕ, [], ◌++◌}
+use Rattle.gj_split.proofs.Common.{◌+◌, ◌-◌, ◌∙◌, ◌∷◌, ◌≡◌, ◌≤◌, ◌⊎◌}
+use Rattle.std.proofs.Common.{zero, get_or, nat_eq}
+use Rattle.std.proofs.Common.{add-sub_of_le, length-append, drop-drop, take-add}
 use Rattle.std.proofs.lemmas.Bool.{eqb-true}
-use Rattle.std.proofs.lemmas.List.{append-nil, take-append-drop}
+use Rattle.std.proofs.lemmas.List.{append-nil}
 use Rattle.std.proofs.Math.Seq.{take-append_seam}
-use Rattle.std.specs.List.{AllByRecursion}
-use Rattle.gj_json.specs.Bytes.{line_feed}
-use Rattle.gj_json.specs.Limits.{Allowed}
-use Rattle.gj_rules.specs.declared.records.framing.Framing.{Framing}
 use Rattle.gj_rules.specs.declared.records.framing.RecordEnd.{RecordEnd}
 use Rattle.gj_rules.specs.declared.records.framing.RecordEnd.TheVariants.{Separator, Input, Limit}
 use Rattle.gj_rules.specs.Records.{Part, part_at, separator_of, with_first, parts_from, parts_of, is_too_long, Entry, entry_at, entry_if, is_counted}
 use Rattle.gj_rules.specs.Records.{number_after, entries_from, entries_of, first_number}
-use Rattle.gj_rules.specs.Sequence.{separator, last_byte}
-use Rattle.gj_split.specs.Ranges.{StandsAt, ReadsFrom}
-use Rattle.gj_split.specs.Split.{bytes_between}
+use Rattle.gj_rules.specs.Sequence.{last_byte}
+use Rattle.gj_split.specs.Ranges.{ReadsFrom}
 use Rattle.gj_split.specs.RecordSplit.{text_in}
 use Rattle.gj_split.proofs.ReadParts.{part_read}
 

@@ -1,38 +1,28 @@
 -- The records of an input, set apart: each valid one is a text without a fault, and both parts together have each of them.
-use Rattle.std.proofs.Common.{◌≡◌, ℕ, zero, suc, Bool, true, false, List, [], ◌∷◌, ◌++◌, length, map, refl, sym, ap, subst, ◌∙◌, append_assoc, inl, inr}
-use Rattle.std.specs.List.{AllByRecursion}
-use Rattle.gj_json.specs.Bytes.{line_feed, IsWhite}
-use Rattle.gj_json.specs.Limits.{Allowed}
-use Rattle.gj_json.specs.Text.{SpellsMark, IsText, IsTextWithin}
-use Rattle.gj_json.specs.Tree.{Text}
+use Rattle.gj_split.proofs.Common.{AllByRecursion, Allowed, Bool, Broken, Framing, IsText, IsTextWithin, IsVerdict, IsWhite, List, NotJson, Record}
+use Rattle.gj_split.proofs.Common.{Text, Valid, Verdict, all-append, ap, append_assoc, false, inl, inr, length, line_feed, map, refl, split_records}
+use Rattle.gj_split.proofs.Common.{subst, suc, sym, text_faults, true, ℕ, [], ◌++◌, ◌∙◌, ◌∷◌, ◌≡◌}
+use Rattle.std.proofs.Common.{zero}
+use Rattle.gj_json.specs.Text.{SpellsMark}
 use Rattle.gj_json.specs.declared.fault.Cause.{Cause}
 use Rattle.gj_json.specs.declared.fault.Cause.TheVariants.{Syntax, Truncated, Depth, Length}
-use Rattle.gj_rules.specs.Faults.{text_faults}
-use Rattle.gj_rules.specs.declared.records.framing.Framing.{Framing}
 use Rattle.gj_rules.specs.declared.records.framing.Framing.TheVariants.{Sequence, Lines}
 use Rattle.gj_rules.specs.declared.records.framing.RecordEnd.{RecordEnd}
 use Rattle.gj_rules.specs.declared.records.framing.RecordEnd.TheVariants.{Separator, Input, Limit}
-use Rattle.gj_rules.specs.declared.records.record.Record.{Record}
-use Rattle.gj_rules.specs.declared.verdict.Verdict.{Verdict}
-use Rattle.gj_rules.specs.declared.verdict.Verdict.TheVariants.{Valid, Broken, NotJson}
 use Rattle.gj_rules.specs.RecordFindings.{ended_as, IsNumberedVerdict, IsFinding, AreFindings, AreAllFindings}
 use Rattle.gj_rules.specs.Records.{Part, Entry, entries_of}
 use Rattle.gj_rules.specs.Sequence.{shifted_verdict, ends_in_line_feed, if_ended, if_cut, cut_fault, own_limits, is_valid}
-use Rattle.gj_rules.specs.Verdict.{IsVerdict}
 use Rattle.gj_split.specs.Split.{IsMerged, none_left, from_first, from_second}
-use Rattle.gj_split.specs.RecordSplit.{text_in, found_text, with_record, split_records, entry_text, all_records}
+use Rattle.gj_split.specs.RecordSplit.{text_in, found_text, with_record, entry_text, all_records}
 use Rattle.gj_split.proofs.RecordTexts.{HasText, ended, bare, has_text, Stands, entries_stand, own_of_part}
 use Rattle.gj_split.proofs.SequencesOfTexts.{IsSoundLine}
 use Rattle.gj_split.proofs.SpelledBytes.{AreInText, InText, all-map, no_separator_byte, value_ends, white_in}
-use Rattle.gj_number.proofs.Grammar.FoundParts.{all-append}
 
 -- ---- what a valid record is
 
 still_not : (end : ℕ) (cause : Cause) (place : ℕ) → is_valid (cut_fault cause place end) ≡ false
 still_not end Syntax place = refl
-still_not end Truncated place = refl
-still_not end Depth place = refl
-still_not end Length place = refl
+still_not end other place = refl
 
 not_cut : (end : ℕ) (own : Verdict) → is_valid (if_cut end own) ≡ false
 not_cut end (Valid warnings) = refl
@@ -42,8 +32,7 @@ not_cut end (NotJson fault) = still_not end fault.cause fault.place
 not_ended : (t : Bool) (end : ℕ) (own : Verdict) → is_valid own ≡ false → is_valid (if_ended t end own) ≡ false
 not_ended true end own e = e
 not_ended false end (Valid warnings) e = refl
-not_ended false end (Broken fault) e = refl
-not_ended false end (NotJson fault) e = refl
+not_ended false end other e = refl
 
 -- a text that is not valid is no valid record
 stays_invalid : (framing : Framing) (ending : RecordEnd) (t : Bool) (end : ℕ) (own : Verdict) → is_valid own ≡ false
@@ -57,8 +46,7 @@ stays_invalid Lines Limit t end own e = not_cut end own
 
 same_shifted : (by : ℕ) (own : Verdict) → is_valid (shifted_verdict by own) ≡ is_valid own
 same_shifted by (Valid warnings) = refl
-same_shifted by (Broken fault) = refl
-same_shifted by (NotJson fault) = refl
+same_shifted by other = refl
 
 -- the bytes are a text without a fault
 record IsSound (levels : ℕ) (bytes : List ℕ) : Type 0 where
@@ -197,8 +185,7 @@ merged_from framing levels bytes (entry ∷ entries) (f ∷ found) s h =
         (with_record verdict (found_text bytes f) (split_records bytes found)).broken
         (found_text bytes f ∷ map entry_text entries)
     by_verdict (Valid warnings) k = from_first (found_text bytes f) k
-    by_verdict (Broken fault) k = from_second (found_text bytes f) k
-    by_verdict (NotJson fault) k = from_second (found_text bytes f) k
+    by_verdict other k = from_second (found_text bytes f) k
 
 pub merged_records : (framing : Framing) (limits : Allowed) (bytes : List ℕ) (found : List Record) → AreAllFindings framing limits bytes found
     → IsMerged (split_records bytes found).valid (split_records bytes found).broken (all_records framing limits bytes)

@@ -1,8 +1,8 @@
 -- How far a value reaches that is no array and no object.
-use Rattle.std.proofs.Common.{◌≡◌, ℕ, ◌+◌, List, ◌++◌, length, drop, true, ◌⊎◌, inl, inr, refl, ap, sym, ◌∙◌, add_assoc}
-use Rattle.gj_split.specs.declared.scan.Scan.{Scan}
-use Rattle.gj_split.specs.Ranges.{StandsAt}
-use Rattle.gj_split.specs.Internal.ScannedValues.{scan_length, rest_length, is_running}
+use Rattle.gj_split.proofs.Common.{List, Scan, StandsAt, ap, drop, inl, inr, is_running, length, refl, scan_length, sym, true, ℕ, ◌++◌, ◌+◌, ◌∙◌, ◌≡◌}
+use Rattle.gj_split.proofs.Common.{◌⊎◌}
+use Rattle.std.proofs.Common.{add_assoc}
+use Rattle.gj_split.specs.Internal.ScannedValues.{rest_length}
 use Rattle.gj_split.proofs.ReadParts.{read_and_rest}
 
 pub running_rest : (scan : Scan) (rest : List ℕ) → is_running scan ≡ true → rest_length scan rest ≡ scan_length scan rest
@@ -10,8 +10,7 @@ running_rest Scan.Start rest e = refl
 running_rest Scan.Word rest e = refl
 running_rest Scan.Text rest e = refl
 running_rest Scan.Escape rest e = refl
-running_rest Scan.Closed rest e = cc
-running_rest Scan.Past rest e = cc
+running_rest other rest e = cc
 
 pub ended_rest : (scan : Scan) (rest : List ℕ) → (scan ≡ Scan.Closed) ⊎ (scan ≡ Scan.Past) → rest_length scan rest ≡ 0
 ended_rest scan rest (inl e) = ap (λ s. rest_length s rest) e

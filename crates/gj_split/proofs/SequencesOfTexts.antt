@@ -1,29 +1,19 @@
 -- Valid texts, each as a record, are a valid sequence.
-use Rattle.std.proofs.Common.{◌≡◌, ℕ, suc, ◌+◌, ◌≤◌, ◌<◌, true, false, List, [], ◌∷◌, ◌++◌, length, Some, None}
-use Rattle.std.proofs.Common.{refl, sym, ap, subst, ◌∙◌, arith, add-zero, inl, inr}
-use Rattle.std.proofs.lemmas.Bool.{le-ltb, ne_eqb}
+use Rattle.gj_split.proofs.Common.{AllByRecursion, Allowed, Broken, IsAdmitted, IsRefusal, IsText, IsTextWithin, IsValidSequence, IsVerdict, List}
+use Rattle.gj_split.proofs.Common.{None, NotJson, Some, Text, Valid, Verdict, add-zero, all-append, ap, arith, false, inl, inr, length, line_feed}
+use Rattle.gj_split.proofs.Common.{ne_eqb, refl, separator, subst, suc, sym, text_faults, true, ℕ, [], ◌++◌, ◌+◌, ◌<◌, ◌∙◌, ◌∷◌, ◌≡◌, ◌≤◌}
+use Rattle.std.proofs.lemmas.Bool.{le-ltb}
 use Rattle.std.proofs.lemmas.List.{append-nil, take_all}
-use Rattle.std.specs.List.{AllByRecursion}
-use Rattle.gj_json.specs.Bytes.{line_feed}
-use Rattle.gj_json.specs.Limits.{Allowed}
-use Rattle.gj_json.specs.Refusal.{IsRefusal, IsAdmitted}
-use Rattle.gj_json.specs.Text.{IsText, IsTextWithin}
-use Rattle.gj_json.specs.Tree.{Text}
 use Rattle.gj_json.specs.declared.fault.JsonFault.{JsonFault}
 use Rattle.gj_coords.specs.Fault.{least}
 use Rattle.gj_coords.specs.Internal.KeptWarnings.{no_warnings, joined, shifted}
 use Rattle.gj_coords.specs.declared.warnings.Warnings.{Warnings}
-use Rattle.gj_rules.specs.Faults.{text_faults}
-use Rattle.gj_rules.specs.Sequence.{separator, is_separator, begins_with_separator, up_to_separator, SequenceRecord, records_from, records_of}
+use Rattle.gj_rules.specs.Sequence.{is_separator, begins_with_separator, up_to_separator, SequenceRecord, records_from, records_of}
 use Rattle.gj_rules.specs.Sequence.{ends_in_line_feed, own_limits, IsRecordVerdict, AllValid, is_stray}
-use Rattle.gj_rules.specs.Verdict.{IsVerdict}
-use Rattle.gj_rules.specs.declared.verdict.Verdict.{Verdict}
-use Rattle.gj_rules.specs.declared.verdict.Verdict.TheVariants.{Valid, Broken, NotJson}
-use Rattle.gj_split.specs.Split.{sequence_of, IsValidSequence}
+use Rattle.gj_split.specs.Split.{sequence_of}
 use Rattle.gj_split.proofs.RecordTexts.{last_of_more}
 use Rattle.gj_split.proofs.SpelledBytes.{AreInText, InText, no_separator_byte}
 use Rattle.gj_split.proofs.TextsAlone.{IsSoundAlone}
-use Rattle.gj_number.proofs.Grammar.FoundParts.{all-append}
 
 -- a text without a fault, with LF after it, and no separator in it
 pub record IsSoundLine (levels : ℕ) (own : List ℕ) : Type 0 where

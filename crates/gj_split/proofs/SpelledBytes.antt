@@ -1,21 +1,18 @@
 -- Which bytes a value is spelled with, and where it ends.
-use Rattle.std.proofs.Common.{◌≡◌, ℕ, ◌+◌, ◌≤◌, inl, inr, List, [], ◌∷◌, ◌++◌, length, false, eqb, Some, refl, sym, ap, subst, ◌∙◌, arith}
+use Rattle.gj_split.proofs.Common.{AllByRecursion, Constant, Elements, Exactly, False, IsWhite, List, Members, Null, Some, Spells, SpellsElements}
+use Rattle.gj_split.proofs.Common.{SpellsMembers, SpellsMoreElements, SpellsMoreMembers, Then, Tree, True, White, all-append, ap, arith, array}
+use Rattle.gj_split.proofs.Common.{close_bracket, constant, element, end_of, end_of_array, end_of_object, false, inl, inr, length, member, number}
+use Rattle.gj_split.proofs.Common.{object, place_of, refl, separator, string, subst, sym, ℕ, [], ◌++◌, ◌+◌, ◌∙◌, ◌∷◌, ◌≡◌, ◌≤◌}
+use Rattle.std.proofs.Common.{eqb}
 use Rattle.std.proofs.lemmas.Bool.{cases_lt, eqb-false, le-ltb, lt-ltb}
 use Rattle.std.proofs.lemmas.List.{length-append}
-use Rattle.std.specs.List.{AllByRecursion}
 use lib.Utf8.{encode}
 use Rattle.gj_number.specs.Bytes.{IsDigit, IsNumberByte}
 use Rattle.gj_number.specs.Grammar.{IsNatural, IsDigits, IsFraction, IsSign, IsExponent, IsUnsigned, IsNumber}
-use Rattle.gj_json.specs.declared.constant.Constant.{Constant}
-use Rattle.gj_json.specs.declared.constant.Constant.TheVariants.{Null, True, False}
-use Rattle.gj_json.specs.Bytes.{open_bracket, open_brace, comma, colon, quote, close_bracket, close_brace, IsWhite}
+use Rattle.gj_json.specs.Bytes.{open_bracket, open_brace, comma, colon, quote, close_brace}
 use Rattle.gj_json.specs.Characters.{escape_of, hex_of, IsUtf8, SpellsCharacter, SpellsContent}
-use Rattle.gj_json.specs.Grammar.{Then, White, Exactly, Closes, Quoted, Spells, SpellsElements, SpellsMoreElements, SpellsMembers, SpellsMoreMembers}
+use Rattle.gj_json.specs.Grammar.{Closes, Quoted}
 use Rattle.gj_json.specs.Grammar.{letters_of}
-use Rattle.gj_rules.specs.FeatureFindings.{end_of}
-use Rattle.gj_rules.specs.Sequence.{separator}
-use Rattle.gj_json.specs.Tree.{Tree, constant, number, string, array, object, Elements, end_of_array, element, Members, end_of_object, member, place_of}
-use Rattle.gj_number.proofs.Grammar.FoundParts.{all-append}
 
 -- ---- lists
 
@@ -211,7 +208,4 @@ mutual
 -- and it begins at the first of them
 pub value_begins : (v : Tree) (n : ℕ) (bytes : List ℕ) → Spells v n bytes → place_of v ≡ n
 value_begins (constant which place) n bytes h = h.0
-value_begins (number place literal end) n bytes h = h.0
-value_begins (string place content end) n bytes h = h.0
-value_begins (array place elements close) n bytes h = h.0
-value_begins (object place members close) n bytes h = h.0
+value_begins other n bytes h = h.0

@@ -1,19 +1,14 @@
 -- A feature by its bytes alone: it is a JSON text, and a valid one where it has no fault as a feature.
-use Rattle.std.proofs.Common.{◌≡◌, ℕ, ◌+◌, ◌-◌, ◌≤◌, false, List, [], ◌∷◌, ◌++◌, length, take, drop, map, Option, Some, None}
-use Rattle.std.proofs.Common.{refl, sym, ap, subst, ◌∙◌, arith, add-zero}
+use Rattle.gj_split.proofs.Common.{AllByRecursion, Fault, IsText, IsTextWithin, IsWhite, List, None, Option, Some, Spells, Text, Tree, add-zero, ap}
+use Rattle.gj_split.proofs.Common.{arith, bytes_between, depth, drop, end_of, false, features_of, length, map, place_of, refl, split_of, subst, sym}
+use Rattle.gj_split.proofs.Common.{take, text_faults, with_feature, ℕ, [], ◌++◌, ◌+◌, ◌-◌, ◌∙◌, ◌∷◌, ◌≡◌, ◌≤◌}
 use Rattle.std.proofs.lemmas.List.{append-nil}
-use Rattle.std.specs.List.{AllByRecursion}
 use Rattle.std.proofs.Math.Seq.{take-append_seam, drop-append_seam}
-use Rattle.gj_json.specs.Bytes.{IsWhite}
-use Rattle.gj_json.specs.Grammar.{Spells}
-use Rattle.gj_json.specs.Text.{IsText, IsTextWithin}
-use Rattle.gj_json.specs.Tree.{Tree, Text, depth, place_of}
-use Rattle.gj_coords.specs.declared.fault.Fault.{Fault}
 use Rattle.gj_coords.specs.Fault.{least}
 use Rattle.gj_rules.specs.declared.role.Role.{Role}
-use Rattle.gj_rules.specs.Faults.{faults, text_faults}
-use Rattle.gj_rules.specs.FeatureFindings.{FeatureFinding, end_of, findings_from, features_of}
-use Rattle.gj_split.specs.Split.{bytes_between, feature_bytes, with_feature, split_findings, split_of, IsMerged, none_left, from_first, from_second, IsJson}
+use Rattle.gj_rules.specs.Faults.{faults}
+use Rattle.gj_rules.specs.FeatureFindings.{FeatureFinding, findings_from}
+use Rattle.gj_split.specs.Split.{feature_bytes, split_findings, IsMerged, none_left, from_first, from_second, IsJson}
 use Rattle.gj_split.specs.Split.{IsValidAlone}
 use Rattle.gj_split.proofs.ElementBytes.{StandsIn, IsElementIn, features_in, features_within, AreWithin}
 use Rattle.gj_split.proofs.MovedFaults.{sound_moved}

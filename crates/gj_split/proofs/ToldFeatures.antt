@@ -1,27 +1,22 @@
 -- What was told of the features of a text, where each ends, is what is found in them.
-use Rattle.std.proofs.Common.{◌≡◌, ℕ, suc, ◌+◌, ◌≤◌, ◌<◌, inl, inr, true, false, ◌==◌, if◌then◌else◌, eqb, List, [], ◌∷◌, ◌++◌, length, drop}
-use Rattle.std.proofs.Common.{Option, Some, None, refl, sym, ap, subst, ◌∙◌, arith, add-zero, append_assoc, append-nil, length-append}
-use Rattle.std.proofs.lemmas.Bool.{ne_eqb, or_from}
-use Rattle.std.specs.List.{AllByRecursion}
+use Rattle.gj_split.proofs.Common.{AllByRecursion, AreHeld, Constant, Counts, False, Feature, IsText, List, None, Null, Option, Scan, Some, Spells}
+use Rattle.gj_split.proofs.Common.{Text, Tree, True, add-zero, ap, append_assoc, arith, array, bytes_between, constant, drop, end_of, false}
+use Rattle.gj_split.proofs.Common.{features_of, if◌then◌else◌, inl, inr, is_running, length, ne_eqb, number, object, place_of, refl, scan_length}
+use Rattle.gj_split.proofs.Common.{split_of, string, subst, suc, sym, true, with_feature, ℕ, [], ◌++◌, ◌+◌, ◌<◌, ◌∙◌, ◌∷◌, ◌≡◌, ◌≤◌}
+use Rattle.std.proofs.Common.{◌==◌, eqb}
+use Rattle.std.proofs.Common.{append-nil, length-append}
+use Rattle.std.proofs.lemmas.Bool.{or_from}
 use Rattle.std.proofs.Math.Seq.{drop-append_seam}
 use Rattle.gj_number.specs.Bytes.{IsNumberByte}
-use Rattle.gj_json.specs.declared.constant.Constant.{Constant}
-use Rattle.gj_json.specs.declared.constant.Constant.TheVariants.{Null, True, False}
 use Rattle.gj_json.specs.Bytes.{quote, backslash, letter_u}
 use Rattle.gj_json.specs.Characters.{SpellsCharacter, SpellsContent, hex_of}
-use Rattle.gj_json.specs.Grammar.{Spells, letters_of}
-use Rattle.gj_json.specs.Text.{IsText}
-use Rattle.gj_json.specs.Tree.{Tree, constant, number, string, array, object, Text, place_of}
-use Rattle.gj_rules.specs.declared.feature.Feature.{Feature}
-use Rattle.gj_rules.specs.FeatureFindings.{closing_of, end_of, finding_of, findings_from, features_of, feature_findings}
+use Rattle.gj_json.specs.Grammar.{letters_of}
+use Rattle.gj_rules.specs.FeatureFindings.{closing_of, finding_of, findings_from, feature_findings}
 use Rattle.gj_rules.specs.FeaturesTold.{SaysFinding, SayFindings}
-use Rattle.gj_split.specs.declared.scan.Scan.{Scan}
-use Rattle.gj_split.specs.Internal.ScannedValues.{ends_word, scan_next, count_after, scan_length, is_running}
-use Rattle.gj_split.specs.Split.{bytes_between, with_feature, split_findings, split_of}
+use Rattle.gj_split.specs.Internal.ScannedValues.{ends_word, scan_next, count_after}
+use Rattle.gj_split.specs.Split.{split_findings}
 use Rattle.gj_split.specs.Internal.ToldFeatures.{end_told, told_bytes, told_split, is_flat, IsEndKnown, EndsKnown}
-use Rattle.gj_split.specs.Holding.{AreHeld}
 use Rattle.gj_split.specs.Internal.HeldRecords.{Holds}
-use Rattle.gj_split.specs.declared.splitter.Counts.{Counts}
 use Rattle.gj_split.proofs.ElementBytes.{Follows, IsFollowed, IsElementIn, features_in}
 use Rattle.gj_split.proofs.SpelledBytes.{IsHigh, high_all, number_all, value_ends, value_begins}
 
@@ -39,8 +34,7 @@ running_counts Scan.Start n e = refl
 running_counts Scan.Word n e = refl
 running_counts Scan.Text n e = refl
 running_counts Scan.Escape n e = refl
-running_counts Scan.Closed n e = cc
-running_counts Scan.Past n e = cc
+running_counts other n e = cc
 
 -- one byte, and then others
 byte_passes : (scan next last : Scan) (b : ℕ) (bytes : List ℕ) → scan_next scan b ≡ next → is_running next ≡ true → Passes next bytes last
@@ -209,9 +203,7 @@ SaysEnd (Some close) end = close + 1 ≡ end
 end_says : (v : Tree) → SaysEnd (closing_of v) (end_of v)
 end_says (array place es close) = refl
 end_says (object place ms close) = refl
-end_says (constant which place) = tt
-end_says (number place literal end) = tt
-end_says (string place content end) = tt
+end_says other = tt
 
 -- a feature that was told ends where the feature does
 end_is : (v : Tree) (bytes : List ℕ) (close : Option ℕ) → IsElementIn v 0 bytes → SaysEnd close (end_of v) → IsEndKnown (place_of v) close bytes

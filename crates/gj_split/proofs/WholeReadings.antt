@@ -1,15 +1,10 @@
 -- What a linter that read a whole text says of it.
-use Rattle.std.proofs.Common.{◌≡◌, ℕ, List, [], ◌++◌, Option, Some, None, refl, sym, ap, subst, ◌∙◌}
+use Rattle.gj_split.proofs.Common.{Allowed, Feature, IsAdmitted, IsRefusal, IsVerdict, List, None, Option, Some, Text, Verdict, ap, refl, subst, sym}
+use Rattle.gj_split.proofs.Common.{ℕ, [], ◌++◌, ◌∙◌, ◌≡◌}
 use Rattle.std.proofs.lemmas.List.{append-nil}
 use Rattle.gj_json.specs.declared.fault.JsonFault.{JsonFault}
-use Rattle.gj_json.specs.Limits.{Allowed}
-use Rattle.gj_json.specs.Refusal.{IsRefusal, IsAdmitted}
-use Rattle.gj_json.specs.Tree.{Text}
-use Rattle.gj_rules.specs.declared.feature.Feature.{Feature}
 use Rattle.gj_rules.specs.declared.feature_linter.FeatureLinter.{FeatureLinter}
-use Rattle.gj_rules.specs.declared.verdict.Verdict.{Verdict}
 use Rattle.gj_rules.specs.FeatureLinter.{StandsFor, limits_of, refusal_of}
-use Rattle.gj_rules.specs.Verdict.{IsVerdict}
 use Rattle.gj_split.specs.Internal.HeldRecords.{IsEndAfter, IsRead}
 
 module _ {S : Type 0} (Told : S → List Feature → Type 0) (linter : FeatureLinter S) (limits : Allowed) (same : limits_of linter ≡ limits) where

@@ -1,11 +1,8 @@
 -- The warnings of some values, by computing.
+use Rattle.gj_coords.proofs.Common.{LineString, MultiPolygon, Point, Polygon, Tree, W2, W3, W4, W5, W6, array, coordinates_warnings, end_of_array}
+use Rattle.gj_coords.proofs.Common.{number, warning_at}
 use Rattle.std.proofs.Common.{◌≡◌, ℕ, ◌+◌, [], ◌∷◌, refl, codes}
 use Rattle.gj_number.specs.Value.{value_of, held_value, within_limits}
-use Rattle.gj_json.specs.Tree.{Tree, number, array, end_of_array}
-use Rattle.gj_coords.specs.declared.kind.Kind.TheVariants.{W2, W3, W4, W5, W6}
-use Rattle.gj_coords.specs.declared.simple.Simple.TheVariants.{Point, LineString, Polygon, MultiPolygon}
-use Rattle.gj_coords.specs.Warnings.{warning_at}
-use Rattle.gj_coords.specs.CoordinateWarnings.{coordinates_warnings}
 use Rattle.gj_coords.proofs.Examples.FaultExamples.{many, digit, pair}
 
 -- a ring [[a,b],[c,d],[e,f],[a,b]]

@@ -1,13 +1,10 @@
 -- The least faults of some values, by computing.
+use Rattle.gj_coords.proofs.Common.{Elements, Fault, G11, G14, LineString, MultiLineString, MultiPoint, MultiPolygon, Point, Polygon, Tree, array}
+use Rattle.gj_coords.proofs.Common.{coordinates_faults, element, end_of_array, end_of_object, fault_at, least, member, number, object, string}
 use Rattle.std.proofs.Common.{◌≡◌, ℕ, ◌+◌, List, [], ◌∷◌, Option, Some, None, refl, codes}
 use Rattle.gj_number.specs.Bytes.{zero_digit}
 use Rattle.gj_number.specs.Value.{value_of, held_value, within_limits}
-use Rattle.gj_json.specs.Tree.{Tree, number, string, array, object, Elements, end_of_array, element, end_of_object, member}
-use Rattle.gj_coords.specs.declared.fault.Fault.{Fault}
-use Rattle.gj_coords.specs.declared.fault.Rule.TheVariants.{G11, G12, G13, G14, G15, G16, G20, G21}
-use Rattle.gj_coords.specs.declared.simple.Simple.TheVariants.{Point, MultiPoint, LineString, MultiLineString, Polygon, MultiPolygon}
-use Rattle.gj_coords.specs.Fault.{fault_at, least}
-use Rattle.gj_coords.specs.Shape.{coordinates_faults}
+use Rattle.gj_coords.specs.declared.fault.Rule.TheVariants.{G12, G13, G15, G16, G20, G21}
 use Rattle.gj_coords.specs.Box.{bbox_faults}
 
 abbrev pub many : List Tree → Elements

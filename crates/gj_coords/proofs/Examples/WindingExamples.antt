@@ -1,11 +1,11 @@
 -- How some rings run, by computing.
-use Rattle.std.proofs.Common.{◌≡◌, ℕ, ◌+◌, List, [], ◌∷◌, ◌++◌, true, false, pos, ◌*◌, ◌^◌, refl}
+use Rattle.gj_coords.proofs.Common.{Tree, array, element, end_of_array, number, pos, ring_turn, ◌*◌}
+use Rattle.std.proofs.Common.{◌≡◌, ℕ, ◌+◌, List, [], ◌∷◌, ◌++◌, true, false, ◌^◌, refl}
 use Rattle.std.specs.Prelude.{map, filter_map}
 use Rattle.gj_number.specs.Bytes.{zero_digit}
 use Rattle.gj_number.specs.Value.{value_of, held_value, within_limits}
-use Rattle.gj_json.specs.Tree.{Tree, number, array, end_of_array, element}
 use Rattle.gj_coords.specs.declared.winding.Turn.TheVariants.{Left, Right, Straight, Unjudged}
-use Rattle.gj_coords.specs.Winding.{cut_position, in_range, area_of, ring_turn}
+use Rattle.gj_coords.specs.Winding.{cut_position, in_range, area_of}
 
 abbrev digits_of : List ℕ → List ℕ
 digits_of = map (λ digit. zero_digit + digit)

@@ -1,14 +1,9 @@
 -- What is kept of the warnings of a value of fewer than 2^64 events is what is kept of the list of them.
-use Rattle.std.proofs.Common.{◌≡◌, ◌<◌, ◌^◌, length, List, refl, ap, arith}
-use Rattle.gj_json.specs.declared.event.Event.{Event}
-use Rattle.gj_json.specs.Tree.{Tree, depth}
-use Rattle.gj_json.specs.Events.{value_events}
-use Rattle.gj_coords.specs.declared.simple.Simple.{Simple}
-use Rattle.gj_coords.specs.Internal.GatheredWarnings.{all_in}
-use Rattle.gj_coords.specs.Internal.LevelGather.{WholeSummary, other, level, warned_as}
+use Rattle.gj_coords.proofs.Common.{Event, Simple, Tree, WholeSummary, all_in, ap, arith, coordinates_warnings, depth, first_answer, level, other}
+use Rattle.gj_coords.proofs.Common.{value_events, warned_as}
+use Rattle.std.proofs.Common.{◌≡◌, ◌<◌, ◌^◌, length, List, refl}
 use Rattle.gj_coords.specs.Internal.KeptWarnings.{warnings_of}
-use Rattle.gj_coords.specs.CoordinateWarnings.{coordinates_warnings}
-use Rattle.gj_coords.specs.Internal.CoordinatesKept.{coordinates_kept, first_answer}
+use Rattle.gj_coords.specs.Internal.CoordinatesKept.{coordinates_kept}
 use Rattle.gj_coords.proofs.Readers.SentLaws.{value_sent}
 use Rattle.gj_coords.proofs.Readers.EventCounts.{depth_below}
 use Rattle.gj_coords.proofs.Readers.WarningsOfElements.{IsShort}

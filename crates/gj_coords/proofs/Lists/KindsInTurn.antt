@@ -1,14 +1,10 @@
 -- What is kept is written for each kind in turn.
+use Rattle.gj_coords.proofs.Common.{Kind, KindWarnings, Warnings, ap, arith, by_kind_alike, index_of, kept, kept_by_kind, kinds, nat_tests, same_kind}
+use Rattle.gj_coords.proofs.Common.{sym, ◌∙◌}
 use Rattle.std.specs.Prelude.{refl, ◌≡◌, ℕ, ◌+◌, ◌-◌, ◌≤◌, ◌<◌, nat_eq, nat_lt, if◌then◌else◌, Bool, true, false, length}
-use Rattle.std.proofs.Common.{arith, sym, ◌∙◌, ap}
-use Rattle.std.proofs.lemmas.Bool.Decides.{nat_tests}
-use Rattle.gj_coords.specs.declared.kind.Kind.{Kind}
-use Rattle.gj_coords.specs.declared.kind_warnings.KindWarnings.{KindWarnings}
-use Rattle.gj_coords.specs.declared.warnings.Warnings.{Warnings}
-use Rattle.gj_coords.specs.Warnings.{kind_number, kinds, index_of, same_kind}
-use Rattle.gj_coords.specs.Internal.KeptWarnings.{by_kind, kept, replaced}
+use Rattle.gj_coords.specs.Warnings.{kind_number}
+use Rattle.gj_coords.specs.Internal.KeptWarnings.{by_kind, replaced}
 use Rattle.gj_coords.specs.Internal.ByKind.{kind_range, index_small, one_kind}
-use Rattle.gj_coords.specs.Internal.WarningLaws.{kept_by_kind, by_kind_alike}
 
 -- the first kinds have these values
 abbrev pub turned : ℕ → (Kind → KindWarnings) → Warnings → Warnings

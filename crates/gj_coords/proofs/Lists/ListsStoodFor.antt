@@ -1,18 +1,15 @@
 -- The lists that warnings stand for, and what is read off them.
+use Rattle.gj_coords.proofs.Common.{Kind, KindWarnings, Warning, Warnings, added_is, ap, arith, by_kind_alike, first_of, greatest_count, index_of}
+use Rattle.gj_coords.proofs.Common.{joined_noted, kept, kept_by_kind, kinds, nat_tests, noted_as, places_of, same_kind, sym, warning_at, ◌∙◌}
 use Rattle.std.specs.Prelude.{refl, ◌≡◌, ℕ, min, ◌<◌, ◌==◌, Bool, true, false, if◌then◌else◌, List, [], ◌∷◌, ◌++◌, length, Some, None, unwrap_or, suc, IsTrue}
 use Rattle.std.specs.Prelude.{◌↔◌}
-use Rattle.std.proofs.Common.{arith, sym, ◌∙◌, ap}
-use Rattle.std.proofs.lemmas.Bool.Decides.{nat_tests}
 use Rattle.std.proofs.lemmas.List.Folds.{list_all_at}
-use Rattle.gj_coords.specs.declared.kind.Kind.{Kind}
-use Rattle.gj_coords.specs.declared.kind_warnings.KindWarnings.{KindWarnings}
-use Rattle.gj_coords.specs.declared.warnings.Warnings.{Warnings}
-use Rattle.gj_coords.specs.Warnings.{Warning, warning_at, kinds, index_of, same_kind, places_of, greatest_count, first_of, least_place}
-use Rattle.gj_coords.specs.Internal.KeptWarnings.{noted_as, noted_of, joined_noted, kept, warnings_of, joined, added, replaced, none_in}
+use Rattle.gj_coords.specs.Warnings.{least_place}
+use Rattle.gj_coords.specs.Internal.KeptWarnings.{noted_of, warnings_of, joined, added, replaced, none_in}
 use Rattle.gj_coords.specs.WarningsStand.{StandsFor}
 use Rattle.gj_coords.specs.Internal.ByKind.{of_kind, index_small, kind_at_index, one_kind, same_itself}
 use Rattle.gj_coords.specs.Internal.KeptWarningLaws.{some_least}
-use Rattle.gj_coords.specs.Internal.WarningLaws.{kept_by_kind, by_kind_alike, added_is, warnings_of-append}
+use Rattle.gj_coords.specs.Internal.WarningLaws.{warnings_of-append}
 
 -- what is written for the kind alone
 pub added_by_replacing : (a : Warnings) (kind : Kind) (place : ℕ) → replaced a kind (joined_noted (kept a kind) (noted_as 1 place)) ≡ added a kind place

@@ -1,17 +1,13 @@
 -- Warnings so many bytes further on: what is kept of them is what was kept, shifted.
+use Rattle.gj_coords.proofs.Common.{Kind, KindWarnings, Warning, Warnings, ap, arith, by_kind_alike, greatest_count, kept, kept_by_kind, nat_tests}
+use Rattle.gj_coords.proofs.Common.{noted_as, places_of, same_kind, shifted_noted, sym, warning_at, ◌∙◌}
 use Rattle.std.specs.Prelude.{refl, ◌≡◌, ℕ, ◌+◌, ◌==◌, min, ◌<◌, ◌≤◌, ◌^◌, if◌then◌else◌, Bool, true, false, List, [], ◌∷◌, map, length, Option, Some, None}
 use Rattle.std.specs.Prelude.{unwrap_or, suc}
-use Rattle.std.proofs.Common.{arith, sym, ◌∙◌, ap}
 use Rattle.std.proofs.lemmas.List.{length-map}
-use Rattle.std.proofs.lemmas.Bool.Decides.{nat_tests}
-use Rattle.gj_coords.specs.declared.kind.Kind.{Kind}
-use Rattle.gj_coords.specs.declared.kind_warnings.KindWarnings.{KindWarnings}
-use Rattle.gj_coords.specs.declared.warnings.Warnings.{Warnings}
-use Rattle.gj_coords.specs.Warnings.{Warning, warning_at, shifted_by, same_kind, places_of, greatest_count, least_place, lesser_place}
-use Rattle.gj_coords.specs.Internal.KeptWarnings.{noted_as, noted_of, shifted_noted, kept, warnings_of, shifted}
+use Rattle.gj_coords.specs.Warnings.{shifted_by, least_place, lesser_place}
+use Rattle.gj_coords.specs.Internal.KeptWarnings.{noted_of, warnings_of, shifted}
 use Rattle.gj_coords.specs.WarningsStand.{StandsFor}
 use Rattle.gj_coords.specs.Internal.KeptWarningLaws.{some_least, summary}
-use Rattle.gj_coords.specs.Internal.WarningLaws.{kept_by_kind, by_kind_alike}
 use Rattle.gj_coords.proofs.Lists.ListsStoodFor.{kept_of}
 
 abbrev on : ℕ → Option ℕ → Option ℕ

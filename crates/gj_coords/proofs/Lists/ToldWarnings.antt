@@ -1,18 +1,13 @@
 -- A list of which a `Warnings` says the counts and the least places: as many warnings of each kind, all at one place.
+use Rattle.gj_coords.proofs.Common.{Kind, KindWarnings, Warning, Warnings, ap, append-nil, arith, first_of, flat_map, greatest_count, kept, kinds}
+use Rattle.gj_coords.proofs.Common.{nat_tests, places_of, same_kind, sym, warning_at, ◌∙◌}
 use Rattle.std.specs.Prelude.{refl, ◌≡◌, ℕ, min, ◌<◌, ◌≤◌, ◌==◌, Bool, true, false, if◌then◌else◌, List, [], ◌∷◌, ◌++◌, length, Some, None, suc}
 use Rattle.std.specs.Prelude.{zero}
-use Rattle.std.proofs.Common.{arith, sym, ◌∙◌, ap, append-nil}
-use Rattle.std.specs.List.{flat_map}
 use Rattle.std.proofs.Math.ListN.{replicate}
 use Rattle.std.proofs.lemmas.List.{length-replicate}
-use Rattle.std.proofs.lemmas.Bool.Decides.{nat_tests}
-use Rattle.gj_coords.specs.declared.kind.Kind.{Kind}
-use Rattle.gj_coords.specs.declared.kind_warnings.KindWarnings.{KindWarnings}
-use Rattle.gj_coords.specs.declared.warnings.Warnings.{Warnings}
-use Rattle.gj_coords.specs.Warnings.{Warning, warning_at, kinds, same_kind, places_of, greatest_count, first_of, least_place, lesser_place}
+use Rattle.gj_coords.specs.Warnings.{least_place, lesser_place}
 use Rattle.gj_coords.specs.WarningsStand.{StandsFor}
 use Rattle.gj_coords.specs.WarningsTold.{Tells, CountsFit}
-use Rattle.gj_coords.specs.Internal.KeptWarnings.{kept}
 use Rattle.gj_coords.specs.Internal.KeptWarningLaws.{places_of-append}
 use Rattle.gj_coords.proofs.Lists.ListsStoodFor.{kept_of, first_is, first_is_none}
 

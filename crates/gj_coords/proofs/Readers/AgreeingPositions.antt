@@ -1,9 +1,9 @@
 -- Positions agree exactly where their first values are the same.
-use Rattle.std.proofs.Common.{◌≡◌, ◌↔◌, Option, Some, None, refl, ap, IsTrue, Decides}
+use Rattle.gj_coords.proofs.Common.{Tree, ap}
+use Rattle.std.proofs.Common.{◌≡◌, ◌↔◌, Option, Some, None, refl, IsTrue, Decides}
 use Rattle.std.specs.Option.{option_eq}
 use Rattle.std.proofs.lemmas.Slice.Eq.{slice_eq-Decides}
 use Rattle.gj_number.specs.Exact.{Exact, same_parts}
-use Rattle.gj_json.specs.Tree.{Tree}
 use Rattle.gj_coords.specs.Ring.{agree, first_values}
 use Rattle.gj_number.proofs.Value.OneDenotation.{same_exact}
 use Rattle.gj_coords.proofs.Readers.WrittenParts.{parts_decide}

@@ -1,11 +1,10 @@
 -- How many events a value has: at least as many as it has levels, and more than its elements together.
-use Rattle.std.proofs.Common.{◌≡◌, ℕ, ◌+◌, ◌<◌, ◌≤◌, List, [], ◌∷◌, ◌++◌, length, refl, ap, ◌∙◌, arith, length-append}
-use Rattle.gj_json.specs.declared.event.Event.{Event}
-use Rattle.gj_json.specs.declared.event.What.{What}
-use Rattle.gj_json.specs.Tree.{Tree, constant, number, string, array, object, Elements, end_of_array, element, Members, end_of_object, member, depth}
+use Rattle.gj_coords.proofs.Common.{Elements, Event, Tree, What, ap, arith, array, constant, depth, element, elements_sent, end_of_array}
+use Rattle.gj_coords.proofs.Common.{end_of_object, event_at, items, member, number, object, sent, string, ◌∙◌}
+use Rattle.std.proofs.Common.{◌≡◌, ℕ, ◌+◌, ◌<◌, ◌≤◌, List, [], ◌∷◌, ◌++◌, length, refl, length-append}
+use Rattle.gj_json.specs.Tree.{Members}
 use Rattle.gj_json.specs.Tree.{elements_depth, members_depth}
-use Rattle.gj_coords.specs.Items.{items}
-use Rattle.gj_coords.specs.Internal.SentEvents.{event_at, sent, elements_sent, members_sent}
+use Rattle.gj_coords.specs.Internal.SentEvents.{members_sent}
 
 -- the events of some values
 abbrev pub total : List Tree → ℕ
@@ -27,10 +26,7 @@ total_below place es close =
 
 some_sent : (v : Tree) → 0 < length (sent v)
 some_sent (constant which place) = omega arith
-some_sent (number place literal end) = omega arith
-some_sent (string place content end) = omega arith
-some_sent (array place es close) = omega arith
-some_sent (object place ms close) = omega arith
+some_sent other = omega arith
 
 pub length_below : (vs : List Tree) → length vs ≤ total vs
 length_below [] = omega arith

@@ -1,10 +1,9 @@
 -- The least of some faults is one of them, and none of them comes before it.
-use Rattle.std.proofs.Common.{◌≡◌, ◌↔◌, ℕ, List, [], ◌∷◌, ◌++◌, Some, None, Bool, true, false, refl, ap, sym, ◌∙◌, IsTrue}
-use Rattle.std.proofs.Common.{if◌then◌else◌, arith, subst}
-use Rattle.std.proofs.lemmas.Bool.Decides.{nat_tests}
+use Rattle.gj_coords.proofs.Common.{Fault, ap, arith, comes_first, least, lesser, nat_tests, subst, sym, ◌∙◌}
+use Rattle.std.proofs.Common.{◌≡◌, ◌↔◌, ℕ, List, [], ◌∷◌, ◌++◌, Some, None, Bool, true, false, refl, IsTrue}
+use Rattle.std.proofs.Common.{if◌then◌else◌}
 use Rattle.std.specs.List.{AllByRecursion}
-use Rattle.gj_coords.specs.declared.fault.Fault.{Fault}
-use Rattle.gj_coords.specs.Fault.{comes_first, lesser, least, number_of}
+use Rattle.gj_coords.specs.Fault.{number_of}
 use Rattle.gj_coords.specs.Internal.LeastLaws.{Tests, goes_on}
 
 itself : (p r : ℕ) → Tests p r p r ≡ true

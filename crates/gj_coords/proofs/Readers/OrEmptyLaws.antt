@@ -1,18 +1,11 @@
 -- The reader of the value of `coordinates` reports what is found in it, whether it is empty or not.
-use Rattle.std.proofs.Common.{◌≡◌, ℕ, List, [], ◌∷◌, false, refl, ◌∙◌, ap, if◌then◌else◌}
-use Rattle.gj_json.specs.Tree.{Tree, constant, number, string, array, object, Elements, end_of_array, element}
-use Rattle.gj_coords.specs.declared.kind.Kind.TheVariants.{W6}
-use Rattle.gj_coords.specs.Fault.{least}
-use Rattle.gj_coords.specs.Warnings.{warning_at}
-use Rattle.gj_coords.specs.Items.{items}
+use Rattle.gj_coords.proofs.Common.{Concern, Elements, Gathering, Judgement, Tree, W6, added_is, all_in, ap, array, constant, element, end_of_array}
+use Rattle.gj_coords.proofs.Common.{gathered, given, items, joined_none_first, least, no_warned, number, object, string, warning_at, ◌∙◌}
+use Rattle.std.proofs.Common.{◌≡◌, ℕ, List, [], ◌∷◌, false, refl, if◌then◌else◌}
 use Rattle.gj_coords.specs.Shape.{Shape}
-use Rattle.gj_coords.specs.CoordinateWarnings.{Concern}
-use Rattle.gj_coords.specs.Internal.Gathering.{Gathering, gathered, given}
 use Rattle.gj_coords.specs.Internal.KeptWarnings.{warnings_of, no_warnings}
-use Rattle.gj_coords.specs.Internal.GatheredWarnings.{no_warned, all_in}
-use Rattle.gj_coords.specs.Internal.Findings.{Judgement, empty_found, found_in}
+use Rattle.gj_coords.specs.Internal.Findings.{empty_found, found_in}
 use Rattle.gj_coords.specs.Internal.OrEmptyGather.{or_empty_gathering}
-use Rattle.gj_coords.specs.Internal.WarningLaws.{joined_none_first, added_is}
 use Rattle.gj_coords.proofs.Readers.WarningsOfElements.{IsShort}
 
 -- as `coordinates_faults` and `coordinates_warnings` have it, of any shape and concern

@@ -1,9 +1,7 @@
 -- A machine that stands after some events of a value has the rest of them to read.
-use Rattle.std.proofs.Common.{◌≡◌, ◌↔◌, List, [], ◌∷◌, ◌++◌, IsTrue, refl, sym, ◌∙◌, append-nil, append_assoc}
-use Rattle.gj_json.specs.declared.event.Event.{Event}
-use Rattle.gj_json.specs.Tree.{Tree}
-use Rattle.gj_json.specs.Events.{value_events}
-use Rattle.gj_coords.specs.Internal.ValueMachine.{Machine, Reads, Answers, IsCountable, run, IsAfter, ReadsOn}
+use Rattle.gj_coords.proofs.Common.{Answers, Event, IsCountable, Tree, append-nil, append_assoc, run, sym, value_events, ◌∙◌}
+use Rattle.std.proofs.Common.{◌≡◌, ◌↔◌, List, [], ◌∷◌, ◌++◌, IsTrue, refl}
+use Rattle.gj_coords.specs.Internal.ValueMachine.{Machine, Reads, IsAfter, ReadsOn}
 use Rattle.gj_coords.proofs.Readers.SentLaws.{value_sent}
 
 pub left : {S A : Type 0} (m : Machine S A) (s : S) (es rest : List Event) (a : A) → Reads m s (es ++ rest) a → Reads m (run m.after s es) rest a

@@ -1,12 +1,12 @@
 -- The events of a value, without their times, are those by recursion on it.
-use Rattle.std.proofs.Common.{◌≡◌, List, [], ◌∷◌, ◌++◌, refl, ap, ◌∙◌, map}
+use Rattle.gj_coords.proofs.Common.{Elements, Event, Tree, What, ap, array, constant, element, elements_sent, end_of_array, end_of_object, event_at}
+use Rattle.gj_coords.proofs.Common.{member, number, object, sent, string, value_events, ◌∙◌}
+use Rattle.std.proofs.Common.{◌≡◌, List, [], ◌∷◌, ◌++◌, refl, map}
 use Rattle.std.proofs.lemmas.List.{map-append}
-use Rattle.gj_json.specs.declared.event.Event.{Event}
-use Rattle.gj_json.specs.declared.event.What.{What}
 use Rattle.gj_json.specs.Names.{known_of}
-use Rattle.gj_json.specs.Events.{Timed, timed, events, elements_events, members_events, value_events}
-use Rattle.gj_json.specs.Tree.{Tree, constant, number, string, array, object, Elements, end_of_array, element, Members, end_of_object, member}
-use Rattle.gj_coords.specs.Internal.SentEvents.{event_at, sent, elements_sent, members_sent}
+use Rattle.gj_json.specs.Events.{Timed, timed, events, elements_events, members_events}
+use Rattle.gj_json.specs.Tree.{Members}
+use Rattle.gj_coords.specs.Internal.SentEvents.{members_sent}
 
 abbrev plain : List Timed → List Event
 plain = map (λ x. x.event)

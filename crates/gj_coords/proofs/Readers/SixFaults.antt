@@ -1,18 +1,13 @@
 -- The reader of each type reports the least fault of the value under it.
-use Rattle.std.proofs.Common.{◌≡◌, arith}
-use Rattle.gj_json.specs.Tree.{Tree}
-use Rattle.gj_coords.specs.declared.simple.Simple.{Simple}
-use Rattle.gj_coords.specs.declared.simple.Simple.TheVariants.{Point, MultiPoint, LineString, MultiLineString, Polygon, MultiPolygon}
-use Rattle.gj_coords.specs.Fault.{least}
-use Rattle.gj_coords.specs.Shape.{position, line, list, ring, coordinates_faults}
-use Rattle.gj_coords.specs.Internal.SentEvents.{head}
+use Rattle.gj_coords.proofs.Common.{LineString, MultiLineString, MultiPoint, MultiPolygon, Point, Polygon, Simple, Tree, arith, coordinates_faults}
+use Rattle.gj_coords.proofs.Common.{head, least, numbers_gathering, position, position_answer, ring, ring_answer, ring_least, several_gathering}
+use Rattle.gj_coords.proofs.Common.{type_answer}
+use Rattle.std.proofs.Common.{◌≡◌}
+use Rattle.gj_coords.specs.Shape.{line, list}
 use Rattle.gj_coords.specs.Internal.Findings.{position_judged, findings_judged}
-use Rattle.gj_coords.specs.Internal.PositionGather.{numbers_gathering, position_answer}
 use Rattle.gj_coords.specs.Internal.PositionsGather.{ring_judged}
-use Rattle.gj_coords.specs.Internal.ListGather.{several_gathering}
-use Rattle.gj_coords.specs.Internal.SixReaders.{line_answer, ring_answer, polygon_answer, type_answer}
+use Rattle.gj_coords.specs.Internal.SixReaders.{line_answer, polygon_answer}
 use Rattle.gj_coords.specs.Internal.PositionLaws.{position_fault}
-use Rattle.gj_coords.specs.Internal.RingLaws.{ring_least}
 use Rattle.gj_coords.specs.Internal.ListLaws.{several_least}
 use Rattle.gj_coords.proofs.Readers.OrEmptyLaws.{whole_least}
 

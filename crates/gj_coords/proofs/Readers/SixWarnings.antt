@@ -1,28 +1,18 @@
 -- The reader of each type reports the warnings of the value under it.
-use Rattle.std.proofs.Common.{◌≡◌, ℕ, refl, ap, ◌∙◌}
-use Rattle.gj_json.specs.Tree.{Tree, array}
+use Rattle.gj_coords.proofs.Common.{Concern, Gathering, Judgement, LineString, MultiLineString, MultiPoint, MultiPolygon, Point, Polygon, Simple}
+use Rattle.gj_coords.proofs.Common.{Tree, Warned, all_in, ap, array, coordinates_warnings, each, given, head, items, no_warned, numbers_gathering}
+use Rattle.gj_coords.proofs.Common.{place_of, position_answer, position_warned, position_warnings, ring_answer, ring_gathering, ring_least}
+use Rattle.gj_coords.proofs.Common.{role_behind, several_gathering, taken_is, turn_in, type_answer, ◌∙◌}
+use Rattle.std.proofs.Common.{◌≡◌, ℕ, refl}
 use Rattle.gj_coords.specs.declared.watcher.findings.Findings.{Findings}
 use Rattle.gj_coords.specs.declared.watcher.ring.LinearRing.{LinearRing}
 use Rattle.gj_coords.specs.declared.watcher.several.Several.{Several}
-use Rattle.gj_coords.specs.declared.simple.Simple.{Simple}
-use Rattle.gj_coords.specs.declared.simple.Simple.TheVariants.{Point, MultiPoint, LineString, MultiLineString, Polygon, MultiPolygon}
-use Rattle.gj_coords.specs.declared.warned.Warned.{Warned}
-use Rattle.gj_coords.specs.Items.{items, place_of}
-use Rattle.gj_coords.specs.Internal.WindingGather.{turn_in}
-use Rattle.gj_coords.specs.CoordinateWarnings.{Concern, each, position_warnings, polygon_warnings, coordinates_warnings}
-use Rattle.gj_coords.specs.Internal.SentEvents.{head}
-use Rattle.gj_coords.specs.Internal.Gathering.{Gathering, given}
+use Rattle.gj_coords.specs.CoordinateWarnings.{polygon_warnings}
 use Rattle.gj_coords.specs.Internal.KeptWarnings.{warnings_of, no_warnings, joined}
-use Rattle.gj_coords.specs.Internal.GatheredWarnings.{no_warned, all_in}
-use Rattle.gj_coords.specs.Internal.Findings.{Judgement, position_judged, findings_judged}
-use Rattle.gj_coords.specs.Internal.PositionGather.{numbers_gathering, position_answer}
-use Rattle.gj_coords.specs.Internal.PositionsGather.{ring_gathering, ring_judged, role_behind}
-use Rattle.gj_coords.specs.Internal.ListGather.{several_gathering}
-use Rattle.gj_coords.specs.Internal.SixReaders.{line_answer, ring_answer, polygon_answer, type_answer}
-use Rattle.gj_coords.specs.Internal.PositionWarnings.{position_warned}
-use Rattle.gj_coords.specs.Internal.RingLaws.{ring_least}
+use Rattle.gj_coords.specs.Internal.Findings.{position_judged, findings_judged}
+use Rattle.gj_coords.specs.Internal.PositionsGather.{ring_judged}
+use Rattle.gj_coords.specs.Internal.SixReaders.{line_answer, polygon_answer}
 use Rattle.gj_coords.specs.Internal.ElementCountLaws.{gathered_place}
-use Rattle.gj_coords.specs.Internal.GatheredWarningLaws.{taken_is}
 use Rattle.gj_coords.proofs.Readers.WarningsOfElements.{IsShort, elements_short, elements_warned, none_of, from_none, ring_warnings, ring_warned}
 use Rattle.gj_coords.proofs.Readers.WarningsOfElements.{ring_turned, ring_positions, gathered_rings}
 use Rattle.gj_coords.proofs.Readers.OrEmptyLaws.{whole_warned}

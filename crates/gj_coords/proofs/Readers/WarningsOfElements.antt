@@ -1,37 +1,24 @@
 -- What a gathering of warnings says of its elements, and of the linear rings of a polygon.
+use Rattle.gj_coords.proofs.Common.{Concern, Elements, Fault, G14, Gathering, Tree, W2, Warned, Warning, Warnings, all_in, ap, arith, array, each}
+use Rattle.gj_coords.proofs.Common.{elements_of, flat_map, gathered, items, joined_none_first, least, place_of, position, position_answer}
+use Rattle.gj_coords.proofs.Common.{position_warned, position_warnings, ring, ring_answer, ring_gathering, ring_turn, role_behind, sent, sym}
+use Rattle.gj_coords.proofs.Common.{taken_is, turn_in, ◌&&◌, ◌∙◌}
 use Rattle.std.specs.Prelude.{is_none, ⊤}
-use Rattle.std.specs.List.{flat_map}
-use Rattle.std.proofs.Common.{◌≡◌, ℕ, zero, suc, ◌<◌, ◌^◌, List, [], ◌∷◌, ◌++◌, length, Option, Bool, true, false, ◌&&◌, refl, sym, ap, ◌∙◌, arith, nat_lt}
+use Rattle.std.proofs.Common.{◌≡◌, ℕ, zero, suc, ◌<◌, ◌^◌, List, [], ◌∷◌, ◌++◌, length, Option, Bool, true, false, refl, nat_lt}
 use Rattle.std.proofs.Common.{if◌then◌else◌}
-use Rattle.gj_json.specs.Tree.{Tree, array, Elements}
-use Rattle.gj_coords.specs.Internal.WindingGather.{turn_in}
-use Rattle.gj_coords.specs.Internal.PositionGather.{position_answer}
-use Rattle.gj_coords.specs.Internal.PositionWarnings.{position_warned}
 use Rattle.gj_coords.specs.Internal.RingWarnings.{added_warned, ring_turns}
-use Rattle.gj_coords.specs.Internal.SixReaders.{ring_answer}
-use Rattle.gj_coords.specs.declared.fault.Fault.{Fault}
-use Rattle.gj_coords.specs.declared.fault.Rule.TheVariants.{G14}
-use Rattle.gj_coords.specs.declared.kind.Kind.TheVariants.{W2}
 use Rattle.gj_coords.specs.declared.ring.RingRole.{RingRole}
 use Rattle.gj_coords.specs.declared.ring.RingRole.TheVariants.{Exterior, Hole}
-use Rattle.gj_coords.specs.declared.warned.Warned.{Warned}
-use Rattle.gj_coords.specs.declared.warnings.Warnings.{Warnings}
 use Rattle.gj_coords.specs.declared.winding.Turn.{Turn}
-use Rattle.gj_coords.specs.Fault.{least}
-use Rattle.gj_coords.specs.Items.{items, elements_of, place_of}
-use Rattle.gj_coords.specs.Shape.{few, is_empty, position, ring, unclosed}
-use Rattle.gj_coords.specs.Winding.{ring_turn}
-use Rattle.gj_coords.specs.Warnings.{Warning}
-use Rattle.gj_coords.specs.CoordinateWarnings.{Concern, warned_if, each, position_warnings, rings_warnings}
-use Rattle.gj_coords.specs.Internal.SentEvents.{sent}
-use Rattle.gj_coords.specs.Internal.Gathering.{Gathering, gathered}
+use Rattle.gj_coords.specs.Shape.{few, is_empty, unclosed}
+use Rattle.gj_coords.specs.CoordinateWarnings.{warned_if, rings_warnings}
 use Rattle.gj_coords.specs.Internal.ElementCount.{one_counted}
 use Rattle.gj_coords.specs.Internal.KeptWarnings.{warnings_of, no_warnings, joined}
-use Rattle.gj_coords.specs.Internal.GatheredWarnings.{all_in, noted_when}
-use Rattle.gj_coords.specs.Internal.PositionsGather.{ring_gathering, role_behind, runs_wrong, ring_noted}
+use Rattle.gj_coords.specs.Internal.GatheredWarnings.{noted_when}
+use Rattle.gj_coords.specs.Internal.PositionsGather.{runs_wrong, ring_noted}
 use Rattle.gj_coords.specs.Internal.RingLaws.{is_some_lesser, empty_front}
-use Rattle.gj_coords.specs.Internal.WarningLaws.{joined_none_first, warnings_of_none, joined_step}
-use Rattle.gj_coords.specs.Internal.GatheredWarningLaws.{none_more, noted_when_is, taken_is}
+use Rattle.gj_coords.specs.Internal.WarningLaws.{warnings_of_none, joined_step}
+use Rattle.gj_coords.specs.Internal.GatheredWarningLaws.{none_more, noted_when_is}
 use Rattle.gj_coords.proofs.Readers.EventCounts.{length_below, total, total_below}
 
 -- a value whose events are fewer than 2^64

@@ -1,12 +1,12 @@
 -- When a decimal is the one that a number's digits and places write, and when it is not.
+use Rattle.gj_coords.proofs.Common.{FitsSigned, ap, arith, ints, nat_tests, of_z, pos, subst, w16, ℤ, ◌%◌, ◌&&◌}
 use Rattle.std.specs.Bool.{beq}
 use Rattle.std.specs.Ordering.{int_eq}
-use Rattle.std.proofs.Common.{◌≡◌, ◌≢◌, ℕ, zero, suc, ◌&&◌, ◌<◌, ◌%◌, ◌/◌, ◌==◌, Bool, true}
-use Rattle.std.proofs.Common.{false, if◌then◌else◌, IsTrue, ℤ, pos, ◌-ℤ◌, ◌≤◌, FitsSigned, to_z, of_z, w16, refl}
-use Rattle.std.proofs.Common.{Decides, ap, subst, arith}
+use Rattle.std.proofs.Common.{◌≡◌, ◌≢◌, ℕ, zero, suc, ◌<◌, ◌/◌, ◌==◌, Bool, true}
+use Rattle.std.proofs.Common.{false, if◌then◌else◌, IsTrue, ◌-ℤ◌, ◌≤◌, to_z, refl}
+use Rattle.std.proofs.Common.{Decides}
 use Rattle.std.proofs.Math.Bool.{and-false}
-use Rattle.std.proofs.lemmas.Int.{ints}
-use Rattle.std.proofs.lemmas.Bool.Decides.{nat_tests, Decides-and, Decides-eqb, Decides-int_eq}
+use Rattle.std.proofs.lemmas.Bool.Decides.{Decides-and, Decides-eqb, Decides-int_eq}
 use Rattle.std.specs.Cmp.{booleans_Decides}
 use Rattle.std.proofs.lemmas.Bool.{false_from_ne_true}
 use Rattle.gj_number.specs.Exact.{Exact, IsWithinLimits, same_parts, zero_exact}

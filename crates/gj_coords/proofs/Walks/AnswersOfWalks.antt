@@ -1,35 +1,26 @@
 -- What one walk over a value answers.
+use Rattle.gj_coords.proofs.Common.{Event, Fault, First, Flat, IsCountable, LineString, MultiLineString, MultiPoint, MultiPolygon, Point, Polygon}
+use Rattle.gj_coords.proofs.Common.{Second, Simple, StayAll, Third, Tree, WholeSummary, all_in, ap, append-nil, append_assoc, arith}
+use Rattle.gj_coords.proofs.Common.{coordinates_faults, done, fault_as, first_answer, flat_events, flat_first, least, level, no_warned}
+use Rattle.gj_coords.proofs.Common.{progress_machine, run, subst, sym, value_events, waiting, warned_as, ◌∙◌}
 use Rattle.std.proofs.Common.{◌≡◌, ◌<◌, ◌↔◌, ◌++◌, ◌∷◌, List, [], IsTrue, Option, Bool, true}
-use Rattle.std.proofs.Common.{false, is_none, refl, ap, sym, ◌∙◌, append_assoc, append-nil, subst, arith}
-use Rattle.gj_json.specs.declared.event.Event.{Event}
-use Rattle.gj_json.specs.declared.flat.Flat.{Flat}
-use Rattle.gj_json.specs.Flat.{flat_events}
+use Rattle.std.proofs.Common.{false, is_none, refl}
 use Rattle.gj_json.specs.CutPosition.{flats_events}
-use Rattle.gj_json.specs.Tree.{Tree}
-use Rattle.gj_json.specs.Events.{value_events}
-use Rattle.gj_coords.specs.declared.fault.Fault.{Fault}
-use Rattle.gj_coords.specs.declared.simple.Simple.{Simple}
-use Rattle.gj_coords.specs.declared.simple.Simple.TheVariants.{Point, MultiPoint, LineString, MultiLineString, Polygon, MultiPolygon}
 use Rattle.gj_coords.specs.declared.simple_faults.SimpleFaults.{SimpleFaults}
 use Rattle.gj_coords.specs.declared.walk.Depth.{Depth}
-use Rattle.gj_coords.specs.declared.walk.Depth.TheVariants.{First, Second, Third, Fourth}
+use Rattle.gj_coords.specs.declared.walk.Depth.TheVariants.{Fourth}
 use Rattle.gj_coords.specs.declared.walk.Stage.{Stage}
 use Rattle.gj_coords.specs.declared.walk.Stage.TheVariants.{Due, Open, Past, Broken, Done}
 use Rattle.gj_coords.specs.declared.walk.Walk.{Walk}
-use Rattle.gj_coords.specs.Fault.{least}
-use Rattle.gj_coords.specs.Shape.{coordinates_faults}
 use Rattle.gj_coords.specs.SimpleFaults.{by_simple, least_faults}
 use Rattle.gj_coords.specs.Coordinates.{IsAt, IsWhole, Holds, StandsFor, NoneEnds}
-use Rattle.gj_coords.specs.Internal.AddedPositions.{StayAll}
 use Rattle.gj_coords.specs.Internal.SteadyWalk.{IsSteady, StaysSteady}
 use Rattle.gj_coords.specs.declared.coordinates.Coordinates.{Coordinates}
-use Rattle.gj_coords.specs.Internal.ValueMachine.{IsCountable, run}
 use Rattle.gj_coords.specs.Internal.KeptWarnings.{no_warnings}
-use Rattle.gj_coords.specs.Internal.GatheredWarnings.{no_warned, all_in}
-use Rattle.gj_coords.specs.Internal.LevelGather.{WholeSummary, level, fault_as, warned_as, quiet_as}
-use Rattle.gj_coords.specs.Internal.FlatPosition.{flat_first, held_fault, held_warned}
-use Rattle.gj_coords.specs.Internal.CoordinatesKept.{first_answer, coordinates_kept}
-use Rattle.gj_coords.specs.Internal.Progress.{Progress, waiting, done, step, ended, answered, progress_machine}
+use Rattle.gj_coords.specs.Internal.LevelGather.{quiet_as}
+use Rattle.gj_coords.specs.Internal.FlatPosition.{held_fault, held_warned}
+use Rattle.gj_coords.specs.Internal.CoordinatesKept.{coordinates_kept}
+use Rattle.gj_coords.specs.Internal.Progress.{Progress, step, ended, answered}
 use Rattle.gj_coords.specs.Internal.WalkProgress.{never, open_at, progress, progress_at, answer_at, answer_of}
 use Rattle.gj_coords.proofs.Readers.RestsOfValues.{left, reads_on_none, reads_on_more, reads_on_ended, reads_on_answers}
 use Rattle.gj_coords.proofs.Walks.FaultsOfLevels.{first_least}
@@ -125,9 +116,7 @@ steady_all (f ∷ fs) s events next room on k =
 
 open_not_ended : (depth : Depth) (s : Walk) → ended (open_at depth s) ≡ false
 open_not_ended First s = refl
-open_not_ended Second s = refl
-open_not_ended Third s = refl
-open_not_ended Fourth s = refl
+open_not_ended other s = refl
 
 -- so the value has not ended
 pub steady_goes_on : (s : Coordinates) (v : Tree) (es rest : List Event) → s.floor < never → StandsFor s es → es ++ rest ≡ value_events v → IsCountable v →
@@ -154,16 +143,13 @@ none_end (f ∷ fs) s events next room on k =
 
 answered_open : (depth : Depth) (s : Walk) (a : WholeSummary) → ended (open_at depth s) ≡ true → answered (open_at depth s) ≡ a
 answered_open First s a e = cc
-answered_open Second s a e = cc
-answered_open Third s a e = cc
-answered_open Fourth s a e = cc
+answered_open other s a e = cc
 
 answered_at : (stage : Stage) (s : Walk) → ended (progress_at stage s) ≡ true → answered (progress_at stage s) ≡ answer_at stage s
 answered_at Due s e = cc
 answered_at Open s e = answered_open s.depth s _ e
 answered_at Past s e = cc
-answered_at Broken s e = refl
-answered_at Done s e = refl
+answered_at other s e = refl
 
 answer_is : (s : Coordinates) (v : Tree) → s.whole ≡ false → StandsFor s (value_events v) → IsCountable v → answer_of s.walk ≡ first_answer v
 answer_is s v e k room =
@@ -224,11 +210,7 @@ walk_quiet simple s v quiet e k room = sym (walk_kept simple s v e k room) ∙ a
 
 held_none : (simple : Simple) → held_warned simple no_warned ≡ no_warned
 held_none Point = refl
-held_none MultiPoint = refl
-held_none LineString = refl
-held_none MultiLineString = refl
-held_none Polygon = refl
-held_none MultiPolygon = refl
+held_none other = refl
 
 pub whole_quiet : (simple : Simple) (s : Coordinates) (v : Tree) → is_none s.walk.outer.positions_warned.warnings ≡ true → s.whole ≡ true →
     StandsFor s (value_events v) → IsCountable v → coordinates_kept simple v ≡ no_warnings

@@ -1,27 +1,22 @@
 -- Positions that come as their cut values are added as their arrays of numbers are.
-use Rattle.std.proofs.Common.{◌≡◌, ◌∙◌, ℕ, zero, suc, ◌+◌, ◌<◌, ◌≤◌, ℤ, List, [], ◌∷◌, ◌++◌, length, take, slice_index_or, Bool, true, false}
-use Rattle.std.proofs.Common.{Option, Some, None, option_map, refl, sym, ap, subst, arith}
+use Rattle.gj_coords.proofs.Common.{AreCutPositions, Corner, Flat, IsCutPosition, Level, Outermost, Values, Warned, ap, arith, arrays_counted}
+use Rattle.gj_coords.proofs.Common.{counted_noted, first_steady, flat_position, position_added, precise_noted, second_steady, sound_noted, subst, sym}
+use Rattle.gj_coords.proofs.Common.{take, ℤ, ◌∙◌}
+use Rattle.std.proofs.Common.{◌≡◌, ℕ, zero, suc, ◌+◌, ◌<◌, ◌≤◌, List, [], ◌∷◌, ◌++◌, length, slice_index_or, Bool, true, false}
+use Rattle.std.proofs.Common.{Option, Some, None, option_map, refl}
 use Rattle.std.proofs.lemmas.Bool.Decides.{Decides-eqb, Decides-and}
 use Rattle.std.proofs.lemmas.List.{length-take-le}
 use Rattle.gj_json.specs.declared.cut_position.CutPosition.{CutPosition}
-use Rattle.gj_json.specs.declared.flat.Flat.{Flat}
-use Rattle.gj_json.specs.CutPosition.{IsCutPosition, AreCutPositions, RiseAfter, Rise}
+use Rattle.gj_json.specs.CutPosition.{RiseAfter, Rise}
 use Rattle.gj_coords.specs.declared.cuts.AddedCuts.{AddedCuts}
 use Rattle.gj_coords.specs.declared.cuts.PreciseNumbers.{PreciseNumbers}
-use Rattle.gj_coords.specs.declared.position.Values.{Values}
 use Rattle.gj_coords.specs.declared.ring.Positions.{Positions}
-use Rattle.gj_coords.specs.declared.walk.level.Level.{Level}
-use Rattle.gj_coords.specs.declared.walk.outermost.Outermost.{Outermost}
-use Rattle.gj_coords.specs.declared.warned.Warned.{Warned}
-use Rattle.gj_coords.specs.declared.winding.Corner.{Corner}
 use Rattle.gj_coords.specs.declared.winding.Winding.{Winding}
 use Rattle.gj_coords.specs.Winding.{corner_of, both}
 use Rattle.gj_coords.specs.Internal.AddedPositions.{positions_added, all_noted, all_steady, all_first, AllAfter}
-use Rattle.gj_coords.specs.Internal.CutPositionGather.{counted_noted, HasCounted, IsAdded}
-use Rattle.gj_coords.specs.Internal.FlatPosition.{flat_position, flat_values, precise_noted}
-use Rattle.gj_coords.specs.Internal.PositionGather.{corner_in, same_values, sound_noted, arrays_counted}
-use Rattle.gj_coords.specs.Internal.PositionsGather.{position_added}
-use Rattle.gj_coords.specs.Internal.SteadyWalk.{second_steady, first_steady}
+use Rattle.gj_coords.specs.Internal.CutPositionGather.{HasCounted, IsAdded}
+use Rattle.gj_coords.specs.Internal.FlatPosition.{flat_values}
+use Rattle.gj_coords.specs.Internal.PositionGather.{corner_in, same_values}
 use Rattle.gj_coords.specs.Internal.WindingGather.{winding_added, with_sum}
 use Rattle.gj_coords.proofs.Readers.AgreeingPositions.{option_decides}
 
@@ -43,8 +38,7 @@ differ a b other = go (same_values a b) refl
 -- the first of two that are both there
 pub first_of_both : (x y : Option ℤ) (corner : Corner) → both x y ≡ Some corner → x ≡ Some corner.x
 first_of_both (Some x) (Some y) corner e = ap (option_map (λ c. c.x)) e
-first_of_both (Some x) None corner e = cc
-first_of_both None y corner e = cc
+first_of_both other another corner e = cc
 
 pub cut_added : (s : Positions) (flat : Flat) (first : Values) (corner : Corner) (winding : Winding) (warned : Warned) → s.fault ≡ None → s.first ≡ Some first
     → corner_in (flat_values flat) ≡ Some corner → (corner_in first ≡ Some corner → ⊥) → winding ≡ winding_added s.winding (Some corner)

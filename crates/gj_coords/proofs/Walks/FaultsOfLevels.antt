@@ -1,36 +1,23 @@
 -- Each role of each level of a value has the faults of its shape.
-use Rattle.std.proofs.Common.{◌≡◌, ℕ, suc, ◌+◌, List, [], ◌∷◌, Option, Some, None, false, ◌==◌, refl, sym, ◌∙◌, ap, arith, add-one, length, nat_lt}
+use Rattle.gj_coords.proofs.Common.{Event, Fault, Gathering, Judgement, Level, Line, LineString, MultiLineString, MultiPoint, MultiPolygon, Outermost}
+use Rattle.gj_coords.proofs.Common.{Point, Polygon, Simple, Tree, WholeSummary, ap, arith, array, constant, coordinates_faults, element, end_of_array}
+use Rattle.gj_coords.proofs.Common.{fault_as, fault_at, first_answer, first_gathering, gathered, given, head, items, least, lesser, level, nat_tests}
+use Rattle.gj_coords.proofs.Common.{no_warned, number, numbers_gathering, object, other, position, position_added, position_answer, ring, ring_answer}
+use Rattle.gj_coords.proofs.Common.{ring_gathering, ring_least, second_answer, second_gathering, several_gathering, string, sym, third_answer}
+use Rattle.gj_coords.proofs.Common.{third_gathering, ◌∙◌}
+use Rattle.std.proofs.Common.{◌≡◌, ℕ, suc, ◌+◌, List, [], ◌∷◌, Option, Some, None, false, ◌==◌, refl, add-one, length, nat_lt}
 use Rattle.std.proofs.Common.{if◌then◌else◌}
-use Rattle.std.proofs.lemmas.Bool.Decides.{nat_tests}
-use Rattle.gj_json.specs.declared.event.Event.{Event}
-use Rattle.gj_json.specs.Tree.{Tree, constant, number, string, array, object, end_of_array, element}
-use Rattle.gj_coords.specs.declared.fault.Fault.{Fault}
 use Rattle.gj_coords.specs.declared.fault.Rule.TheVariants.{G13}
-use Rattle.gj_coords.specs.declared.simple.Simple.{Simple}
-use Rattle.gj_coords.specs.declared.simple.Simple.TheVariants.{Point, MultiPoint, LineString, MultiLineString, Polygon, MultiPolygon}
 use Rattle.gj_coords.specs.declared.watcher.ring.LinearRing.{LinearRing}
 use Rattle.gj_coords.specs.declared.watcher.several.Several.{Several}
 use Rattle.gj_coords.specs.declared.tally.Tally.{Tally}
-use Rattle.gj_coords.specs.declared.walk.level.Level.{Level}
-use Rattle.gj_coords.specs.declared.walk.outermost.Outermost.{Outermost}
-use Rattle.gj_coords.specs.Fault.{fault_at, lesser, least}
-use Rattle.gj_coords.specs.Items.{items}
-use Rattle.gj_coords.specs.Shape.{Shape, position, list, line, ring, shape_of, coordinates_faults}
-use Rattle.gj_coords.specs.Internal.SentEvents.{head}
-use Rattle.gj_coords.specs.Internal.Gathering.{Gathering, gathered, given}
+use Rattle.gj_coords.specs.Shape.{Shape, list, line, shape_of}
 use Rattle.gj_coords.specs.Internal.ElementCount.{counted, few_in}
-use Rattle.gj_coords.specs.Internal.PositionGather.{numbers_gathering, misshapen_at, position_answer}
-use Rattle.gj_coords.specs.Internal.PositionsGather.{position_added, ring_gathering}
-use Rattle.gj_coords.specs.Internal.Findings.{Judgement}
-use Rattle.gj_coords.specs.Internal.ListGather.{several_gathering}
-use Rattle.gj_coords.specs.Internal.GatheredWarnings.{no_warned}
-use Rattle.gj_coords.specs.Internal.LevelGather.{Line, LineSummary, LevelSummary, WholeSummary, other, level, third_gathering, second_gathering, first_gathering, some_fault_in}
-use Rattle.gj_coords.specs.Internal.LevelGather.{fault_as}
-use Rattle.gj_coords.specs.Internal.SixReaders.{ring_answer}
-use Rattle.gj_coords.specs.Internal.CoordinatesKept.{third_answer, second_answer, first_answer}
+use Rattle.gj_coords.specs.Internal.PositionGather.{misshapen_at}
+use Rattle.gj_coords.specs.Internal.LevelGather.{LineSummary, LevelSummary, some_fault_in}
 use Rattle.gj_coords.specs.Internal.ElementCountLaws.{gathered_count}
 use Rattle.gj_coords.specs.Internal.PositionLaws.{position_fault, position_head}
-use Rattle.gj_coords.specs.Internal.RingLaws.{added_fault, ring_least}
+use Rattle.gj_coords.specs.Internal.RingLaws.{added_fault}
 use Rattle.gj_coords.specs.Internal.ListLaws.{several_least}
 
 -- ---- one gathering inside another

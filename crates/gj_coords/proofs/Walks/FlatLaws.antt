@@ -1,29 +1,18 @@
 -- An array of numbers that is reported as one leads where its events lead.
-use Rattle.std.proofs.Common.{◌≡◌, ◌≤◌, ℕ, min, Option, Some, None, Bool, true, false, ◌&&◌, ◌||◌, not, is_none, nat_lt, nat_eq, if◌then◌else◌}
-use Rattle.std.proofs.Common.{refl, ◌∙◌, ap, arith}
+use Rattle.gj_coords.proofs.Common.{Event, Fault, Flat, G11, G14, Gathering, Level, Line, Numbered, Numbers, Outermost, What, ap, arith, done}
+use Rattle.gj_coords.proofs.Common.{event_at, fault_at, first_gathering, flat_events, flat_first, flat_position, in_first, in_second, in_third}
+use Rattle.gj_coords.proofs.Common.{lesser, nat_tests, no_warned, numbers_gathering, position_closed, run, second_gathering, third_gathering, waiting}
+use Rattle.gj_coords.proofs.Common.{◌&&◌, ◌∙◌}
+use Rattle.std.proofs.Common.{◌≡◌, ◌≤◌, ℕ, min, Option, Some, None, Bool, true, false, ◌||◌, not, is_none, nat_lt, nat_eq, if◌then◌else◌}
+use Rattle.std.proofs.Common.{refl}
 use Rattle.std.specs.Option.{option_map_or}
-use Rattle.std.proofs.lemmas.Bool.Decides.{nat_tests}
-use Rattle.gj_json.specs.declared.event.Event.{Event}
-use Rattle.gj_json.specs.declared.flat.Flat.{Flat}
-use Rattle.gj_json.specs.declared.flat.Numbered.{Numbered}
-use Rattle.gj_json.specs.Flat.{number_event, flat_events}
-use Rattle.gj_coords.specs.declared.fault.Fault.{Fault}
-use Rattle.gj_coords.specs.declared.fault.Rule.TheVariants.{G11, G14, G15}
-use Rattle.gj_coords.specs.declared.position.Numbers.{Numbers}
+use Rattle.gj_json.specs.Flat.{number_event}
+use Rattle.gj_coords.specs.declared.fault.Rule.TheVariants.{G15}
 use Rattle.gj_coords.specs.declared.winding.Turn.TheVariants.{Straight}
-use Rattle.gj_coords.specs.Fault.{fault_at, lesser}
-use Rattle.gj_coords.specs.Internal.Gathering.{Gathering}
-use Rattle.gj_coords.specs.Internal.GatheredWarnings.{no_warned}
-use Rattle.gj_coords.specs.Internal.PositionGather.{misshapen_at, number_added, numbers_gathering, position_closed, no_position}
-use Rattle.gj_coords.specs.declared.walk.level.Level.{Level}
-use Rattle.gj_coords.specs.declared.walk.outermost.Outermost.{Outermost}
-use Rattle.gj_json.specs.declared.event.What.{What}
-use Rattle.gj_coords.specs.Internal.SentEvents.{event_at}
-use Rattle.gj_coords.specs.Internal.ValueMachine.{run}
-use Rattle.gj_coords.specs.Internal.LevelGather.{Line, LineSummary, LevelSummary, third_gathering, second_gathering}
-use Rattle.gj_coords.specs.Internal.LevelGather.{first_gathering}
-use Rattle.gj_coords.specs.Internal.FlatPosition.{least_place, flat_position, flat_third, flat_second, flat_first}
-use Rattle.gj_coords.specs.Internal.Progress.{waiting, in_first, in_second, in_third, in_fourth, done, step}
+use Rattle.gj_coords.specs.Internal.PositionGather.{misshapen_at, number_added, no_position}
+use Rattle.gj_coords.specs.Internal.LevelGather.{LineSummary, LevelSummary}
+use Rattle.gj_coords.specs.Internal.FlatPosition.{least_place, flat_third, flat_second}
+use Rattle.gj_coords.specs.Internal.Progress.{in_fourth, step}
 
 -- no number stands before the bracket
 record IsOn (first second : Numbered) (third : Option Numbered) (place : ℕ) : Type 0 where

@@ -1,23 +1,14 @@
 -- What is held of a position that is the whole value says all that its levels would; and where a few looks show nothing
 -- worth a warning, there is none.
-use Rattle.std.proofs.Common.{◌≡◌, ℕ, Option, Some, None, Bool, true, false, ◌&&◌, ◌==◌, is_some, is_none, if◌then◌else◌, refl, ap}
+use Rattle.gj_coords.proofs.Common.{Fault, Flat, KindWarnings, LineString, MultiLineString, MultiPoint, MultiPolygon, Numbered, Outermost, Point}
+use Rattle.gj_coords.proofs.Common.{Polygon, Simple, Values, Warned, Warnings, WholeSummary, ap, comes_first, flat_first, flat_position, lesser}
+use Rattle.gj_coords.proofs.Common.{level, no_warned, other, position_closed, sound_noted, warned_as, ◌&&◌}
+use Rattle.std.proofs.Common.{◌≡◌, ℕ, Option, Some, None, Bool, true, false, ◌==◌, is_some, is_none, if◌then◌else◌, refl}
 use Rattle.std.proofs.lemmas.Bool.{and_parts}
-use Rattle.gj_json.specs.declared.flat.Flat.{Flat}
-use Rattle.gj_json.specs.declared.flat.Numbered.{Numbered}
-use Rattle.gj_coords.specs.declared.fault.Fault.{Fault}
-use Rattle.gj_coords.specs.declared.walk.outermost.Outermost.{Outermost}
-use Rattle.gj_coords.specs.declared.kind_warnings.KindWarnings.{KindWarnings}
 use Rattle.gj_coords.specs.declared.watcher.position.Position.{Position}
-use Rattle.gj_coords.specs.declared.position.Values.{Values}
-use Rattle.gj_coords.specs.declared.simple.Simple.{Simple}
-use Rattle.gj_coords.specs.declared.simple.Simple.TheVariants.{Point, MultiPoint, LineString, MultiLineString, Polygon, MultiPolygon}
-use Rattle.gj_coords.specs.declared.warned.Warned.{Warned}
-use Rattle.gj_coords.specs.declared.warnings.Warnings.{Warnings}
-use Rattle.gj_coords.specs.Fault.{lesser, comes_first}
-use Rattle.gj_coords.specs.Internal.GatheredWarnings.{no_warned}
-use Rattle.gj_coords.specs.Internal.PositionGather.{judged_noted, position_closed, sound_noted}
-use Rattle.gj_coords.specs.Internal.LevelGather.{WholeSummary, other, level, fault_in, some_warned_in, warned_in, warned_as, some_quiet_in, quiet_as}
-use Rattle.gj_coords.specs.Internal.FlatPosition.{flat_count, flat_misshapen, flat_position, flat_first, held_fault, held_warned}
+use Rattle.gj_coords.specs.Internal.PositionGather.{judged_noted}
+use Rattle.gj_coords.specs.Internal.LevelGather.{fault_in, some_warned_in, warned_in, some_quiet_in, quiet_as}
+use Rattle.gj_coords.specs.Internal.FlatPosition.{flat_count, flat_misshapen, held_fault, held_warned}
 
 -- ---- a position that is the whole value
 

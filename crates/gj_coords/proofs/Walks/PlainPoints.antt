@@ -1,23 +1,12 @@
 -- A value that comes as one position breaks no rule as a Point, and deserves the warnings of the position: a plain one deserves none.
-use Rattle.std.proofs.Common.{◌≡◌, ◌∙◌, ◌<◌, ◌^◌, [], length, Option, Some, None, IfSome, IsTrue, is_some, refl, sym, ap, subst, arith}
-use Rattle.gj_json.specs.declared.flat.Flat.{Flat}
-use Rattle.gj_json.specs.declared.flat.Numbered.{Numbered}
-use Rattle.gj_json.specs.Flat.{flat_events}
-use Rattle.gj_json.specs.Events.{value_events}
-use Rattle.gj_json.specs.Tree.{Tree}
-use Rattle.gj_coords.specs.declared.simple.Simple.TheVariants.{Point}
-use Rattle.gj_coords.specs.declared.warned.Warned.{Warned}
-use Rattle.gj_coords.specs.declared.winding.Corner.{Corner}
+use Rattle.gj_coords.proofs.Common.{Corner, Flat, Numbered, Point, Tree, Warned, all_in, ap, arith, coordinates_faults, done, fault_as, first_answer}
+use Rattle.gj_coords.proofs.Common.{flat_events, flat_first, flat_position, least, level, no_warned, progress_machine, sound_noted, subst, sym}
+use Rattle.gj_coords.proofs.Common.{value_events, waiting, warned_as, ◌∙◌}
+use Rattle.std.proofs.Common.{◌≡◌, ◌<◌, ◌^◌, [], length, Option, Some, None, IfSome, IsTrue, is_some, refl}
 use Rattle.gj_coords.specs.Coordinates.{IsAt}
-use Rattle.gj_coords.specs.Fault.{least}
 use Rattle.gj_coords.specs.PlainPoint.{IsPlainPoint, IsPointWith}
-use Rattle.gj_coords.specs.Shape.{coordinates_faults}
-use Rattle.gj_coords.specs.Internal.CoordinatesKept.{first_answer, coordinates_kept}
-use Rattle.gj_coords.specs.Internal.FlatPosition.{flat_first, flat_position, IsPlain}
-use Rattle.gj_coords.specs.Internal.GatheredWarnings.{no_warned, all_in}
-use Rattle.gj_coords.specs.Internal.LevelGather.{level, fault_as, warned_as}
-use Rattle.gj_coords.specs.Internal.PositionGather.{sound_noted}
-use Rattle.gj_coords.specs.Internal.Progress.{waiting, done, progress_machine}
+use Rattle.gj_coords.specs.Internal.CoordinatesKept.{coordinates_kept}
+use Rattle.gj_coords.specs.Internal.FlatPosition.{IsPlain}
 use Rattle.gj_coords.proofs.Lists.KeptOfShortValues.{countable}
 use Rattle.gj_coords.proofs.Readers.RestsOfValues.{reads_on_answers}
 use Rattle.gj_coords.proofs.Walks.AnswersOfWalks.{none_read, flat_read}

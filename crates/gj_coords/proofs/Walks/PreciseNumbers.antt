@@ -1,30 +1,23 @@
 -- What is known of a number's places by how it is written, and of a position's.
-use Rattle.std.proofs.Common.{◌≡◌, ◌∙◌, ◌↔◌, ℕ, ◌+◌, ◌<◌, ◌≤◌, ◌==◌, suc, Bool, if◌then◌else◌, true, false, IsTrue, nat_lt, Option, Some, None, is_none, IfSome}
-use Rattle.std.proofs.Common.{ℤ, pos, negsuc, ◌-ℤ◌, refl, sym, ap, arith}
-use Rattle.std.proofs.lemmas.Int.{ints}
-use Rattle.std.proofs.lemmas.Bool.Decides.{nat_tests}
+use Rattle.gj_coords.proofs.Common.{Corner, Flat, IsCutPosition, KindWarnings, Numbered, W3, W4, W5, Warned, ap, arith, counted_noted, flat_position}
+use Rattle.gj_coords.proofs.Common.{ints, joined_noted, nat_tests, noted_as, pos, precise_noted, sound_noted, sym, ℤ, ◌∙◌}
+use Rattle.std.proofs.Common.{◌≡◌, ◌↔◌, ℕ, ◌+◌, ◌<◌, ◌≤◌, ◌==◌, suc, Bool, if◌then◌else◌, true, false, IsTrue, nat_lt, Option, Some, None, is_none, IfSome}
+use Rattle.std.proofs.Common.{negsuc, ◌-ℤ◌, refl}
 use Rattle.gj_number.specs.Exact.{below_zero, zero_exact}
 use Rattle.gj_number.specs.Short.{short_value, exact_of}
 use Rattle.gj_number.specs.Cuts.{IsCut}
 use Rattle.gj_number.specs.declared.short.Short.{Short}
 use Rattle.gj_number.specs.declared.short.cuts.Cut.{Cut}
-use Rattle.gj_json.specs.CutPosition.{IsCutPosition}
 use Rattle.gj_json.specs.declared.cut_position.CutPosition.{CutPosition}
-use Rattle.gj_json.specs.declared.flat.Flat.{Flat}
-use Rattle.gj_json.specs.declared.flat.Numbered.{Numbered}
 use Rattle.gj_coords.specs.declared.cuts.PreciseNumbers.{PreciseNumbers}
-use Rattle.gj_coords.specs.declared.kind.Kind.TheVariants.{W3, W4, W5}
-use Rattle.gj_coords.specs.declared.kind_warnings.KindWarnings.{KindWarnings}
-use Rattle.gj_coords.specs.declared.warned.Warned.{Warned}
-use Rattle.gj_coords.specs.declared.winding.Corner.{Corner}
 use Rattle.gj_coords.specs.CoordinateWarnings.{is_precise}
-use Rattle.gj_coords.specs.Internal.CutPositionGather.{counted_noted, pair_with, HasCounted}
+use Rattle.gj_coords.specs.Internal.CutPositionGather.{pair_with, HasCounted}
 use Rattle.gj_coords.specs.Internal.GatheredWarnings.{noted_when, some_noted}
 use Rattle.gj_coords.specs.Internal.GatheredWarningLaws.{some_noted_twice}
-use Rattle.gj_coords.specs.Internal.KeptWarnings.{noted_as, nothing_noted, is_nothing, joined_noted}
+use Rattle.gj_coords.specs.Internal.KeptWarnings.{nothing_noted, is_nothing}
 use Rattle.gj_coords.specs.Internal.KeptWarningLaws.{joined_noted_none, joined_noted_assoc}
-use Rattle.gj_coords.specs.Internal.PositionGather.{corner_in, position_noted, precise_with, sound_noted}
-use Rattle.gj_coords.specs.Internal.FlatPosition.{flat_count, flat_position, flat_values, flat_precise, third_precise, precise_noted, IsPlain}
+use Rattle.gj_coords.specs.Internal.PositionGather.{corner_in, position_noted, precise_with}
+use Rattle.gj_coords.specs.Internal.FlatPosition.{flat_count, flat_values, flat_precise, third_precise, IsPlain}
 
 -- ---- there are no more places than are written
 

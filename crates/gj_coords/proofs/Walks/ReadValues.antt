@@ -1,25 +1,18 @@
 -- The events of a value lead from `waiting` to its end, and to what its levels gather of it.
-use Rattle.std.proofs.Common.{◌≡◌, ◌<◌, ◌^◌, List, [], ◌∷◌, ◌++◌, refl, ap, arith, append_assoc}
+use Rattle.gj_coords.proofs.Common.{Answers, Elements, Event, Gathering, IsCountable, Level, Line, Numbers, Outermost, Tree, What, WholeSummary, ap}
+use Rattle.gj_coords.proofs.Common.{append_assoc, arith, array, constant, depth, element, elements_sent, end_of_array, event_at, first_answer}
+use Rattle.gj_coords.proofs.Common.{first_gathering, gathered, head, in_first, in_second, in_third, items, number, numbers_gathering, object, other}
+use Rattle.gj_coords.proofs.Common.{position_answer, progress_machine, second_answer, second_gathering, sent, string, third_answer, third_gathering}
+use Rattle.gj_coords.proofs.Common.{waiting}
+use Rattle.std.proofs.Common.{◌≡◌, ◌<◌, ◌^◌, List, [], ◌∷◌, ◌++◌, refl}
 use Rattle.std.proofs.Math.Nat.{le-max_left, le-max_right}
 use Rattle.gj_json.specs.declared.constant.Constant.TheVariants.{Null, True, False}
-use Rattle.gj_json.specs.declared.event.Event.{Event}
-use Rattle.gj_json.specs.declared.event.What.{What}
-use Rattle.gj_json.specs.Tree.{Tree, constant, number, string, array, object, Elements, end_of_array, element, depth, elements_depth}
+use Rattle.gj_json.specs.Tree.{elements_depth}
 use Rattle.gj_coords.specs.declared.element.Element.{Element}
-use Rattle.gj_coords.specs.declared.position.Numbers.{Numbers}
-use Rattle.gj_coords.specs.declared.walk.level.Level.{Level}
-use Rattle.gj_coords.specs.declared.walk.outermost.Outermost.{Outermost}
-use Rattle.gj_coords.specs.Items.{items}
-use Rattle.gj_coords.specs.Internal.SentEvents.{event_at, sent, elements_sent, head}
-use Rattle.gj_coords.specs.Internal.ValueMachine.{Reads, Answers, IsCountable}
-use Rattle.gj_coords.specs.Internal.Gathering.{Gathering, gathered}
+use Rattle.gj_coords.specs.Internal.ValueMachine.{Reads}
 use Rattle.gj_coords.specs.Internal.ElementReader.{due, element_after, element_machine}
 use Rattle.gj_coords.specs.Internal.ElementLaws.{element_answers}
-use Rattle.gj_coords.specs.Internal.PositionGather.{numbers_gathering, position_answer}
-use Rattle.gj_coords.specs.Internal.LevelGather.{Line, WholeSummary, other, third_gathering, second_gathering, first_gathering}
-use Rattle.gj_coords.specs.Internal.CoordinatesKept.{third_answer, second_answer, first_answer}
-use Rattle.gj_coords.specs.Internal.Progress.{Progress, waiting, in_first, in_second, in_third, in_fourth, past, broken, joined, passed, passing, step_by}
-use Rattle.gj_coords.specs.Internal.Progress.{progress_machine}
+use Rattle.gj_coords.specs.Internal.Progress.{Progress, in_fourth, past, broken, joined, passed, passing, step_by}
 
 abbrev Leads : Progress → List Event → WholeSummary → Type 0
 Leads = Reads progress_machine

@@ -1,28 +1,17 @@
 -- Where a walk is steady, a position that is reported as one changes only what is gathered of positions, and their count.
-use Rattle.std.proofs.Common.{◌≡◌, ℕ, zero, suc, ◌<◌, ◌≤◌, ◌-◌, min, Option, Some, None, Bool, true, false, ◌&&◌, nat_lt, if◌then◌else◌, refl, sym}
-use Rattle.std.proofs.Common.{◌∙◌, ap, subst, arith}
+use Rattle.gj_coords.proofs.Common.{Fault, Flat, G11, G14, IsCounted, Level, Line, Numbered, Numbers, Outermost, Values, What, ap, arith}
+use Rattle.gj_coords.proofs.Common.{arrays_counted, comes_first, event_at, fault_at, first_gathering, first_steady, flat_position, lesser, nat_tests}
+use Rattle.gj_coords.proofs.Common.{position_added, second_gathering, second_steady, sound_noted, subst, sym, third_gathering, ◌&&◌, ◌∙◌}
+use Rattle.std.proofs.Common.{◌≡◌, ℕ, zero, suc, ◌<◌, ◌≤◌, ◌-◌, min, Option, Some, None, Bool, true, false, nat_lt, if◌then◌else◌, refl}
 use Rattle.std.specs.Option.{option_map_or}
-use Rattle.std.proofs.lemmas.Bool.Decides.{nat_tests}
 use Rattle.std.proofs.Math.Bool.{and-false}
-use Rattle.gj_json.specs.declared.event.What.{What}
-use Rattle.gj_json.specs.declared.flat.Flat.{Flat}
-use Rattle.gj_json.specs.declared.flat.Numbered.{Numbered}
-use Rattle.gj_coords.specs.declared.fault.Fault.{Fault}
 use Rattle.gj_coords.specs.declared.fault.Rule.{Rule}
-use Rattle.gj_coords.specs.declared.fault.Rule.TheVariants.{G11, G14}
-use Rattle.gj_coords.specs.declared.position.Numbers.{Numbers}
-use Rattle.gj_coords.specs.declared.position.Values.{Values}
-use Rattle.gj_coords.specs.Fault.{fault_at, comes_first, lesser, number_of}
-use Rattle.gj_coords.specs.Internal.SentEvents.{event_at}
+use Rattle.gj_coords.specs.Fault.{number_of}
 use Rattle.gj_coords.specs.Internal.LeastLaws.{Tests, lesser-none}
 use Rattle.gj_coords.specs.Internal.ElementCount.{one_counted}
-use Rattle.gj_coords.specs.Internal.PositionGather.{pushed, precise_with, number_added, array_counted, arrays_counted, sound_noted}
-use Rattle.gj_coords.specs.Internal.PositionsGather.{position_added}
-use Rattle.gj_coords.specs.declared.walk.level.Level.{Level}
-use Rattle.gj_coords.specs.declared.walk.outermost.Outermost.{Outermost}
-use Rattle.gj_coords.specs.Internal.LevelGather.{Line, third_gathering, second_gathering, first_gathering}
-use Rattle.gj_coords.specs.Internal.FlatPosition.{least_with, least_place, flat_misshapen, flat_ring, flat_position, flat_third, flat_second}
-use Rattle.gj_coords.specs.Internal.SteadyWalk.{IsFaultBy, IsCounted, IsSettled, IsSteadyFirst, IsSteadySecond, third_steady, second_steady, first_steady}
+use Rattle.gj_coords.specs.Internal.PositionGather.{pushed, precise_with, number_added, array_counted}
+use Rattle.gj_coords.specs.Internal.FlatPosition.{least_with, least_place, flat_misshapen, flat_ring, flat_third, flat_second}
+use Rattle.gj_coords.specs.Internal.SteadyWalk.{IsFaultBy, IsSettled, IsSteadyFirst, IsSteadySecond, third_steady}
 
 -- ---- a fault by this place stays the least of it and one after it
 

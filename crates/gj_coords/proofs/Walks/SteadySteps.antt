@@ -1,16 +1,12 @@
 -- Where a walk is steady, it is so after a position that is reported as one, at each depth.
-use Rattle.std.proofs.Common.{◌≡◌, ◌∙◌, ℕ, ◌<◌, List, [], ◌∷◌, refl, ap, subst}
-use Rattle.gj_json.specs.declared.flat.Flat.{Flat}
+use Rattle.gj_coords.proofs.Common.{First, Flat, IsCounted, Level, Outermost, Second, StayAll, Third, ap, first_steady, in_first, in_second, in_third}
+use Rattle.gj_coords.proofs.Common.{second_steady, subst, ◌∙◌}
+use Rattle.std.proofs.Common.{◌≡◌, ℕ, ◌<◌, List, [], ◌∷◌, refl}
 use Rattle.gj_coords.specs.declared.walk.Depth.{Depth}
-use Rattle.gj_coords.specs.declared.walk.Depth.TheVariants.{First, Second, Third}
 use Rattle.gj_coords.specs.declared.walk.Walk.{Walk}
-use Rattle.gj_coords.specs.declared.walk.level.Level.{Level}
-use Rattle.gj_coords.specs.declared.walk.outermost.Outermost.{Outermost}
-use Rattle.gj_coords.specs.Internal.AddedPositions.{all_steady, all_first, AllAfter, StayAll}
+use Rattle.gj_coords.specs.Internal.AddedPositions.{all_steady, all_first, AllAfter}
 use Rattle.gj_coords.specs.Internal.LevelGather.{line_of}
-use Rattle.gj_coords.specs.Internal.Progress.{in_first, in_second, in_third}
-use Rattle.gj_coords.specs.Internal.SteadyWalk.{IsCounted, IsSteady, IsSteadyAt, IsSteadyFirst, IsSteadySecond, IsSettled, StaysSteady}
-use Rattle.gj_coords.specs.Internal.SteadyWalk.{second_steady, first_steady}
+use Rattle.gj_coords.specs.Internal.SteadyWalk.{IsSteady, IsSteadyAt, IsSteadyFirst, IsSteadySecond, IsSettled, StaysSteady}
 use Rattle.gj_coords.proofs.Walks.FlatLaws.{flat_in_first, flat_in_second, flat_in_third}
 use Rattle.gj_coords.proofs.Walks.SteadyLaws.{first_kept, second_kept, third_kept, first_still, second_still, third_still}
 

@@ -1,32 +1,21 @@
 -- Each role of each level of a value has the warnings of its concern.
-use Rattle.std.specs.List.{flat_map}
-use Rattle.std.proofs.Common.{◌≡◌, ℕ, [], ◌∷◌, true, false, refl, sym, ap, ◌∙◌, if◌then◌else◌}
-use Rattle.gj_json.specs.Tree.{Tree, array, Elements, end_of_array, element}
-use Rattle.gj_coords.specs.declared.walk.outermost.Outermost.{Outermost}
-use Rattle.gj_coords.specs.declared.kind.Kind.TheVariants.{W6}
+use Rattle.gj_coords.proofs.Common.{Elements, Level, LineString, MultiLineString, MultiPoint, MultiPolygon, Outermost, Point, Polygon, Simple, Tree}
+use Rattle.gj_coords.proofs.Common.{W6, added_is, all_in, ap, array, coordinates_warnings, each, element, elements_of, end_of_array, first_answer}
+use Rattle.gj_coords.proofs.Common.{first_gathering, flat_map, gathered, head, items, joined_none_first, no_warned, numbers_gathering, place_of}
+use Rattle.gj_coords.proofs.Common.{position, position_answer, position_closed, position_warned, position_warnings, ring, ring_gathering, ring_turn}
+use Rattle.gj_coords.proofs.Common.{role_behind, second_answer, second_gathering, sym, taken_is, third_answer, third_gathering, turn_in, warned_as}
+use Rattle.gj_coords.proofs.Common.{◌∙◌}
+use Rattle.std.proofs.Common.{◌≡◌, ℕ, [], ◌∷◌, true, false, refl, if◌then◌else◌}
 use Rattle.gj_coords.specs.declared.watcher.position.Position.{Position}
 use Rattle.gj_coords.specs.declared.watcher.ring.RingGather.{RingGather}
-use Rattle.gj_coords.specs.declared.walk.level.Level.{Level}
-use Rattle.gj_coords.specs.declared.simple.Simple.{Simple}
-use Rattle.gj_coords.specs.declared.simple.Simple.TheVariants.{Point, MultiPoint, LineString, MultiLineString, Polygon, MultiPolygon}
-use Rattle.gj_coords.specs.Items.{items, elements_of, place_of}
-use Rattle.gj_coords.specs.Shape.{is_empty, position, ring}
-use Rattle.gj_coords.specs.Winding.{ring_turn}
-use Rattle.gj_coords.specs.Internal.WindingGather.{turn_in}
-use Rattle.gj_coords.specs.CoordinateWarnings.{each, sound_position_warnings, position_warnings, rings_warnings, polygon_warnings, concern_of}
-use Rattle.gj_coords.specs.CoordinateWarnings.{coordinates_warnings}
-use Rattle.gj_coords.specs.Internal.SentEvents.{head}
-use Rattle.gj_coords.specs.Internal.Gathering.{gathered}
+use Rattle.gj_coords.specs.Shape.{is_empty}
+use Rattle.gj_coords.specs.CoordinateWarnings.{sound_position_warnings, rings_warnings, polygon_warnings, concern_of}
 use Rattle.gj_coords.specs.Internal.KeptWarnings.{warnings_of, no_warnings, joined}
-use Rattle.gj_coords.specs.Internal.GatheredWarnings.{no_warned, all_in, noted_in}
-use Rattle.gj_coords.specs.Internal.PositionGather.{numbers_gathering, position_closed, position_answer, judged_noted}
-use Rattle.gj_coords.specs.Internal.PositionsGather.{ring_gathering, role_behind}
-use Rattle.gj_coords.specs.Internal.LevelGather.{third_gathering, second_gathering, first_gathering, some_warned_in, warned_as}
-use Rattle.gj_coords.specs.Internal.CoordinatesKept.{third_answer, second_answer, first_answer}
+use Rattle.gj_coords.specs.Internal.GatheredWarnings.{noted_in}
+use Rattle.gj_coords.specs.Internal.PositionGather.{judged_noted}
+use Rattle.gj_coords.specs.Internal.LevelGather.{some_warned_in}
 use Rattle.gj_coords.specs.Internal.PositionLaws.{position_head}
-use Rattle.gj_coords.specs.Internal.PositionWarnings.{place_head, position_warned}
-use Rattle.gj_coords.specs.Internal.WarningLaws.{joined_none_first, added_is}
-use Rattle.gj_coords.specs.Internal.GatheredWarningLaws.{taken_is}
+use Rattle.gj_coords.specs.Internal.PositionWarnings.{place_head}
 use Rattle.gj_coords.proofs.Readers.WarningsOfElements.{IsShort, elements_short, elements_warned, none_of, from_none, ring_warnings}
 use Rattle.gj_coords.proofs.Readers.WarningsOfElements.{ring_turned, ring_positions, ring_warned, gathered_rings}
 use Rattle.gj_coords.proofs.Walks.FaultsOfLevels.{project, third_position, third_as_ring, third_ring, second_position, second_as_ring, second_ring, not_empty}

@@ -1,14 +1,14 @@
 -- Each event of a text has a byte of its own.
-use Rattle.std.proofs.Common.{◌≡◌, ℕ, Bool, true, false, ◌+◌, ◌≤◌, List, [], ◌∷◌, ◌++◌, length, inl, inr, arith, ap, length-append}
-use Rattle.std.proofs.lemmas.List.{length-map}
-use Rattle.gj_number.specs.Grammar.{IsNumber, IsUnsigned, IsNatural}
-use Rattle.gj_json.specs.declared.constant.Constant.{Constant}
-use Rattle.gj_json.specs.declared.constant.Constant.TheVariants.{Null, True, False}
+use Rattle.gj_json.proofs.Common.{Bool, Constant, Elements, False, IsNumber, IsText, List, Members, Null, Spells, SpellsElements, SpellsMark}
+use Rattle.gj_json.proofs.Common.{SpellsMembers, SpellsMoreElements, SpellsMoreMembers, Text, Timed, Tree, True, all_events, ap, arith, array}
+use Rattle.gj_json.proofs.Common.{constant, element, elements_events, end_of_array, end_of_object, events, false, inl, inr, length, length-map}
+use Rattle.gj_json.proofs.Common.{letters_of, mark_events, member, members_events, object, string, text_events, timed, true, ℕ, [], ◌++◌, ◌+◌, ◌∷◌}
+use Rattle.gj_json.proofs.Common.{◌≡◌, ◌≤◌}
+use Rattle.std.proofs.Common.{length-append}
+use Rattle.gj_number.specs.Grammar.{IsUnsigned, IsNatural}
 use Rattle.gj_json.specs.declared.event.What.TheVariants as What
-use Rattle.gj_json.specs.Tree.{Tree, constant, number, string, array, object, Elements, end_of_array, element, Members, end_of_object, member, Text}
-use Rattle.gj_json.specs.Grammar.{Then, letters_of, Spells, SpellsElements, SpellsMoreElements, SpellsMembers, SpellsMoreMembers}
-use Rattle.gj_json.specs.Text.{IsText, SpellsMark}
-use Rattle.gj_json.specs.Events.{Timed, timed, events, elements_events, members_events, mark_events, text_events, all_events}
+use Rattle.gj_json.specs.Tree.{number}
+use Rattle.gj_json.specs.Grammar.{Then}
 
 -- what stands after something is no longer than both
 rest_fits : {First Rest : ℕ → List ℕ → Type 0} {start : ℕ} {bytes : List ℕ} (h : Then First Rest start bytes) → length h.first + length h.rest ≤ length bytes
@@ -21,8 +21,7 @@ behind_byte b h = let e : length h.first ≡ 1 = ap length h.before in let f = r
 
 constant_few : (which : Constant) → 1 ≤ length (letters_of which)
 constant_few Null = omega arith
-constant_few True = omega arith
-constant_few False = omega arith
+constant_few other = omega arith
 
 natural_few : (xs ys : List ℕ) → IsNatural xs → 1 ≤ length (xs ++ ys)
 natural_few [] ys h = absurd h

@@ -1,15 +1,12 @@
 -- Which events are complete in a prefix of a text.
-use Rattle.std.proofs.Common.{◌≡◌, ℕ, ◌+◌, ◌≤◌, ◌<◌, Bool, true, false, if◌then◌else◌, nat_le, List, [], ◌∷◌, ◌++◌, length, map, refl, ap, arith}
-use Rattle.std.proofs.lemmas.Bool.Decides.{nat_tests}
-use Rattle.std.specs.List.{AllByRecursion}
-use Rattle.gj_json.specs.declared.constant.Constant.{Constant}
-use Rattle.gj_json.specs.declared.constant.Constant.TheVariants.{Null, True, False}
-use Rattle.gj_json.specs.declared.event.Event.{Event}
+use Rattle.gj_json.proofs.Common.{AllByRecursion, Bool, Constant, Elements, Event, False, InTime, List, Members, Null, Quoted, Spells, SpellsElements}
+use Rattle.gj_json.proofs.Common.{SpellsMembers, SpellsMoreElements, SpellsMoreMembers, Timed, Tree, True, ap, arith, array, constant, element}
+use Rattle.gj_json.proofs.Common.{elements_events, end_of_array, end_of_object, events, false, if◌then◌else◌, length, letters_of, map, member}
+use Rattle.gj_json.proofs.Common.{members_events, nat_le, nat_tests, object, refl, string, timed, true, ℕ, [], ◌++◌, ◌+◌, ◌<◌, ◌∷◌, ◌≡◌, ◌≤◌}
 use Rattle.gj_json.specs.declared.event.What.TheVariants as What
-use Rattle.gj_json.specs.Tree.{Tree, constant, number, string, array, object, Elements, end_of_array, element, Members, end_of_object, member}
-use Rattle.gj_json.specs.Grammar.{Then, Ends, Quoted, letters_of, Spells, SpellsElements, SpellsMoreElements, SpellsMembers, SpellsMoreMembers}
-use Rattle.gj_json.specs.Internal.SeenEvents.{InTime}
-use Rattle.gj_json.specs.Events.{Timed, timed, events, elements_events, members_events, by}
+use Rattle.gj_json.specs.Tree.{number}
+use Rattle.gj_json.specs.Grammar.{Then, Ends}
+use Rattle.gj_json.specs.Events.{by}
 
 abbrev pub Late : ℕ → List Timed → Type 0
 Late n xs = AllByRecursion (λ x. n < x.at) xs
@@ -59,8 +56,7 @@ in_time_on m n (x ∷ xs) l h = (omega (arith, h.0), in_time_on m n xs l h.1)
 
 pub constant_long : (which : Constant) → 0 < length (letters_of which)
 constant_long Null = omega arith
-constant_long True = omega arith
-constant_long False = omega arith
+constant_long other = omega arith
 
 pub ends_after : {A : ℕ → List ℕ → Type 0} {n end : ℕ} {bytes : List ℕ} → Then A (Ends end) n bytes → n ≤ end
 ends_after h = omega (arith, h.after.1)

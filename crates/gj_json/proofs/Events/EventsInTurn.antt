@@ -1,6 +1,5 @@
 -- Some events, reported one after another, are a list of them.
-use Rattle.std.proofs.Common.{◌≡◌, ◌∷◌, ◌++◌, [], List, append_assoc}
-use Rattle.gj_json.specs.declared.event.Event.{Event}
+use Rattle.gj_json.proofs.Common.{Event, List, append_assoc, [], ◌++◌, ◌∷◌, ◌≡◌}
 
 pub three : (xs : List Event) (a b c : Event) → ((xs ++ a ∷ []) ++ b ∷ []) ++ c ∷ [] ≡ xs ++ (a ∷ b ∷ c ∷ [])
 three xs a b c = simp append_assoc

@@ -1,47 +1,29 @@
 -- Which events a step of the machine completes.
-use Rattle.std.proofs.Common.{◌≤◌, ◌≡◌, ℕ, suc, ◌+◌, ◌==◌, ◌<◌, Bool, true, false, if◌then◌else◌, List, [], ◌∷◌, ◌++◌, length, drop, Option, Some, None, refl}
-use Rattle.std.proofs.Common.{sym, ap, subst, ◌∙◌, arith, append_assoc, eq-eqb, get_or, length-append, length-drop, drop-cons}
-use Rattle.std.proofs.lemmas.Bool.Decides.{nat_tests}
-use Rattle.gj_json.specs.Internal.NamedBytes.{mark_first, mark_second, mark_third}
-use Rattle.gj_json.specs.declared.class.Class.{Class}
-use Rattle.gj_json.specs.declared.class.Class.TheVariants.{White, OpenArray, CloseArray, OpenObject, CloseObject, Comma, Colon, Quote, NumberStart, Letter}
-use Rattle.gj_json.specs.declared.class.Class.TheVariants.{Other}
-use Rattle.gj_json.specs.declared.constant.Constant.{Constant}
-use Rattle.gj_json.specs.declared.constant.Constant.TheVariants.{Null, True, False}
-use Rattle.gj_number.specs.Exact.{Exact}
-use Rattle.gj_number.specs.Value.{value_of}
-use Rattle.gj_json.specs.Internal.ContentWords.{Words, words_of}
+use Rattle.gj_json.proofs.Common.{BegunAs, Bool, Class, CloseArray, CloseObject, Colon, Comma, Constant, ConstantAt, ConstantOn, EdgeAt, Ending}
+use Rattle.gj_json.proofs.Common.{Event, Exact, False, Go, HasValue, HasWords, InTime, IsTimely, LeafAs, Letter, Level, List, MarkOne, MarkTwo, Mode}
+use Rattle.gj_json.proofs.Common.{Move, None, Null, NumberOn, NumberStart, NumberTurn, OpenArray, OpenObject, Option, Other, Quote, Refuse, Some}
+use Rattle.gj_json.proofs.Common.{StandsAs, StringState, StringStep, Timed, Tree, True, Turns, ValueDone, ValueDue, What, Words, after_move}
+use Rattle.gj_json.proofs.Common.{after_value, ap, append_assoc, arith, begin_value, constant, constant_move, done_elements, done_members, drop}
+use Rattle.gj_json.proofs.Common.{element, emitted, end_of_array, end_of_object, event_at, events, false, get_or, if◌then◌else◌, inner_of, leaf_timed}
+use Rattle.gj_json.proofs.Common.{length, letters_after, letters_of, levels_of, levels_with, mark_events, mark_first, mark_second, mark_third, member}
+use Rattle.gj_json.proofs.Common.{move_of, name_string_move, nat_tests, number_events, number_move, option_to_list, partial_timed, refl, seen}
+use Rattle.gj_json.proofs.Common.{stack_timed, start_after, step, step_array_opened, step_colon_due, step_constant, step_leaf, step_name}
+use Rattle.gj_json.proofs.Common.{step_name_due, step_number, step_object_opened, step_string, step_value_due, string_ends, string_goes, string_move}
+use Rattle.gj_json.proofs.Common.{string_next, string_refuses, subst, suc, sym, timed, to, true, turn_of, under_leaf, under_of, value_of}
+use Rattle.gj_json.proofs.Common.{value_string_move, what_of, with_mark, words_of, ℕ, [], ◌++◌, ◌+◌, ◌<◌, ◌==◌, ◌∙◌, ◌∷◌, ◌≡◌, ◌≤◌}
+use Rattle.std.proofs.Common.{eq-eqb, length-append, length-drop, drop-cons}
+use Rattle.gj_json.specs.declared.class.Class.TheVariants.{White}
 use Rattle.gj_number.specs.DecidedNumbers.{is_number, begins_number}
-use Rattle.gj_json.specs.Internal.UnderWay.{under_leaf, under_of, Turns, HasValue, HasWords}
-use Rattle.gj_json.specs.declared.mode.StringState.{StringState}
-use Rattle.gj_json.specs.declared.levels.Level.{Level}
-use Rattle.gj_json.specs.declared.mode.Mode.{Mode}
-use Rattle.gj_json.specs.declared.mode.Move.{Move}
-use Rattle.gj_json.specs.declared.mode.Mode.TheVariants.{MarkOne, MarkTwo, ValueDue, ValueDone, ConstantOn, NumberOn}
-use Rattle.gj_json.specs.declared.mode.Ending.{Ending}
-use Rattle.gj_json.specs.declared.mode.Move.TheVariants.{Refuse, Go}
-use Rattle.gj_json.specs.Tree.{Tree, constant, number, end_of_array, element, end_of_object, member}
-use Rattle.gj_json.specs.Grammar.{letters_of}
+use Rattle.gj_json.specs.Tree.{number}
 use Rattle.gj_json.specs.Names.{known_of}
 use Rattle.gj_json.specs.Internal.ByteClasses.{class_of}
-use Rattle.gj_json.specs.Internal.TextMachine.{Broken, text_due, mark_one, mark_two, begun, with_mark, step, Frame, in_array, in_object, Member, Leaf, Partial}
+use Rattle.gj_json.specs.Internal.TextMachine.{Broken, text_due, mark_one, mark_two, begun, Frame, in_array, in_object, Member, Leaf, Partial}
 use Rattle.gj_json.specs.Internal.TextMachine.{value_due, value_done, array_opened, object_opened, constant_on, number_on, string_on, name_due, name_on}
-use Rattle.gj_json.specs.Internal.TextMachine.{colon_due, to, step_leaf, begin_value, after_value, step_value_due, step_array_opened, step_object_opened}
-use Rattle.gj_json.specs.Internal.TextMachine.{step_name_due, step_colon_due, step_constant, step_number, step_string, step_name, string_next, StringStep}
-use Rattle.gj_json.specs.Internal.TextMachine.{string_ends, string_goes, string_refuses, letters_after}
-use Rattle.gj_json.specs.Internal.Transitions.{string_move, begin_move, due_move, array_move, object_move, name_due_move, colon_move, after_move, constant_move}
-use Rattle.gj_json.specs.Internal.Transitions.{number_move, value_string_move, name_string_move, move_of}
+use Rattle.gj_json.specs.Internal.TextMachine.{colon_due}
+use Rattle.gj_json.specs.Internal.Transitions.{begin_move, due_move, array_move, object_move, name_due_move, colon_move}
 use Rattle.std.proofs.lemmas.List.{append-nil}
-use Rattle.gj_json.specs.declared.event.Event.{Event}
-use Rattle.gj_json.specs.declared.event.What.{What}
-use Rattle.gj_json.specs.Internal.ReaderState.{levels_of, levels_with, LeafAs, StandsAs}
-use Rattle.gj_json.specs.Events.{Timed, timed, events, mark_events, what_of}
-use Rattle.std.specs.Option.{option_to_list}
-use Rattle.gj_json.specs.Internal.ToldEvents.{event_at, move_event, number_events, emitted, start_after, NumberTurn, turn_of}
-use Rattle.gj_json.specs.Internal.OpenLevels.{inner_of}
+use Rattle.gj_json.specs.Internal.ToldEvents.{move_event}
 use Rattle.gj_json.proofs.Events.EventTimes.{told, in_time-append, in_time_on}
-use Rattle.gj_json.specs.Internal.SeenEvents.{InTime, stack_timed, leaf_timed, partial_timed, seen, done_elements, done_members, ConstantAt, BegunAs, EdgeAt}
-use Rattle.gj_json.specs.Internal.SeenEvents.{IsTimely}
 use Rattle.gj_json.proofs.Events.PastEvents.{back_elements-events, back_members-events}
 
 abbrev seen_at : List Frame → Leaf → List Timed
@@ -63,8 +45,7 @@ made move start n = option_to_list (move_event move start n)
 
 word_at : (which : Constant) (n : ℕ) → (n + 1 + length (letters_after which) ≡ n + length (letters_of which)) × (0 < length (letters_after which))
 word_at Null n = (omega arith, omega arith)
-word_at True n = (omega arith, omega arith)
-word_at False n = (omega arith, omega arith)
+word_at other n = (omega arith, omega arith)
 
 on_begin : (stack : List Frame) (before : List Timed) (start n b : ℕ) (c : Class) → before ≡ stack_timed stack
     → Tell before n (made (begin_move c) start n) (begin_value stack n b c)
@@ -73,12 +54,7 @@ on_begin stack before start n b OpenObject e = (ap (λ xs. xs ++ timed (n + 1) n
 on_begin stack before start n b (Letter which) e = (ap (λ xs. xs ++ []) (sym e), word_at which n)
 on_begin stack before start n b Quote e = (ap (λ xs. xs ++ []) (sym e), tt)
 on_begin stack before start n b NumberStart e = (ap (λ xs. xs ++ []) (sym e), tt)
-on_begin stack before start n b White e = tt
-on_begin stack before start n b CloseArray e = tt
-on_begin stack before start n b CloseObject e = tt
-on_begin stack before start n b Comma e = tt
-on_begin stack before start n b Colon e = tt
-on_begin stack before start n b Other e = tt
+on_begin stack before start n b other e = tt
 
 on_value_due : (stack : List Frame) (start n b : ℕ) (c : Class) → Tell (seen_at stack value_due) n (made (due_move c) start n) (step_value_due stack n b c)
 on_value_due stack start n b White = (sym (append-nil (stack_timed stack ++ [])), tt)
@@ -234,12 +210,7 @@ begin_began stack n b OpenObject = tt
 begin_began stack n b (Letter which) = refl
 begin_began stack n b Quote = refl
 begin_began stack n b NumberStart = refl
-begin_began stack n b White = tt
-begin_began stack n b CloseArray = tt
-begin_began stack n b CloseObject = tt
-begin_began stack n b Comma = tt
-begin_began stack n b Colon = tt
-begin_began stack n b Other = tt
+begin_began stack n b other = tt
 
 due_began : (stack : List Frame) (n b : ℕ) (c : Class) → Began n (step_value_due stack n b c)
 due_began stack n b White = tt
@@ -264,8 +235,7 @@ name_began stack place done n _ = tt
 colon_began : (stack : List Frame) (place : ℕ) (done : List Member) (np : ℕ) (name : List ℕ) (ne n : ℕ) (c : Class)
     → Began n (step_colon_due stack place done np name ne c)
 colon_began stack place done np name ne n White = tt
-colon_began stack place done np name ne n Colon = tt
-colon_began stack place done np name ne n _ = tt
+colon_began stack place done np name ne n other = tt
 
 after_began : (start : ℕ) (stack : List Frame) (t : Tree) (n : ℕ) (c : Class) → Began start (after_value stack t n c)
 after_began start [] t n White = tt
@@ -398,6 +368,4 @@ emitted_few mode turn move value start n =
   where
     numbers : (mode : Mode) (turn : NumberTurn) → length (number_events mode turn value start) ≤ 1
     numbers NumberOn NumberTurn.Ends = omega arith
-    numbers NumberOn NumberTurn.Goes = omega arith
-    numbers NumberOn NumberTurn.Refuses = omega arith
-    numbers _ turn = omega arith
+    numbers other another = omega arith

@@ -1,42 +1,30 @@
 -- What the end of a text answers, and the levels that are open.
-use Rattle.std.proofs.Common.{◌≡◌, ℕ, ◌+◌, ◌≤◌, ◌↔◌, Bool, true, false, if◌then◌else◌, List, [], ◌∷◌, ◌++◌, length, take, Option, Some, None, refl, sym, ap}
-use Rattle.std.proofs.Common.{subst, ◌∙◌, arith, append_assoc}
-use Rattle.std.specs.Option.{option_to_list, is_some}
-use Rattle.std.proofs.lemmas.List.{append-nil, map-append}
+use Rattle.gj_json.proofs.Common.{Allowed, BegunAs, Bool, ConstantAt, EdgeAt, Event, Exact, FitsBroken, FitsLeaf, IsAdmitted, IsNumber, IsText}
+use Rattle.gj_json.proofs.Common.{JsonFault, Keeps, LeafAs, Level, List, Mode, None, NumberOn, Option, Reader, RefusedFor, Some, StandsAs, StandsFor}
+use Rattle.gj_json.proofs.Common.{StandsRefused, StandsWell, Text, Timed, Tree, Truncated, Under, ValueDone, all_events, ap, append_assoc, arith}
+use Rattle.gj_json.proofs.Common.{depth, event_at, events, events_by, false, finish, finish_leaf, if◌then◌else◌, in_number, inner_of, leaf_timed}
+use Rattle.gj_json.proofs.Common.{length, levels_of, levels_with, map-append, mark_events, open_at, option_to_list, partial_timed, refl, seen}
+use Rattle.gj_json.proofs.Common.{stack_timed, subst, sym, text_events, text_with, true, under_leaf, under_of, value_of, ℕ, [], ◌++◌, ◌+◌, ◌↔◌, ◌∙◌}
+use Rattle.gj_json.proofs.Common.{◌∷◌, ◌≡◌, ◌≤◌}
+use Rattle.std.proofs.Common.{take}
+use Rattle.std.specs.Option.{is_some}
+use Rattle.std.proofs.lemmas.List.{append-nil}
 use Rattle.std.proofs.Math.Seq.{take-append_seam}
-use Rattle.gj_json.specs.declared.event.Event.{Event}
 use Rattle.gj_json.specs.declared.event.What.TheVariants as What
-use Rattle.gj_json.specs.declared.fault.JsonFault.{JsonFault}
-use Rattle.gj_json.specs.declared.fault.Cause.TheVariants.{Truncated}
-use Rattle.gj_json.specs.declared.levels.Level.{Level}
-use Rattle.gj_json.specs.declared.mode.Mode.{Mode}
-use Rattle.gj_json.specs.declared.mode.Mode.TheVariants.{ValueDone, NumberOn}
-use Rattle.gj_json.specs.declared.reader.Reader.{Reader}
-use Rattle.gj_json.specs.Limits.{Allowed}
-use Rattle.gj_json.specs.Tree.{Text, Tree, number, depth}
-use Rattle.gj_json.specs.Text.{IsText}
-use Rattle.gj_json.specs.Refusal.{RefusedFor, IsAdmitted}
-use Rattle.gj_json.specs.Events.{Timed, events, mark_events, text_events, all_events, events_by}
-use Rattle.gj_json.specs.Open.{open_at}
-use Rattle.gj_json.specs.Internal.OpenLevels.{levels_in, inner_of}
+use Rattle.gj_json.specs.Tree.{number}
+use Rattle.gj_json.specs.Internal.OpenLevels.{levels_in}
 use Rattle.gj_json.specs.Internal.TextMachine.{Frame, in_array, in_object, Leaf, value_due, value_done, array_opened, object_opened, constant_on, number_on}
-use Rattle.gj_json.specs.Internal.TextMachine.{string_on, name_due, name_on, colon_due, Broken, text_due, mark_one, mark_two, begun, finish_leaf, text_with}
-use Rattle.gj_json.specs.Internal.TextMachine.{finish, is_number}
-use Rattle.gj_json.specs.Reader.{StandsFor}
-use Rattle.gj_json.specs.Internal.SeenEvents.{seen, partial_timed, stack_timed, leaf_timed, ConstantAt, BegunAs, EdgeAt}
-use Rattle.gj_json.specs.Internal.ReaderState.{StandsWell, StandsRefused, StandsAs, LeafAs, FitsLeaf, FitsBroken, levels_of, levels_with}
-use Rattle.gj_json.specs.Internal.ToldEvents.{event_at, in_number, last_event}
+use Rattle.gj_json.specs.Internal.TextMachine.{string_on, name_due, name_on, colon_due, Broken, text_due, mark_one, mark_two, begun}
+use Rattle.gj_json.specs.Internal.TextMachine.{is_number}
+use Rattle.gj_json.specs.Internal.ToldEvents.{last_event}
 use Rattle.gj_json.proofs.Machine.Completions.{Goes, TextFrom}
 use Rattle.gj_json.proofs.Machine.CompletableStates.{fits_viable}
 use Rattle.gj_json.proofs.Machine.CompletedEnds.{finish_iff}
 use Rattle.gj_json.proofs.Events.OpenContainers.{open_levels}
 use Rattle.gj_json.proofs.Events.PastEvents.{events_seen}
 use Rattle.gj_json.proofs.Readers.ReadBytes.{well_of, open_of}
-use Rattle.gj_number.specs.Exact.{Exact}
-use Rattle.gj_number.specs.Grammar.{IsNumber}
-use Rattle.gj_number.specs.Value.{value_of}
 use Rattle.gj_number.specs.Literal.{StandsFor as LiteralStandsFor}
-use Rattle.gj_json.specs.Internal.UnderWay.{Under, nothing, number as number_under, text as text_under, under_leaf, under_of, Keeps}
+use Rattle.gj_json.specs.Internal.UnderWay.{nothing, number as number_under, text as text_under}
 use Rattle.gj_json.proofs.Machine.BytesUnderWay.{has_number, mode_under}
 use Rattle.gj_number.proofs.Grammar.DecidedNumbers.{number as decided_number}
 use Rattle.gj_json.proofs.Machine.MachineTexts.{text_start, text_goes_on, Finishes, text_finishes, finishes_text}

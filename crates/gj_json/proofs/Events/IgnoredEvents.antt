@@ -1,26 +1,13 @@
 -- Events that do not matter, one after another.
-use Rattle.std.proofs.Common.{◌≡◌, ℕ, zero, suc, ◌+◌, ◌-◌, ◌<◌, ◌≤◌, inl, inr, List, [], ◌∷◌, ◌++◌, length, Option, Result, Ok, Err, refl, sym, ap, subst}
-use Rattle.std.proofs.Common.{arith}
-use Rattle.std.specs.Option.{option_to_list}
+use Rattle.gj_json.proofs.Common.{Applied, Array, Close, Ending, Err, Event, Exact, False, FeedsAll, FeedsTo, FeedsWithin, Go, JsonFault, Leaves}
+use Rattle.gj_json.proofs.Common.{Level, List, Mode, Move, Null, NumberOn, NumberTurn, Object, Ok, Open, Option, Reader, Refuse, Result, Takes, True}
+use Rattle.gj_json.proofs.Common.{above, ap, arith, emitted, ending_event, inl, inr, length, move_by, number_events, option_to_list, outer_of, refl}
+use Rattle.gj_json.proofs.Common.{subst, suc, sym, told_by, told_on, zero, ℕ, [], ◌++◌, ◌+◌, ◌-◌, ◌<◌, ◌∷◌, ◌≡◌, ◌≤◌}
 use Rattle.std.specs.Prelude.{MatchResult, take}
 use Rattle.std.proofs.lemmas.Bool.{cases_eq}
-use Rattle.gj_number.specs.Exact.{Exact}
-use Rattle.gj_json.specs.declared.event.Event.{Event}
-use Rattle.gj_json.specs.declared.fault.JsonFault.{JsonFault}
-use Rattle.gj_json.specs.declared.constant.Constant.TheVariants.{Null, True, False}
-use Rattle.gj_json.specs.declared.levels.Level.{Level}
-use Rattle.gj_json.specs.declared.levels.Level.TheVariants.{Array, Object}
-use Rattle.gj_json.specs.declared.mode.Mode.{Mode}
-use Rattle.gj_json.specs.declared.mode.Ending.{Ending}
-use Rattle.gj_json.specs.declared.mode.Mode.TheVariants.{NumberOn}
-use Rattle.gj_json.specs.declared.mode.Move.{Move}
-use Rattle.gj_json.specs.declared.mode.Move.TheVariants.{Refuse, Go, Open, Close}
-use Rattle.gj_json.specs.declared.reader.Reader.{Reader}
-use Rattle.gj_json.specs.Internal.FedReader.{Feeds, FeedsAll, FeedsTo, FeedsWithin, FeedsWithinTo, above}
-use Rattle.gj_json.specs.Internal.OpenLevels.{levels_in, outer_of}
-use Rattle.gj_json.specs.Internal.ReaderStep.{Applied, Takes, told_on, told_by, move_by}
-use Rattle.gj_json.specs.Internal.ToldEvents.{ending_event, number_events, emitted, NumberTurn}
-use Rattle.gj_json.specs.Ignored.{levels_behind, Leaves}
+use Rattle.gj_json.specs.Internal.FedReader.{Feeds, FeedsWithinTo}
+use Rattle.gj_json.specs.Internal.OpenLevels.{levels_in}
+use Rattle.gj_json.specs.Ignored.{levels_behind}
 
 leaves_more : (k m n : ℕ) (first next : List Event) → Leaves k first m → Leaves m next n → Leaves k (first ++ next) n
 leaves_more k m n [] next h l = rw h l
@@ -32,15 +19,11 @@ leaves_more (suc k) m n (e ∷ first) next h l = leaves_more (levels_behind e.wh
 number_first : (mode : Mode) (turn : NumberTurn) (k left start : ℕ) (value : Option Exact) (es : List Event) → Leaves (suc k) es left
     → Leaves (suc k) (number_events mode turn value start ++ es) left
 number_first NumberOn NumberTurn.Ends k left start value es h = h
-number_first NumberOn NumberTurn.Goes k left start value es h = h
-number_first NumberOn NumberTurn.Refuses k left start value es h = h
-number_first _ turn k left start value es h = h
+number_first other another k left start value es h = h
 
 ending_leaves : (k start : ℕ) (ending : Ending) → Leaves (suc k) (option_to_list (ending_event ending start)) (suc k)
 ending_leaves k start (Ending.Literal Null) = refl
-ending_leaves k start (Ending.Literal True) = refl
-ending_leaves k start (Ending.Literal False) = refl
-ending_leaves k start _ = refl
+ending_leaves k start other = refl
 
 -- how many levels are left to close after this move
 abbrev left_after : Move → ℕ → ℕ

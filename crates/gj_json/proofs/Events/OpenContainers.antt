@@ -1,20 +1,16 @@
 -- How many containers are open in a prefix.
-use Rattle.std.proofs.Common.{sym, ◌≡◌, ℕ, ◌+◌, ◌≤◌, ◌<◌, ◌&&◌, nat_le, nat_lt, true, false, List, [], ◌∷◌, ◌++◌, length, refl, ap, ◌∙◌, arith}
-use Rattle.std.proofs.lemmas.Bool.Decides.{nat_tests}
+use Rattle.gj_json.proofs.Common.{Elements, InTime, IsTimely, Level, List, Members, Mode, StandsAs, Text, Timed, Tree, ap, arith, array, constant}
+use Rattle.gj_json.proofs.Common.{done_elements, done_members, element, elements_events, end_of_array, end_of_object, events, false, leaf_timed}
+use Rattle.gj_json.proofs.Common.{length, levels_of, levels_with, mark_events, member, members_events, nat_le, nat_lt, nat_tests, object, open_at}
+use Rattle.gj_json.proofs.Common.{partial_timed, refl, stack_timed, string, sym, timed, true, ℕ, [], ◌&&◌, ◌++◌, ◌+◌, ◌<◌, ◌∙◌, ◌∷◌, ◌≡◌, ◌≤◌}
 use Rattle.gj_json.specs.declared.event.What.TheVariants as What
-use Rattle.gj_json.specs.Tree.{Text, Tree, constant, number, string, array, object, Elements, end_of_array, element, Members, end_of_object, member}
+use Rattle.gj_json.specs.Tree.{number}
 use Rattle.gj_json.specs.Names.{known_of}
-use Rattle.gj_json.specs.Events.{Timed, timed, events, elements_events, members_events}
-use Rattle.gj_json.specs.Open.{is_open, open_in, elements_open, members_open, open_at}
+use Rattle.gj_json.specs.Open.{is_open, open_in, elements_open, members_open}
 use Rattle.gj_json.specs.Internal.TextMachine.{Broken, text_due, mark_one, mark_two, begun, Frame, in_array, in_object, Member, Leaf, value_due, value_done}
 use Rattle.gj_json.specs.Internal.TextMachine.{array_opened, object_opened, constant_on, number_on, string_on, name_due, name_on, colon_due, back_elements}
 use Rattle.gj_json.specs.Internal.TextMachine.{back_members}
-use Rattle.gj_json.specs.Internal.ReaderState.{levels_of, levels_with, StandsAs}
 use Rattle.gj_json.proofs.Readers.Simulation.{levels_length}
-use Rattle.gj_json.specs.declared.levels.Level.{Level}
-use Rattle.gj_json.specs.declared.mode.Mode.{Mode}
-use Rattle.gj_json.specs.Events.{mark_events}
-use Rattle.gj_json.specs.Internal.SeenEvents.{InTime, IsTimely, stack_timed, leaf_timed, partial_timed, done_elements, done_members}
 use Rattle.gj_json.proofs.Machine.Completions.{TextFrom, After, AfterName, Due, Completes}
 use Rattle.gj_json.proofs.Events.EventTimes.{Late, later, late, late_elements, late_more_elements, late_members, late_more_members}
 
@@ -165,15 +161,7 @@ own_levels _ = 0
 
 pub levels_with-length : (leaf : Leaf) (stack : List Frame) → length (levels_with leaf (levels_of stack)) ≡ length stack + own_levels leaf
 levels_with-length value_due stack = omega (arith, levels_length stack)
-levels_with-length (value_done t) stack = omega (arith, levels_length stack)
-levels_with-length (array_opened place) stack = omega (arith, levels_length stack)
-levels_with-length (object_opened place) stack = omega (arith, levels_length stack)
-levels_with-length (constant_on which place left) stack = omega (arith, levels_length stack)
-levels_with-length (number_on place so_far) stack = omega (arith, levels_length stack)
-levels_with-length (string_on place so_far state) stack = omega (arith, levels_length stack)
-levels_with-length (name_due place done) stack = omega (arith, levels_length stack)
-levels_with-length (name_on place done np so_far state) stack = omega (arith, levels_length stack)
-levels_with-length (colon_due place done np name ne) stack = omega (arith, levels_length stack)
+levels_with-length other stack = omega (arith, levels_length stack)
 
 -- the levels of a state are the containers that are open, in each tree that goes on from it
 levels_open : (stack : List Frame) (leaf : Leaf) (T : Tree) (n : ℕ) (bytes : List ℕ) → InTime n (stack_timed stack ++ leaf_timed leaf)

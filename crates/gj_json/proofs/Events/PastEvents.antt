@@ -1,16 +1,18 @@
 -- The events that a state of the machine has seen.
-use Rattle.std.proofs.Common.{Bool, true, false, ◌≡◌, ℕ, ◌+◌, ◌≤◌, ◌<◌, List, [], ◌∷◌, ◌++◌, length, refl, sym, ap, ◌∙◌, arith, append_assoc}
+use Rattle.gj_json.proofs.Common.{Bool, ConstantAt, EdgeAt, Elements, Exactly, IsTimely, List, Members, Spells, SpellsMoreElements, SpellsMoreMembers}
+use Rattle.gj_json.proofs.Common.{Text, Timed, Tree, What, ap, append_assoc, arith, array, constant, done_elements, done_members, element}
+use Rattle.gj_json.proofs.Common.{elements_events, events, events_by, false, leaf_timed, length, mark_events, member, members_events, object}
+use Rattle.gj_json.proofs.Common.{partial_timed, refl, seen, stack_timed, string, sym, text_events, timed, true, ℕ, [], ◌++◌, ◌+◌, ◌<◌, ◌∙◌, ◌∷◌, ◌≡◌}
+use Rattle.gj_json.proofs.Common.{◌≤◌}
 use Rattle.std.proofs.lemmas.List.{append-nil}
 use Rattle.gj_json.specs.Bytes.{colon as colon_byte, quote as quote_byte}
-use Rattle.gj_json.specs.declared.event.What.{What}
-use Rattle.gj_json.specs.Tree.{Text, Tree, constant, number, string, array, object, Elements, element, Members, member}
+use Rattle.gj_json.specs.Tree.{number}
 use Rattle.gj_json.specs.Names.{known_of}
-use Rattle.gj_json.specs.Grammar.{Then, White, Exactly, Ends, Spells, SpellsMoreElements, SpellsMoreMembers}
-use Rattle.gj_json.specs.Events.{Timed, timed, events, elements_events, members_events, mark_events, text_events, by, events_by}
+use Rattle.gj_json.specs.Grammar.{Then, White, Ends}
+use Rattle.gj_json.specs.Events.{by}
 use Rattle.gj_json.specs.Internal.TextMachine.{Broken, text_due, mark_one, mark_two, begun, Frame, in_array, in_object, Member, Leaf, value_due, value_done}
 use Rattle.gj_json.specs.Internal.TextMachine.{array_opened, object_opened, constant_on, number_on, string_on, name_due, name_on, colon_due, back_elements}
 use Rattle.gj_json.specs.Internal.TextMachine.{back_members}
-use Rattle.gj_json.specs.Internal.SeenEvents.{done_elements, done_members, stack_timed, leaf_timed, partial_timed, seen, ConstantAt, EdgeAt, IsTimely}
 use Rattle.gj_json.proofs.Machine.Completions.{TextFrom, Due, After, AfterName, Completes}
 use Rattle.gj_json.proofs.Events.EventTimes.{Late, told, by-append, by-in_time, by-late, late-append, later, late, late_elements, late_more_elements}
 use Rattle.gj_json.proofs.Events.EventTimes.{late_members, late_more_members, quoted_after, ends_after}

@@ -1,17 +1,11 @@
 -- The first bytes of a character: where they lead.
-use Rattle.std.proofs.Common.{◌≡◌, ℕ, zero, suc, ◌+◌, ◌*◌, ◌%◌, ◌≤◌, true, List, [], ◌∷◌, ◌++◌}
-use Rattle.std.proofs.Common.{refl, sym, arith, append_assoc, append-nil}
-use Rattle.std.proofs.lemmas.Bool.Decides.{nat_tests}
-use Rattle.gj_json.specs.declared.mode.Bounds.{Bounds}
-use Rattle.gj_json.specs.declared.mode.Bounds.TheVariants.{Any}
-use Rattle.gj_json.specs.declared.mode.StringState.{StringState}
+use Rattle.gj_json.proofs.Common.{Any, BeginsCharacter, Bounds, List, SpellsCharacter, SpellsContent, StringState, append_assoc, arith, high_of}
+use Rattle.gj_json.proofs.Common.{low_of, nat_tests, refl, string_goes, string_next, suc, sym, true, within, zero, ℕ, [], ◌%◌, ◌*◌, ◌++◌, ◌+◌, ◌∷◌}
+use Rattle.gj_json.proofs.Common.{◌≡◌, ◌≤◌}
+use Rattle.std.proofs.Common.{append-nil}
 use Rattle.gj_json.specs.declared.mode.StringState.TheVariants.{Plain as plain, Escape as escape, HexDue as hex_due, HexOne as hex_one, HexTwo as hex_two}
 use Rattle.gj_json.specs.declared.mode.StringState.TheVariants.{HexThree as hex_three, InCharacter as in_character}
-use Rattle.gj_json.specs.Characters.{SpellsCharacter, SpellsContent}
-use Rattle.gj_json.specs.Utf8Bytes.{low_of, high_of}
-use Rattle.gj_json.specs.Broken.{BeginsTail, BeginsCharacter}
-use Rattle.gj_json.specs.Internal.TextMachine.{string_goes, string_next}
-use Rattle.gj_json.specs.Internal.TextMachine.{within}
+use Rattle.gj_json.specs.Broken.{BeginsTail}
 use Rattle.gj_json.proofs.Machine.Completions.{StringRest}
 use Rattle.gj_json.proofs.Grammar.SpelledTexts.{backslash_on, lead_on, content_on}
 

@@ -1,19 +1,17 @@
 -- Which class of bytes a byte is of.
-use Rattle.std.proofs.Common.{◌≡◌, ℕ, ◌==◌, ◌⊎◌, inl, inr, Bool, true, false, if◌then◌else◌, ◌&&◌, [], ◌∷◌, refl, arith, nat_le}
-use Rattle.std.proofs.lemmas.Bool.Decides.{nat_tests, eqb_tells}
-use Rattle.gj_json.specs.Bytes.{carriage_return, close_brace, close_bracket, colon as colon_byte, comma as comma_byte, line_feed, minus_sign, nine_digit}
-use Rattle.gj_json.specs.Bytes.{open_brace, open_bracket, quote as quote_byte, space, tab, zero_digit as zero_byte}
-use Rattle.gj_json.specs.Internal.NamedBytes.{letter_f, letter_n, letter_t, mark_first}
+use Rattle.gj_json.proofs.Common.{BeginsNumber, Bool, Class, False, Means, Null, True, arith, close_brace, close_bracket, eqb_tells, false}
+use Rattle.gj_json.proofs.Common.{if◌then◌else◌, inl, inr, mark_first, nat_le, nat_tests, open_brace, open_bracket, refl, space, true, ℕ, [], ◌&&◌}
+use Rattle.gj_json.proofs.Common.{◌==◌, ◌∷◌, ◌≡◌, ◌⊎◌}
+use Rattle.gj_json.specs.Bytes.{carriage_return, colon as colon_byte, comma as comma_byte, line_feed, minus_sign, nine_digit}
+use Rattle.gj_json.specs.Bytes.{quote as quote_byte, tab, zero_digit as zero_byte}
+use Rattle.gj_json.specs.Internal.NamedBytes.{letter_f, letter_n, letter_t}
 use Rattle.gj_json.specs.Bytes.{IsDigit}
 use Rattle.gj_number.specs.Bytes.{IsNumberByte, plus_sign, decimal_point, lower_e, upper_e}
-use Rattle.gj_number.specs.Grammar.{BeginsNumber}
 use Rattle.gj_number.proofs.Grammar.DecidedNumbers.{first}
-use Rattle.gj_json.specs.declared.constant.Constant.TheVariants.{Null, True, False}
-use Rattle.gj_json.specs.declared.class.Class.{Class}
 use Rattle.gj_json.specs.declared.class.Class.TheVariants.{White as white, OpenArray as open_array, CloseArray as close_array, OpenObject as open_object}
 use Rattle.gj_json.specs.declared.class.Class.TheVariants.{CloseObject as close_object, Comma as comma, Colon as colon, Quote as quote}
 use Rattle.gj_json.specs.declared.class.Class.TheVariants.{NumberStart as number_start, Letter as letter, Other as other}
-use Rattle.gj_json.specs.Internal.ByteClasses.{class_of, Means}
+use Rattle.gj_json.specs.Internal.ByteClasses.{class_of}
 
 pick : (b k : ℕ) (c d : Class) → (b ≡ k → Means c b) → Means d b → Means (if b == k then c else d) b
 pick b k c d met unmet = elim (eqb_tells b k) [ inl h ↦ rw h.0 (met h.1) | inr h ↦ rw h.0 unmet ]

@@ -1,9 +1,9 @@
 -- Strings and numbers have bytes.
-use Rattle.std.proofs.Common.{◌≡◌, ℕ, ◌+◌, ◌<◌, inl, inr, List, [], ◌∷◌, ◌++◌, length, ap, subst, arith}
-use Rattle.gj_number.specs.Grammar.{IsNatural, IsNumber}
-use Rattle.gj_json.specs.Text.{IsText}
-use Rattle.gj_json.specs.Tree.{Text, Tree, constant, number, string, array, object, Elements, end_of_array, element, Members, end_of_object, member}
-use Rattle.gj_json.specs.Grammar.{Quoted, Spells, SpellsElements, SpellsMoreElements, SpellsMembers, SpellsMoreMembers}
+use Rattle.gj_json.proofs.Common.{Elements, IsNumber, IsText, List, Members, Quoted, Spells, SpellsElements, SpellsMembers, SpellsMoreElements}
+use Rattle.gj_json.proofs.Common.{SpellsMoreMembers, Text, Tree, ap, arith, array, constant, element, end_of_array, end_of_object, inl, inr, length}
+use Rattle.gj_json.proofs.Common.{member, object, string, subst, ℕ, [], ◌++◌, ◌+◌, ◌<◌, ◌∷◌, ◌≡◌}
+use Rattle.gj_number.specs.Grammar.{IsNatural}
+use Rattle.gj_json.specs.Tree.{number}
 use Rattle.gj_json.specs.Internal.TextMachine.{Frame, in_array, in_object, Member, back_elements, back_members}
 use Rattle.gj_json.proofs.Machine.Completions.{After}
 

@@ -1,9 +1,8 @@
 -- The first bytes of a number, and the bytes with which one goes on.
-use Rattle.std.proofs.Common.{◌≡◌, ℕ, true, false, List, [], ◌∷◌, ◌++◌, append_assoc}
+use Rattle.gj_json.proofs.Common.{BeginsNumber, IsNumber, List, append_assoc, false, true, ℕ, [], ◌++◌, ◌∷◌, ◌≡◌}
 use Rattle.std.proofs.lemmas.List.{append-nil}
 use Rattle.std.proofs.lemmas.Bool.{false_from_ne_true}
 use Rattle.gj_number.specs.Bytes.{IsNumberByte}
-use Rattle.gj_number.specs.Grammar.{IsNumber, BeginsNumber}
 use Rattle.gj_number.specs.DecidedNumbers.{begins_number}
 use Rattle.gj_number.proofs.Grammar.DecidedNumbers.{begins, last, no_number}
 use Rattle.gj_json.specs.Broken.{BeginsNumber as NumberBegun}

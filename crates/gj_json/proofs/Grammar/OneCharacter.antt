@@ -1,14 +1,14 @@
 -- A byte of a string ends one character at the most.
-use Rattle.std.proofs.Common.{◌≡◌, ℕ, zero, suc, ◌+◌, ◌*◌, ◌%◌, ◌==◌, ◌&&◌, nat_le, Bool, true, false, if◌then◌else◌, [], ◌∷◌, Option, Some, None, refl}
-use Rattle.gj_json.specs.Bytes.{space, quote, backslash, letter_u}
+use Rattle.gj_json.proofs.Common.{Bool, Lead, None, Option, Plain, Some, StringState, StringStep, backslash, false, if◌then◌else◌, letter_u, nat_le}
+use Rattle.gj_json.proofs.Common.{refl, space, string_ends, string_goes, string_move, string_next, string_refuses, suc, true, within, zero, ℕ, []}
+use Rattle.gj_json.proofs.Common.{◌%◌, ◌&&◌, ◌*◌, ◌+◌, ◌==◌, ◌∷◌, ◌≡◌}
+use Rattle.gj_json.specs.Bytes.{quote}
 use Rattle.gj_json.specs.Characters.{escape_of, hex_of}
-use Rattle.gj_json.specs.Utf8Bytes.{Lead, lead_of}
-use Rattle.gj_json.specs.declared.mode.StringState.{StringState}
-use Rattle.gj_json.specs.declared.mode.StringState.TheVariants.{Plain, Escape, HexDue, HexOne, HexTwo, HexThree, InCharacter}
+use Rattle.gj_json.specs.Utf8Bytes.{lead_of}
+use Rattle.gj_json.specs.declared.mode.StringState.TheVariants.{Escape, HexDue, HexOne, HexTwo, HexThree, InCharacter}
 use Rattle.gj_json.specs.declared.mode.StringMove.TheVariants.{Goes, Reads}
-use Rattle.gj_json.specs.Internal.TextMachine.{StringStep, string_ends, string_goes, string_refuses, string_next, plain_step, escape_step, hex_step, hex_end}
-use Rattle.gj_json.specs.Internal.TextMachine.{lead_step, tail_step, within}
-use Rattle.gj_json.specs.Internal.Transitions.{string_move}
+use Rattle.gj_json.specs.Internal.TextMachine.{plain_step, escape_step, hex_step, hex_end}
+use Rattle.gj_json.specs.Internal.TextMachine.{lead_step, tail_step}
 
 -- where a character ends, none is under way
 abbrev pub OneCharacter : StringStep → Type 0
@@ -73,8 +73,7 @@ one_character (InCharacter more bounds value) b = go (within bounds b)
 pub goes_is : (s : StringStep) (next : StringState) → string_move s ≡ Goes next → s ≡ string_goes [] next
 goes_is string_ends next e = cc
 goes_is (string_goes [] state) next e = let f : state ≡ next = cc in rw f refl
-goes_is (string_goes (c ∷ more) state) next e = cc
-goes_is string_refuses next e = cc
+goes_is other next e = cc
 
 pub reads_is : (s : StringStep) (c : ℕ) → OneCharacter s → string_move s ≡ Reads c → s ≡ string_goes (c ∷ []) Plain
 reads_is string_ends c o e = cc

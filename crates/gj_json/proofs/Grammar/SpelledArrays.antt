@@ -1,19 +1,15 @@
 -- An array of two or three numbers is spelled by its numbers, each where it stands, and what stands around them.
-use Rattle.std.proofs.Common.{◌≡◌, ℕ, ◌+◌, ◌-◌, ◌≤◌, ◌<◌, Bool, true, false, IsTrue, inl, refl, List, ◌∷◌, get_or, drop, length, take, subst, sym, arith, w64}
-use Rattle.std.specs.List.{AllByRecursion}
-use Rattle.std.specs.Option.{option_to_list}
+use Rattle.gj_json.proofs.Common.{AllByRecursion, Bool, IsItem, IsValued, IsWhite, List, Numbered, SFits, Short, SpellsNumbers, StartsWithNumber}
+use Rattle.gj_json.proofs.Common.{arith, bool_byte, cut, drop, exact_of, false, get_or, inl, length, open_bracket, option_to_list, refl, space, subst}
+use Rattle.gj_json.proofs.Common.{sym, true, w64, ℕ, ◌+◌, ◌-◌, ◌<◌, ◌∷◌, ◌≡◌, ◌≤◌}
+use Rattle.std.proofs.Common.{IsTrue, take}
 use Rattle.std.proofs.lemmas.Int.{to_z-of_z}
 use Rattle.std.proofs.lemmas.List.{drop-drop}
-use mir.Val.{SFits, to_z, of_z, bool_byte}
-use Rattle.gj_number.specs.declared.short.Short.{Short}
+use mir.Val.{to_z, of_z}
 use Rattle.gj_number.specs.declared.short.cuts.Cut.{Cut}
-use Rattle.gj_number.specs.Short.{StartsWithNumber, exact_of}
 use Rattle.gj_number.specs.Cuts.{IsCut}
-use Rattle.gj_json.specs.Bytes.{open_bracket, comma, space, IsWhite}
-use Rattle.gj_json.specs.declared.flat.Numbered.{Numbered}
-use Rattle.gj_json.specs.Internal.SpelledNumbers.{SpellsNumbers}
+use Rattle.gj_json.specs.Bytes.{comma}
 use Rattle.gj_json.specs.Internal.SpelledPositions.{ClosesAt}
-use Rattle.gj_json.specs.Internal.FlatParts.{cut, IsValued, IsItem}
 use Rattle.gj_json.proofs.Pieces.PieceCuts.{cut_byte}
 use Rattle.gj_json.proofs.Grammar.SpelledPairs.{none_cut, valued_cut}
 use Rattle.gj_json.proofs.Grammar.SpelledFlats.{item_cut, more_cut, flat_cut}

@@ -1,13 +1,11 @@
 -- Bytes that are one character of a string.
-use Rattle.std.proofs.Common.{◌≡◌, ◌≢◌, ℕ, zero, suc, ◌+◌, ◌-◌, ◌*◌, ◌%◌, ◌≤◌, ◌<◌, inl, inr, true, List, [], ◌∷◌, length, take, get_or, Option, Some, None}
-use Rattle.std.proofs.Common.{is_some, refl, sym, subst, arith, append-nil}
-use Rattle.std.proofs.lemmas.Bool.{cases_lt, cases_eq}
-use Rattle.gj_json.specs.Bytes.{backslash, letter_u}
+use Rattle.gj_json.proofs.Common.{AreCharacters, List, None, Option, Plain, Some, arith, backslash, cases_lt, get_or, inl, inr, is_unescaped_ascii}
+use Rattle.gj_json.proofs.Common.{length, letter_u, prefix_len, refl, subst, suc, sym, true, zero, ℕ, [], ◌%◌, ◌*◌, ◌+◌, ◌-◌, ◌<◌, ◌∷◌, ◌≡◌, ◌≢◌, ◌≤◌}
+use Rattle.std.proofs.Common.{take}
+use Rattle.std.proofs.Common.{is_some, append-nil}
+use Rattle.std.proofs.lemmas.Bool.{cases_eq}
 use Rattle.gj_json.specs.Characters.{escape_of, hex_of}
-use Rattle.gj_json.specs.declared.mode.StringState.TheVariants.{Plain}
-use Rattle.std.specs.List.{prefix_len}
-use Rattle.gj_json.specs.Internal.QuietBytes.{is_unescaped_ascii}
-use Rattle.gj_json.specs.Internal.WholeTokens.{IsCharacter, AreCharacters}
+use Rattle.gj_json.specs.Internal.WholeTokens.{IsCharacter}
 use Rattle.gj_json.proofs.Pieces.QuietModes
 use Rattle.gj_json.proofs.Grammar.SpelledTexts.{content_on}
 use Rattle.gj_json.proofs.Grammar.Utf8Characters.{as_read}

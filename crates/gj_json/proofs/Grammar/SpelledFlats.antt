@@ -1,19 +1,14 @@
 -- An array of numbers is spelled by its parts.
-use Rattle.std.proofs.Common.{◌≡◌, ℕ, ◌+◌, ◌-◌, ◌≤◌, ◌<◌, List, [], ◌∷◌, ◌++◌, get_or, length, map, take, drop, Some, refl, sym, ap, subst, ◌∙◌, arith}
+use Rattle.gj_json.proofs.Common.{AllByRecursion, Elements, IsItem, IsValued, IsWhite, List, Numbered, Some, Spells, SpellsNumbers, What, ap, arith}
+use Rattle.gj_json.proofs.Common.{close_bracket, cut, drop, element, elements_events, end_of_array, event_at, exact_of, get_or, length, map}
+use Rattle.gj_json.proofs.Common.{open_bracket, refl, subst, sym, value_of, ℕ, [], ◌++◌, ◌+◌, ◌-◌, ◌<◌, ◌∙◌, ◌∷◌, ◌≡◌, ◌≤◌}
+use Rattle.std.proofs.Common.{take}
 use Rattle.std.proofs.Common.{append-nil}
-use Rattle.std.specs.List.{AllByRecursion}
-use Rattle.gj_json.specs.Bytes.{open_bracket, close_bracket, comma, IsWhite}
-use Rattle.gj_number.specs.Value.{value_of}
-use Rattle.gj_number.specs.Short.{exact_of}
-use Rattle.gj_json.specs.declared.event.What.{What}
-use Rattle.gj_json.specs.Internal.ToldEvents.{event_at}
-use Rattle.gj_json.specs.declared.flat.Numbered.{Numbered}
-use Rattle.gj_json.specs.Tree.{number, Elements, end_of_array, element}
-use Rattle.gj_json.specs.Grammar.{Then, White, Spells}
-use Rattle.gj_json.specs.Events.{elements_events}
+use Rattle.gj_json.specs.Bytes.{comma}
+use Rattle.gj_json.specs.Tree.{number}
+use Rattle.gj_json.specs.Grammar.{Then, White}
 use Rattle.gj_json.specs.Flat.{number_event}
-use Rattle.gj_json.specs.Internal.SpelledNumbers.{SpellsNumbers}
-use Rattle.gj_json.specs.Internal.FlatParts.{cut, IsValued, IsItem, IsMore}
+use Rattle.gj_json.specs.Internal.FlatParts.{IsMore}
 use Rattle.gj_json.proofs.Pieces.PieceCuts.{cut_joins, cut_length, cut_byte}
 use Rattle.gj_json.proofs.Grammar.SpelledForms.{joins, byte_more, left3}
 

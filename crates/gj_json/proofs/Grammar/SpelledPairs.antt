@@ -1,13 +1,11 @@
 -- An array of two numbers is spelled by a pair between brackets.
-use Rattle.std.proofs.Common.{◌≡◌, ℕ, ◌+◌, ◌-◌, ◌≤◌, ◌<◌, ◌⊎◌, List, [], ◌∷◌, get_or, length, take, drop, inl, inr, sym, ap, subst, ◌∙◌, arith, length-drop}
-use Rattle.std.proofs.lemmas.List.{get_or-drop, drop-drop}
-use Rattle.std.specs.List.{AllByRecursion}
-use Rattle.gj_number.specs.Short.{StartsWithNumber, StartsWithPair, exact_of}
-use Rattle.gj_number.specs.declared.short.Short.{Short}
-use Rattle.gj_json.specs.Bytes.{open_bracket, comma, space, IsWhite}
-use Rattle.gj_json.specs.declared.flat.Numbered.{Numbered}
-use Rattle.gj_json.specs.Internal.SpelledNumbers.{SpellsNumbers}
-use Rattle.gj_json.specs.Internal.FlatParts.{cut, IsValued, IsItem}
+use Rattle.gj_json.proofs.Common.{AllByRecursion, IsItem, IsValued, IsWhite, List, Numbered, Short, SpellsNumbers, StartsWithNumber, ap, arith, cut}
+use Rattle.gj_json.proofs.Common.{drop, exact_of, get_or, get_or-drop, inl, inr, length, open_bracket, space, subst, sym, ℕ, [], ◌+◌, ◌-◌, ◌<◌, ◌∙◌}
+use Rattle.gj_json.proofs.Common.{◌∷◌, ◌≡◌, ◌≤◌, ◌⊎◌}
+use Rattle.std.proofs.Common.{take, length-drop}
+use Rattle.std.proofs.lemmas.List.{drop-drop}
+use Rattle.gj_number.specs.Short.{StartsWithPair}
+use Rattle.gj_json.specs.Bytes.{comma}
 use Rattle.gj_json.proofs.Pieces.PieceCuts.{cut_byte}
 use Rattle.gj_json.proofs.Grammar.SpelledFlats.{item_cut, end_cut, more_cut, flat_cut}
 

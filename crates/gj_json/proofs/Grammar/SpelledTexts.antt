@@ -1,21 +1,20 @@
 -- Texts, a byte at a time.
-use Rattle.std.proofs.Common.{zero, suc, ◌-◌, ◌%◌, ◌<◌, ◌≡◌, ℕ, ◌+◌, ◌*◌, ◌==◌, ◌≤◌, ◌⊎◌, ◌≢◌, ◌&&◌, inl, inr, Bool, true, false, if◌then◌else◌, List, [], ◌∷◌}
-use Rattle.std.proofs.Common.{◌++◌, length, Option, Some, None, refl, sym, ap, subst, arith, append_assoc, nat_le}
-use Rattle.std.proofs.lemmas.Bool.Decides.{nat_tests}
-use Rattle.gj_json.specs.Bytes.{backslash, letter_u, quote as quote_byte, space}
-use Rattle.gj_json.specs.declared.mode.Bounds.{Bounds}
-use Rattle.gj_json.specs.declared.mode.Bounds.TheVariants.{Any, AfterE0, AfterED, AfterF0, AfterF4}
-use Rattle.gj_json.specs.Grammar.{Then, Exactly, Ends}
-use Rattle.gj_json.specs.Characters.{IsPlain, IsUnicode, SpellsContent, SpellsCharacter, escape_of, hex_of}
-use Rattle.gj_json.specs.Broken.{BeginsTail, BeginsCharacter}
-use Rattle.gj_json.specs.Utf8Bytes.{Lead, lead, lead_of, low_of, high_of}
+use Rattle.gj_json.proofs.Common.{AfterE0, AfterED, AfterF0, AfterF4, Any, BeginsCharacter, Bool, Bounds, Exactly, IsPlain, Lead, List, None, Option}
+use Rattle.gj_json.proofs.Common.{Some, SpellsCharacter, SpellsContent, StringState, StringStep, ap, append_assoc, arith, backslash, false, high_of}
+use Rattle.gj_json.proofs.Common.{if◌then◌else◌, inl, inr, length, letter_u, low_of, nat_le, nat_tests, refl, space, string_ends, string_goes}
+use Rattle.gj_json.proofs.Common.{string_next, string_refuses, subst, suc, sym, true, within, zero, ℕ, [], ◌%◌, ◌&&◌, ◌*◌, ◌++◌, ◌+◌, ◌-◌, ◌<◌, ◌==◌}
+use Rattle.gj_json.proofs.Common.{◌∷◌, ◌≡◌, ◌≢◌, ◌≤◌, ◌⊎◌}
+use Rattle.gj_json.specs.Bytes.{quote as quote_byte}
+use Rattle.gj_json.specs.Grammar.{Then, Ends}
+use Rattle.gj_json.specs.Characters.{IsUnicode, escape_of, hex_of}
+use Rattle.gj_json.specs.Broken.{BeginsTail}
+use Rattle.gj_json.specs.Utf8Bytes.{lead, lead_of}
 use Rattle.gj_json.proofs.Grammar.Utf8Tables.{IsTail, IsWide, of_bytes, by_bytes}
 use Rattle.gj_json.proofs.Grammar.SpelledForms
-use Rattle.gj_json.specs.declared.mode.StringState.{StringState}
 use Rattle.gj_json.specs.declared.mode.StringState.TheVariants.{Plain as plain, Escape as escape, HexDue as hex_due, HexOne as hex_one, HexTwo as hex_two}
 use Rattle.gj_json.specs.declared.mode.StringState.TheVariants.{HexThree as hex_three, InCharacter as in_character}
-use Rattle.gj_json.specs.Internal.TextMachine.{StringStep, string_ends, string_goes, string_refuses, string_next, plain_step, escape_step, hex_step, hex_end}
-use Rattle.gj_json.specs.Internal.TextMachine.{lead_step, tail_step, within}
+use Rattle.gj_json.specs.Internal.TextMachine.{plain_step, escape_step, hex_step, hex_end}
+use Rattle.gj_json.specs.Internal.TextMachine.{lead_step, tail_step}
 use Rattle.gj_json.proofs.Machine.Completions.{StringRest, StringOn}
 
 pub quote_on : (b : ℕ) → b ≡ quote_byte → string_next plain b ≡ string_ends
@@ -339,8 +338,7 @@ escape_never false None e = cc
 
 tail_never : (t : Bool) (more value : ℕ) → (if t then tail_step more value else string_refuses) ≡ string_ends → ⊥
 tail_never true zero value e = cc
-tail_never true (suc more) value e = cc
-tail_never false more value e = cc
+tail_never other another value e = cc
 
 hex_never : (goes : ℕ → StringStep) → ((d : ℕ) → goes d ≡ string_ends → ⊥) → (o : Option ℕ) → hex_step goes o ≡ string_ends → ⊥
 hex_never goes h (Some d) e = h d e

@@ -1,14 +1,10 @@
 -- Which bytes of a piece a token has.
-use Rattle.std.proofs.Common.{◌≡◌, ℕ, ◌+◌, ◌-◌, ◌≤◌, ◌<◌, List, [], ◌∷◌, ◌++◌, get_or, length, take, drop, refl, sym, ap, subst, ◌∙◌, arith}
-use Rattle.std.specs.List.{AllByRecursion, prefix_len}
-use Rattle.gj_json.specs.Bytes.{IsWhite, quote, colon as colon_byte}
+use Rattle.gj_json.proofs.Common.{AllByRecursion, ColonDue, IsQuoted, IsWhite, List, Mode, Plain, ValueDue, ap, arith, cut, drop, get_or}
+use Rattle.gj_json.proofs.Common.{is_unescaped_ascii, is_white, length, prefix_len, refl, subst, sym, ℕ, [], ◌++◌, ◌+◌, ◌-◌, ◌<◌, ◌∙◌, ◌∷◌, ◌≡◌, ◌≤◌}
+use Rattle.std.proofs.Common.{take}
+use Rattle.gj_json.specs.Bytes.{quote, colon as colon_byte}
 use Rattle.gj_json.specs.declared.class.Class.TheVariants.{Colon as colon_class}
-use Rattle.gj_json.specs.declared.mode.Mode.{Mode}
-use Rattle.gj_json.specs.declared.mode.Mode.TheVariants.{ValueDue, ColonDue}
-use Rattle.gj_json.specs.declared.mode.StringState.TheVariants.{Plain}
-use Rattle.gj_json.specs.Internal.FlatParts.{cut}
-use Rattle.gj_json.specs.Internal.QuietBytes.{LeadsBy, Leads, Reads, is_unescaped_ascii, is_white}
-use Rattle.gj_json.specs.Internal.WholeTokens.{IsQuoted}
+use Rattle.gj_json.specs.Internal.QuietBytes.{LeadsBy, Leads, Reads}
 use Rattle.gj_json.proofs.Grammar.ClassOfBytes.{class_is}
 use Rattle.gj_json.proofs.Pieces.PieceCuts.{cut_joins, cut_byte}
 use Rattle.gj_json.proofs.Pieces.TakenFlats.{all_quiet}

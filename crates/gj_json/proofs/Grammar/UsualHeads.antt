@@ -1,12 +1,10 @@
 -- A piece that starts with the known bytes of a member `geometry` around its type.
-use Rattle.std.proofs.Common.{◌≡◌, ℕ, ◌+◌, ◌-◌, ◌≤◌, ◌<◌, List, [], ◌∷◌, ◌++◌, codes, get_or, length, take, drop, take-add, refl, ap, subst, ◌∙◌}
-use Rattle.std.proofs.Common.{arith, append_assoc}
-use Rattle.std.proofs.lemmas.List.{length-append, length-take-le, take_more}
-use Rattle.std.specs.List.{AllByRecursion}
-use Rattle.gj_json.specs.Bytes.{IsWhite, open_brace, comma}
-use Rattle.gj_json.specs.declared.names.Word.{Word}
-use Rattle.gj_json.specs.Internal.FlatParts.{cut}
-use Rattle.gj_json.specs.Internal.WholeHeads.{named, ComesToType, IsLocated, IsTyped}
+use Rattle.gj_json.proofs.Common.{AllByRecursion, IsTyped, IsWhite, List, Word, ap, append_assoc, arith, codes, cut, drop, get_or, length}
+use Rattle.gj_json.proofs.Common.{length-take-le, open_brace, refl, subst, take-add, take_more, ℕ, [], ◌++◌, ◌+◌, ◌-◌, ◌<◌, ◌∙◌, ◌∷◌, ◌≡◌, ◌≤◌}
+use Rattle.std.proofs.Common.{take}
+use Rattle.std.proofs.lemmas.List.{length-append}
+use Rattle.gj_json.specs.Bytes.{comma}
+use Rattle.gj_json.specs.Internal.WholeHeads.{named, ComesToType, IsLocated}
 use Rattle.gj_json.specs.Internal.WholeTokens.{IsUsualText}
 use Rattle.gj_json.proofs.Pieces.PieceRests.{rest_of}
 

@@ -1,11 +1,9 @@
 -- A piece that starts with known bytes: what follows from these alone.
-use Rattle.std.proofs.Common.{◌≡◌, ℕ, true, List, ◌++◌, ap, sym, subst, take, drop, ◌∙◌}
-use Rattle.std.specs.List.{prefix_len}
-use Rattle.std.specs.Str.{bytes_eq}
-use Rattle.std.proofs.lemmas.List.{take-append-drop}
+use Rattle.gj_json.proofs.Common.{List, Plain, ap, bytes_eq, drop, is_unescaped_ascii, prefix_len, subst, sym, take-append-drop, true, ℕ, ◌++◌, ◌∙◌}
+use Rattle.gj_json.proofs.Common.{◌≡◌}
+use Rattle.std.proofs.Common.{take}
 use Rattle.std.proofs.lemmas.Slice.Eq.{bytes_eq-Decides}
-use Rattle.gj_json.specs.declared.mode.StringState.TheVariants.{Plain}
-use Rattle.gj_json.specs.Internal.QuietBytes.{Reads, is_unescaped_ascii}
+use Rattle.gj_json.specs.Internal.QuietBytes.{Reads}
 use Rattle.gj_json.proofs.Pieces.QuietModes
 
 pub same_bytes : (xs ys : List ℕ) → true ≡ bytes_eq xs ys → xs ≡ ys

@@ -1,23 +1,17 @@
 -- Whole characters in UTF-8 are read as such in a string.
-use Rattle.std.proofs.Common.{◌≡◌, ℕ, ◌+◌, zero, suc, ◌⊎◌, ◌<◌, ◌≤◌, inl, inr, Bool, true, false, cond, min, slice_index, List, [], ◌∷◌, ◌++◌, take, length}
-use Rattle.std.proofs.Common.{refl, sym, ap, subst, ◌∙◌, arith}
-use Rattle.std.proofs.lemmas.Bool.{and_parts, cases_lt}
-use Rattle.std.proofs.lemmas.Bool.Decides.{nat_tests}
-use Rattle.std.specs.List.{AllByRecursion}
-use Rattle.gj_json.specs.declared.content.Content.{Content}
-use Rattle.gj_json.specs.Internal.KeptContent.{IsAscii, Holds, HoldsBy, IsOther}
+use Rattle.gj_json.proofs.Common.{AllByRecursion, Bool, Content, Holds, IsAscii, IsLongestUtf8, IsPlain, List, Plain, SpellsCharacter, SpellsContent}
+use Rattle.gj_json.proofs.Common.{StringState, ap, arith, cases_lt, cond, false, inl, inr, is_unescaped, length, min, nat_tests, plain_run_of}
+use Rattle.gj_json.proofs.Common.{prefix_len-le-length, refl, subst, suc, sym, take-take, true, zero, ℕ, [], ◌++◌, ◌+◌, ◌<◌, ◌∙◌, ◌∷◌, ◌≡◌, ◌≤◌, ◌⊎◌}
+use Rattle.std.proofs.Common.{slice_index, take}
+use Rattle.std.proofs.lemmas.Bool.{and_parts}
+use Rattle.gj_json.specs.Internal.KeptContent.{HoldsBy, IsOther}
 use Rattle.gj_json.proofs.Readers.ContentLetters.{ascii_rest, other_on}
 use Rattle.std.specs.Str.{IsUtf8, IsValidUpTo}
 use Rattle.gj_json.proofs.Pieces.PieceRests.{take_all_of}
 use Rattle.std.proofs.Math.Numerals.{one-add}
-use Rattle.std.proofs.lemmas.List.{length-append, take-take}
-use Rattle.std.proofs.lemmas.List.Sums.{prefix_len-le-length}
+use Rattle.std.proofs.lemmas.List.{length-append}
 use lib.Utf8.{scalar, scalars, encode, encodes}
-use Rattle.gj_json.specs.Characters.{IsPlain, SpellsCharacter, SpellsContent}
-use Rattle.gj_json.specs.declared.mode.StringState.{StringState}
-use Rattle.gj_json.specs.declared.mode.StringState.TheVariants.{Plain}
 use Rattle.gj_json.specs.Internal.QuietBytes.{Reads}
-use Rattle.gj_json.specs.Runs.{is_unescaped, plain_run_of, IsLongestUtf8}
 use Rattle.gj_json.proofs.Pieces.QuietModes.{all_run}
 use Rattle.gj_json.proofs.Machine.Completions.{StringRest}
 use Rattle.gj_json.proofs.Grammar.SpelledTexts.{content_on}

@@ -1,13 +1,11 @@
 -- The characters of several bytes are those whose first byte leads to the others.
-use Rattle.std.proofs.Common.{◌≡◌, ℕ, ◌+◌, ◌-◌, ◌*◌, ◌/◌, ◌%◌, zero, suc, ◌==◌, ◌⊎◌, ◌<◌, ◌≤◌, ◌≢◌, inl, inr, Bool, true, false, nat_le, if◌then◌else◌}
-use Rattle.std.proofs.Common.{List, [], ◌∷◌, Option, Some, None, refl, sym, subst, arith}
-use Rattle.std.proofs.lemmas.Bool.{cases_lt, le-leb, lt-leb, lt-ltb, le-ltb}
-use Rattle.std.proofs.lemmas.Bool.Decides.{nat_tests}
+use Rattle.gj_json.proofs.Common.{AfterE0, AfterED, AfterF0, AfterF4, Any, Bool, Bounds, Lead, List, None, Option, Some, arith, cases_lt, false}
+use Rattle.gj_json.proofs.Common.{high_of, if◌then◌else◌, inl, inr, le-leb, low_of, nat_le, nat_tests, refl, subst, suc, sym, true, zero, ℕ, [], ◌%◌}
+use Rattle.gj_json.proofs.Common.{◌*◌, ◌+◌, ◌-◌, ◌/◌, ◌<◌, ◌==◌, ◌∷◌, ◌≡◌, ◌≢◌, ◌≤◌, ◌⊎◌}
+use Rattle.std.proofs.lemmas.Bool.{lt-leb, lt-ltb, le-ltb}
 use lib.Utf8.{scalar, encode, next, scalar_cases, low_scalar}
-use Rattle.gj_json.specs.declared.mode.Bounds.{Bounds}
-use Rattle.gj_json.specs.declared.mode.Bounds.TheVariants.{Any, AfterE0, AfterED, AfterF0, AfterF4}
 use Rattle.gj_json.specs.Characters.{IsUtf8}
-use Rattle.gj_json.specs.Utf8Bytes.{Lead, lead, lead_of, low_of, high_of}
+use Rattle.gj_json.specs.Utf8Bytes.{lead, lead_of}
 
 -- the bytes of a character after its first, of which so many follow the next, which lies within the bounds
 abbrev pub IsTail : ℕ → Bounds → ℕ → ℕ → List ℕ → Type 0

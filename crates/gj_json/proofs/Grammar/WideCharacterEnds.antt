@@ -1,12 +1,12 @@
 -- Bytes at which no unescaped character of up to three bytes ends too early are such characters.
-use Rattle.std.proofs.Common.{◌≡◌, ◌≢◌, ℕ, zero, suc, ◌+◌, ◌-◌, ◌<◌, ◌≤◌, ◌⊎◌, Bool, true, false, not, ◌&&◌, ◌||◌, leb, ltb, eqb, List, [], ◌∷◌, ◌++◌, length}
-use Rattle.std.proofs.Common.{take, get_or, inl, inr, refl, sym, ap, subst, ◌∙◌, arith}
-use Rattle.std.proofs.lemmas.Bool.{cases_lt, or_parts, or_right, lt-leb, le-leb}
-use Rattle.std.proofs.lemmas.Bool.Decides.{nat_tests}
-use Rattle.gj_json.specs.declared.mode.StringState.TheVariants.{Plain}
-use Rattle.gj_json.specs.Characters.{IsPlain}
-use Rattle.gj_json.specs.Internal.WholeTokens.{IsCharacter, AreCharacters}
-use Rattle.gj_json.specs.Internal.WideCharacters.{is_tail, is_stop, goes_on, is_narrow, ends_at, NoneEnds}
+use Rattle.gj_json.proofs.Common.{AreCharacters, Bool, IsPlain, List, NoneEnds, Plain, ap, arith, cases_lt, ends_at, eqb, false, get_or, inl, inr}
+use Rattle.gj_json.proofs.Common.{le-leb, leb, length, ltb, nat_tests, not, refl, subst, suc, sym, true, zero, ℕ, [], ◌&&◌, ◌++◌, ◌+◌, ◌-◌, ◌<◌, ◌∙◌}
+use Rattle.gj_json.proofs.Common.{◌∷◌, ◌≡◌, ◌≢◌, ◌≤◌, ◌⊎◌}
+use Rattle.std.proofs.Common.{◌||◌}
+use Rattle.std.proofs.Common.{take}
+use Rattle.std.proofs.lemmas.Bool.{or_parts, or_right, lt-leb}
+use Rattle.gj_json.specs.Internal.WholeTokens.{IsCharacter}
+use Rattle.gj_json.specs.Internal.WideCharacters.{is_tail, is_stop, goes_on, is_narrow}
 use Rattle.gj_json.proofs.Grammar.SpelledCharacters.{character_read, two, three}
 use Rattle.gj_json.proofs.Pieces.QuietModes.{joined}
 

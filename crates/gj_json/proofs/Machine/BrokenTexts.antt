@@ -1,9 +1,7 @@
 -- What is viable is a text broken off, in one way.
-use Rattle.std.proofs.Common.{◌≡◌, ℕ, ◌≤◌, ◌↔◌, List, ◌++◌, length, Option, Some, None, refl, sym, ◌∙◌}
-use Rattle.gj_json.specs.Tree.{Text}
-use Rattle.gj_json.specs.Text.{IsText, IsViable, IsViableWithin}
-use Rattle.gj_json.specs.Broken.{Broken, SpellsBroken, broken_depth, Extends}
-use Rattle.gj_json.specs.Internal.TextMachine.{run}
+use Rattle.gj_json.proofs.Common.{IsText, IsViable, IsViableWithin, List, None, Option, Some, SpellsBroken, Text, broken_depth, length, refl, run}
+use Rattle.gj_json.proofs.Common.{sym, ℕ, ◌++◌, ◌↔◌, ◌∙◌, ◌≡◌, ◌≤◌}
+use Rattle.gj_json.specs.Broken.{Broken, Extends}
 use Rattle.gj_json.proofs.Machine.Completions.{Goes, TextFrom}
 use Rattle.gj_json.proofs.Machine.MachineTexts.{text_goes_on}
 use Rattle.gj_json.proofs.Machine.CompletableStates.{FitsRun, viable_fits}

@@ -1,27 +1,20 @@
 -- Which number or string is under way after a byte.
-use Rattle.std.proofs.Common.{◌≡◌, ℕ, ◌+◌, ◌==◌, Bool, true, false, if◌then◌else◌, List, [], ◌∷◌, ◌++◌, Option, Some, None, refl, sym, subst, ◌∙◌}
-use Rattle.gj_json.specs.Internal.NamedBytes.{mark_first, mark_second, mark_third}
-use Rattle.gj_json.specs.declared.class.Class.{Class}
-use Rattle.gj_json.specs.declared.class.Class.TheVariants.{White, OpenArray, CloseArray, OpenObject, CloseObject, Comma, Colon, Quote, NumberStart, Letter}
-use Rattle.gj_json.specs.declared.class.Class.TheVariants.{Other}
-use Rattle.gj_json.specs.declared.constant.Constant.{Constant}
-use Rattle.gj_json.specs.declared.levels.Level.{Level}
-use Rattle.gj_json.specs.declared.mode.Mode.{Mode}
-use Rattle.gj_json.specs.declared.mode.StringState.{StringState}
+use Rattle.gj_json.proofs.Common.{BeginsNumber, Bool, Class, CloseArray, CloseObject, Colon, ComesFrom, Comma, Constant, LeafAs, Letter, Level, List}
+use Rattle.gj_json.proofs.Common.{Mode, None, NumberStart, OpenArray, OpenObject, Option, Other, Quote, Some, StandsAs, StringState, StringStep, Tree}
+use Rattle.gj_json.proofs.Common.{Under, after_value, begin_value, constant, false, if◌then◌else◌, in_number, mark_first, mark_second, mark_third}
+use Rattle.gj_json.proofs.Common.{refl, run_from, step, step_array_opened, step_colon_due, step_constant, step_leaf, step_name, step_name_due}
+use Rattle.gj_json.proofs.Common.{step_number, step_object_opened, step_string, step_value_due, string_ends, string_goes, string_next, string_refuses}
+use Rattle.gj_json.proofs.Common.{subst, sym, text_state, to, true, under_leaf, under_of, with_mark, ℕ, [], ◌++◌, ◌+◌, ◌==◌, ◌∙◌, ◌∷◌, ◌≡◌}
+use Rattle.gj_json.specs.declared.class.Class.TheVariants.{White}
 use Rattle.gj_json.specs.Internal.ByteClasses.{class_of}
-use Rattle.gj_json.specs.Internal.TextMachine.{Broken, text_due, mark_one, mark_two, begun, with_mark, step, run_from, Frame, in_array, in_object, Member, Leaf}
+use Rattle.gj_json.specs.Internal.TextMachine.{Broken, text_due, mark_one, mark_two, begun, Frame, in_array, in_object, Member, Leaf}
 use Rattle.gj_json.specs.Internal.TextMachine.{Partial, value_due, value_done, array_opened, object_opened, constant_on, number_on, string_on, name_due}
-use Rattle.gj_json.specs.Internal.TextMachine.{name_on, colon_due, to, step_leaf, begin_value, after_value, step_value_due, step_array_opened}
-use Rattle.gj_json.specs.Internal.TextMachine.{step_object_opened, step_name_due, step_colon_due, step_constant, step_number, step_string, step_name}
-use Rattle.gj_json.specs.Internal.TextMachine.{string_next, StringStep, string_ends, string_goes, string_refuses}
-use Rattle.gj_number.specs.Grammar.{BeginsNumber}
+use Rattle.gj_json.specs.Internal.TextMachine.{name_on, colon_due}
 use Rattle.gj_number.specs.DecidedNumbers.{is_number, begins_number}
 use Rattle.gj_number.proofs.Grammar.DecidedNumbers.{begins}
 use Rattle.gj_json.proofs.Grammar.ClassOfBytes.{number_starts}
-use Rattle.gj_json.specs.Internal.ReaderState.{LeafAs, StandsAs}
-use Rattle.gj_json.specs.Internal.ToldEvents.{in_number, text_state}
-use Rattle.gj_json.specs.Tree.{Tree, constant, number as number_tree}
-use Rattle.gj_json.specs.Internal.UnderWay.{Under, nothing, number, text, under_leaf, under_of, ComesFrom}
+use Rattle.gj_json.specs.Tree.{number as number_tree}
+use Rattle.gj_json.specs.Internal.UnderWay.{nothing, number, text}
 
 abbrev pub Came : Under → ℕ → Option Partial → Type 0
 Came before b None = Unit {0}
@@ -33,12 +26,7 @@ begin_came stack n b OpenObject e = tt
 begin_came stack n b (Letter which) e = tt
 begin_came stack n b Quote e = (refl, refl)
 begin_came stack n b NumberStart e = (refl, number_starts b e)
-begin_came stack n b White e = tt
-begin_came stack n b CloseArray e = tt
-begin_came stack n b CloseObject e = tt
-begin_came stack n b Comma e = tt
-begin_came stack n b Colon e = tt
-begin_came stack n b Other e = tt
+begin_came stack n b other e = tt
 
 due_came : (stack : List Frame) (n b : ℕ) (c : Class) → class_of b ≡ c → Came nothing b (step_value_due stack n b c)
 due_came stack n b White e = tt
@@ -63,8 +51,7 @@ name_came stack place done n b _ = tt
 colon_came : (stack : List Frame) (place : ℕ) (done : List Member) (np : ℕ) (name : List ℕ) (ne n b : ℕ) (c : Class)
     → Came nothing b (step_colon_due stack place done np name ne c)
 colon_came stack place done np name ne n b White = tt
-colon_came stack place done np name ne n b Colon = tt
-colon_came stack place done np name ne n b _ = tt
+colon_came stack place done np name ne n b other = tt
 
 after_came : (before : Under) (b : ℕ) (stack : List Frame) (t : Tree) (n : ℕ) (c : Class) → Came before b (after_value stack t n c)
 after_came before b [] t n White = tt

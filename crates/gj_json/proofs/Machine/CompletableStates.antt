@@ -1,30 +1,25 @@
 -- Each state completes, and no deeper than it is: what is under way is ended, and what is open is closed.
-use Rattle.std.proofs.Common.{zero, suc, ◌%◌, true, false, ◌≡◌, ℕ, ◌+◌, ◌*◌, ◌≤◌, List, [], ◌∷◌, ◌++◌, length, Option, Some, None, refl, ap, arith}
-use Rattle.std.specs.List.{AllByRecursion}
-use Rattle.gj_json.specs.Bytes.{close_brace, close_bracket, colon as colon_byte, line_feed, quote as quote_byte, zero_digit as zero_byte}
-use Rattle.gj_json.specs.Internal.NamedBytes.{letter_n, mark_second, mark_third}
-use Rattle.gj_json.specs.declared.constant.Constant.{Constant}
-use Rattle.gj_json.specs.declared.constant.Constant.TheVariants.{Null}
-use Rattle.gj_json.specs.Tree.{Text, Tree, constant, number, string, array, object, Elements, end_of_array, element, Members, end_of_object, member, depth}
-use Rattle.gj_json.specs.Tree.{elements_depth, members_depth}
-use Rattle.gj_json.specs.declared.mode.Bounds.{Bounds}
-use Rattle.gj_json.specs.declared.mode.Bounds.TheVariants.{Any, AfterE0, AfterED, AfterF0, AfterF4}
-use Rattle.gj_json.specs.Grammar.{Then, Exactly, Ends}
-use Rattle.gj_json.specs.Text.{IsViableWithin}
+use Rattle.gj_json.proofs.Common.{AfterE0, AfterED, AfterF0, AfterF4, AllByRecursion, Any, Bounds, Constant, Elements, Exactly, FitsBroken, FitsLeaf}
+use Rattle.gj_json.proofs.Common.{FitsName, IsViableWithin, List, Members, None, Null, Option, Some, StringState, Text, Tree, ap, arith, array}
+use Rattle.gj_json.proofs.Common.{close_brace, close_bracket, constant, depth, element, elements_depth, end_of_array, end_of_object, false, length}
+use Rattle.gj_json.proofs.Common.{letters_after, low_of, mark_second, mark_third, member, object, refl, run, string, string_goes, string_next, suc}
+use Rattle.gj_json.proofs.Common.{true, under_leaf, under_of, within, zero, ℕ, [], ◌%◌, ◌*◌, ◌++◌, ◌+◌, ◌∷◌, ◌≡◌, ◌≤◌}
+use Rattle.gj_json.specs.Bytes.{colon as colon_byte, line_feed, quote as quote_byte, zero_digit as zero_byte}
+use Rattle.gj_json.specs.Internal.NamedBytes.{letter_n}
+use Rattle.gj_json.specs.Tree.{number}
+use Rattle.gj_json.specs.Tree.{members_depth}
+use Rattle.gj_json.specs.Grammar.{Then, Ends}
 use Rattle.gj_json.specs.declared.class.Class.TheVariants.{Colon as colon, Quote as quote, Letter as letter}
 use Rattle.gj_json.proofs.Grammar.SpelledForms
 use Rattle.gj_json.proofs.Machine.CompletionsOfSteps
-use Rattle.gj_json.specs.Internal.ReaderState.{Fits, FitsName, FitsLeaf, FitsBroken}
+use Rattle.gj_json.specs.Internal.ReaderState.{Fits}
 use Rattle.gj_json.proofs.Machine.MachineTexts.{text_goes_on, text_from}
-use Rattle.gj_json.specs.declared.mode.StringState.{StringState}
 use Rattle.gj_json.specs.declared.mode.StringState.TheVariants.{Plain as plain, Escape as escape, HexDue as hex_due, HexOne as hex_one, HexTwo as hex_two}
 use Rattle.gj_json.specs.declared.mode.StringState.TheVariants.{HexThree as hex_three, InCharacter as in_character}
 use Rattle.gj_json.specs.Characters.{escape_of, hex_of}
-use Rattle.gj_json.specs.Utf8Bytes.{low_of}
 use Rattle.gj_json.specs.Internal.TextMachine.{Broken, text_due, mark_one, mark_two, begun, Frame, in_array, in_object, Member, Leaf, value_due, value_done}
 use Rattle.gj_json.specs.Internal.TextMachine.{array_opened, object_opened, constant_on, number_on, string_on, name_due, name_on, colon_due, back_elements}
-use Rattle.gj_json.specs.Internal.TextMachine.{back_members, letters_after, run, string_next, string_goes, within}
-use Rattle.gj_json.specs.Internal.UnderWay.{under_leaf, under_of}
+use Rattle.gj_json.specs.Internal.TextMachine.{back_members}
 use Rattle.gj_json.proofs.Machine.BytesUnderWay.{IsBegun, run_begun}
 use Rattle.gj_json.proofs.Machine.Completions.{TextFrom, After, AfterName, Completes, Goes, StringRest, StringOn}
 
@@ -133,10 +128,7 @@ two_on v = let g = three_on (v * 16 + 0) in (g.0, zero_byte ∷ g.1, ([], hex_th
 
 bounds_low : (bounds : Bounds) → within bounds (low_of bounds) ≡ true
 bounds_low Any = refl
-bounds_low AfterE0 = refl
-bounds_low AfterED = refl
-bounds_low AfterF0 = refl
-bounds_low AfterF4 = refl
+bounds_low other = refl
 
 character_ending : (more : ℕ) (bounds : Bounds) (value : ℕ) → (content : List ℕ) × (bytes : List ℕ) × StringRest (in_character more bounds value) content bytes
 character_ending zero bounds value = let c =

@@ -1,21 +1,19 @@
 -- Where nothing more comes, a state completes to the tree that it finishes with.
-use Rattle.std.proofs.Common.{ap, Option, ◌≡◌, ℕ, ◌+◌, Bool, true, false, if◌then◌else◌, List, [], ◌∷◌, ◌++◌, length, Some, None, refl, sym, arith}
+use Rattle.gj_json.proofs.Common.{Bool, Constant, Elements, Exactly, False, IsNumber, List, Members, None, Null, Option, Quoted, Some, Spells}
+use Rattle.gj_json.proofs.Common.{SpellsContent, SpellsElements, SpellsMark, SpellsMembers, SpellsMoreElements, SpellsMoreMembers, StringState, Text}
+use Rattle.gj_json.proofs.Common.{Tree, True, ap, arith, array, constant, element, end_of_array, end_of_object, false, finish, finish_leaf}
+use Rattle.gj_json.proofs.Common.{if◌then◌else◌, length, letters_of, member, object, open_brace, open_bracket, refl, string, sym, text_with, true, ℕ}
+use Rattle.gj_json.proofs.Common.{[], ◌++◌, ◌+◌, ◌∷◌, ◌≡◌}
 use Rattle.std.proofs.lemmas.List.{append-nil}
-use Rattle.gj_json.specs.Bytes.{open_brace, open_bracket, quote as quote_byte}
-use Rattle.gj_json.specs.declared.constant.Constant.{Constant}
-use Rattle.gj_json.specs.declared.constant.Constant.TheVariants.{Null, True, False}
-use Rattle.gj_json.specs.Tree.{Text, Tree, constant, number, string, array, object, Elements, end_of_array, element, Members, end_of_object, member}
-use Rattle.gj_json.specs.Grammar.{Then, White, Exactly, Ends, Quoted, letters_of, Spells, SpellsElements, SpellsMoreElements, SpellsMembers, SpellsMoreMembers}
-use Rattle.gj_number.specs.Grammar.{IsNumber}
+use Rattle.gj_json.specs.Bytes.{quote as quote_byte}
+use Rattle.gj_json.specs.Tree.{number}
+use Rattle.gj_json.specs.Grammar.{Then, White, Ends}
 use Rattle.gj_number.proofs.Grammar.DecidedNumbers.{number as decided_number, no_number}
-use Rattle.gj_json.specs.Text.{SpellsMark}
-use Rattle.gj_json.specs.Characters.{SpellsContent}
 use Rattle.gj_json.proofs.Grammar.SpelledForms
 use Rattle.gj_json.proofs.Machine.StepsOfCompletions.{placed}
-use Rattle.gj_json.specs.declared.mode.StringState.{StringState}
-use Rattle.gj_json.specs.Internal.TextMachine.{Broken, text_due, mark_one, mark_two, begun, finish, text_with, Frame, in_array, in_object, Member, Leaf}
+use Rattle.gj_json.specs.Internal.TextMachine.{Broken, text_due, mark_one, mark_two, begun, Frame, in_array, in_object, Member, Leaf}
 use Rattle.gj_json.specs.Internal.TextMachine.{value_due, value_done, array_opened, object_opened, constant_on, number_on, string_on, name_due, name_on}
-use Rattle.gj_json.specs.Internal.TextMachine.{colon_due, finish_leaf, is_number}
+use Rattle.gj_json.specs.Internal.TextMachine.{colon_due, is_number}
 use Rattle.gj_json.proofs.Machine.Completions.{TextFrom, After, AfterName, Completes, StringRest, StringOn, Due}
 
 quoted_end : (place : ℕ) (content : List ℕ) (end : ℕ) {K : ℕ → List ℕ → Type 0} {n : ℕ} → Then (Quoted place content end) K n [] → ⊥
@@ -30,8 +28,7 @@ number_end (d ∷ more) i h = SpelledForms.exactly_end h
 
 constant_end : {K : ℕ → List ℕ → Type 0} {n : ℕ} (which : Constant) → Then (Exactly (letters_of which)) K n [] → ⊥
 constant_end Null h = SpelledForms.exactly_end h
-constant_end True h = SpelledForms.exactly_end h
-constant_end False h = SpelledForms.exactly_end h
+constant_end other h = SpelledForms.exactly_end h
 
 -- a value is spelled by one byte at least
 value_end : {K : ℕ → List ℕ → Type 0} {n : ℕ} (t : Tree) → Then (Spells t) K n [] → ⊥

@@ -1,19 +1,15 @@
 -- Which bytes make a state of the machine the tree T, and the text T.
-use Rattle.std.proofs.Common.{◌≡◌, ℕ, true, List, [], ◌∷◌, ◌++◌, Option, Some, None, refl}
-use Rattle.gj_json.specs.Text.{SpellsMark}
+use Rattle.gj_json.proofs.Common.{Constant, Elements, Exactly, False, IsNumber, List, Members, None, Null, Option, Quoted, Some, Spells}
+use Rattle.gj_json.proofs.Common.{SpellsElements, SpellsMark, SpellsMembers, SpellsMoreElements, SpellsMoreMembers, StringState, Text, Tree, True}
+use Rattle.gj_json.proofs.Common.{array, constant, element, first_letter, letters_after, letters_of, mark_second, mark_third, member, object, refl}
+use Rattle.gj_json.proofs.Common.{string, string_goes, string_next, true, ℕ, [], ◌++◌, ◌∷◌, ◌≡◌}
 use Rattle.gj_json.specs.Bytes.{colon as colon_byte, quote as quote_byte}
-use Rattle.gj_json.specs.Internal.NamedBytes.{mark_second, mark_third}
-use Rattle.gj_json.specs.Tree.{Text, Tree, constant, number, string, array, object, Elements, element, Members, member}
-use Rattle.gj_json.specs.Grammar.{Then, White, Exactly, Ends, Quoted, Spells, SpellsElements, SpellsMoreElements, SpellsMembers, SpellsMoreMembers, letters_of}
-use Rattle.gj_number.specs.Grammar.{IsNumber}
-use Rattle.gj_json.specs.declared.mode.StringState.{StringState}
+use Rattle.gj_json.specs.Tree.{number}
+use Rattle.gj_json.specs.Grammar.{Then, White, Ends}
 use Rattle.gj_json.specs.declared.mode.StringState.TheVariants.{Plain as plain}
-use Rattle.gj_json.specs.Internal.TextMachine.{Member, Frame, in_array, in_object, string_goes, string_next, Leaf, value_due, value_done, array_opened}
+use Rattle.gj_json.specs.Internal.TextMachine.{Member, Frame, in_array, in_object, Leaf, value_due, value_done, array_opened}
 use Rattle.gj_json.specs.Internal.TextMachine.{object_opened, constant_on, number_on, string_on, name_due, name_on, colon_due, Partial, Broken, text_due}
-use Rattle.gj_json.specs.Internal.TextMachine.{mark_one, mark_two, begun, back_elements, back_members, letters_after}
-use Rattle.gj_json.specs.declared.constant.Constant.{Constant}
-use Rattle.gj_json.specs.declared.constant.Constant.TheVariants.{Null, True, False}
-use Rattle.gj_json.specs.Internal.ByteClasses.{first_letter}
+use Rattle.gj_json.specs.Internal.TextMachine.{mark_one, mark_two, begun, back_elements, back_members}
 
 -- a text under way may go on by these bytes, up to its quote
 abbrev pub StringRest : StringState → List ℕ → List ℕ → Type 0
@@ -80,5 +76,4 @@ Goes P (Some s) = P s
 -- a literal name: its first letter, and the letters after it
 pub spelled : (which : Constant) → letters_of which ≡ first_letter which ∷ letters_after which
 spelled Null = refl
-spelled True = refl
-spelled False = refl
+spelled other = refl

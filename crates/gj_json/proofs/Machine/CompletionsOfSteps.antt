@@ -1,29 +1,28 @@
 -- Where a step by a byte is made and the state after it completes by a rest, the state before it completes by the byte and the rest.
-use Rattle.std.proofs.Common.{◌≡◌, ℕ, ◌+◌, ◌==◌, Bool, true, false, if◌then◌else◌, List, [], ◌∷◌, ◌++◌, length, Option, Some, None, refl, sym, subst}
-use Rattle.std.proofs.Common.{append_assoc, append-nil, eqb-true}
-use Rattle.gj_json.specs.Bytes.{colon as colon_byte, open_brace, open_bracket, quote as quote_byte}
-use Rattle.gj_json.specs.Internal.NamedBytes.{mark_first, mark_second, mark_third}
-use Rattle.gj_json.specs.declared.constant.Constant.{Constant}
-use Rattle.gj_json.specs.Tree.{Text, Tree, constant, number, string, array, object, end_of_array, element, Members, end_of_object, member}
-use Rattle.gj_json.specs.Grammar.{Then, White, Exactly, Ends, Quoted, letters_of, Spells, SpellsElements, SpellsMembers, SpellsMoreMembers}
-use Rattle.gj_json.specs.Text.{SpellsMark}
-use Rattle.gj_json.specs.Characters.{SpellsContent}
-use Rattle.gj_json.specs.declared.class.Class.{Class}
+use Rattle.gj_json.proofs.Common.{Bool, Class, Constant, Exactly, List, Means, Members, None, Option, Quoted, Some, Spells, SpellsContent}
+use Rattle.gj_json.proofs.Common.{SpellsElements, SpellsMark, SpellsMembers, SpellsMoreMembers, StringState, StringStep, Text, Tree, after_value}
+use Rattle.gj_json.proofs.Common.{append_assoc, array, begin_value, constant, element, end_of_array, end_of_object, false, if◌then◌else◌, length}
+use Rattle.gj_json.proofs.Common.{letters_of, mark_first, mark_second, mark_third, member, object, open_brace, open_bracket, refl, step}
+use Rattle.gj_json.proofs.Common.{step_array_opened, step_colon_due, step_constant, step_leaf, step_name, step_name_due, step_number}
+use Rattle.gj_json.proofs.Common.{step_object_opened, step_string, step_value_due, string, string_ends, string_goes, string_next, string_refuses}
+use Rattle.gj_json.proofs.Common.{subst, sym, to, true, with_mark, ℕ, [], ◌++◌, ◌+◌, ◌==◌, ◌∷◌, ◌≡◌}
+use Rattle.std.proofs.Common.{append-nil, eqb-true}
+use Rattle.gj_json.specs.Bytes.{colon as colon_byte, quote as quote_byte}
+use Rattle.gj_json.specs.Tree.{number}
+use Rattle.gj_json.specs.Grammar.{Then, White, Ends}
 use Rattle.gj_json.specs.declared.class.Class.TheVariants.{White as white, OpenArray as open_array, CloseArray as close_array, OpenObject as open_object}
 use Rattle.gj_json.specs.declared.class.Class.TheVariants.{CloseObject as close_object, Comma as comma, Colon as colon, Quote as quote}
 use Rattle.gj_json.specs.declared.class.Class.TheVariants.{NumberStart as number_start, Letter as letter, Other as other}
-use Rattle.gj_json.specs.Internal.ByteClasses.{class_of, Means}
+use Rattle.gj_json.specs.Internal.ByteClasses.{class_of}
 use Rattle.gj_json.proofs.Grammar.ClassOfBytes.{means}
 use Rattle.gj_json.proofs.Grammar.SpelledForms
 use Rattle.gj_number.proofs.Grammar.DecidedNumbers.{number as decided_number}
-use Rattle.gj_json.specs.declared.mode.StringState.{StringState}
 use Rattle.gj_json.specs.declared.mode.StringState.TheVariants.{Plain as plain}
-use Rattle.gj_json.specs.Internal.TextMachine.{Broken, text_due, mark_one, mark_two, begun, with_mark, Frame, in_array, in_object, Member, Leaf, Partial}
-use Rattle.gj_json.specs.Internal.TextMachine.{begin_value, after_value, value_due, value_done, array_opened, object_opened, constant_on}
-use Rattle.gj_json.specs.Internal.TextMachine.{number_on as number_on_leaf, string_on, name_due, name_on as name_on_leaf, colon_due, step_value_due}
-use Rattle.gj_json.specs.Internal.TextMachine.{step_array_opened, step_object_opened, step_name_due, step_colon_due, step_constant, step_number, step_string}
-use Rattle.gj_json.specs.Internal.TextMachine.{step_name, step_leaf, step, back_members, begins_number, is_number, string_next, StringStep}
-use Rattle.gj_json.specs.Internal.TextMachine.{string_ends, string_goes, string_refuses, to, begin_name}
+use Rattle.gj_json.specs.Internal.TextMachine.{Broken, text_due, mark_one, mark_two, begun, Frame, in_array, in_object, Member, Leaf, Partial}
+use Rattle.gj_json.specs.Internal.TextMachine.{value_due, value_done, array_opened, object_opened, constant_on}
+use Rattle.gj_json.specs.Internal.TextMachine.{number_on as number_on_leaf, string_on, name_due, name_on as name_on_leaf, colon_due}
+use Rattle.gj_json.specs.Internal.TextMachine.{back_members, begins_number, is_number}
+use Rattle.gj_json.specs.Internal.TextMachine.{begin_name}
 use Rattle.gj_json.proofs.Machine.Completions.{TextFrom, After, AfterName, Completes, CompletesFrom, Goes, StringRest, StringOn, Due, spelled}
 use Rattle.gj_json.proofs.Grammar.SpelledTexts
 
@@ -67,12 +66,7 @@ back_begin stack T n b rest number_start m h = number_begun stack T n b rest h
 back_begin stack T n b rest (letter which) m h =
     let k : Then (Exactly (letters_of which)) (After stack (constant which n) T) n (b ∷ rest) = rw (spelled which) (SpelledForms.exactly_more m h) in
     (constant which n, here {F = Exactly (letters_of which)} k)
-back_begin stack T n b rest white m h = absurd h
-back_begin stack T n b rest close_array m h = absurd h
-back_begin stack T n b rest close_object m h = absurd h
-back_begin stack T n b rest comma m h = absurd h
-back_begin stack T n b rest colon m h = absurd h
-back_begin stack T n b rest other m h = absurd h
+back_begin stack T n b rest another m h = absurd h
 
 -- ---- after a value
 

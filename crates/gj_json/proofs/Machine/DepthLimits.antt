@@ -1,10 +1,8 @@
 -- A limit on the depth that is one higher, and what a limit says of the levels.
-use Rattle.std.proofs.Common.{ℕ, ◌+◌, ◌≤◌, List, [], ◌∷◌, length, arith}
-use Rattle.std.specs.List.{AllByRecursion}
-use Rattle.gj_json.specs.Tree.{Tree, depth}
+use Rattle.gj_json.proofs.Common.{AllByRecursion, FitsBroken, FitsLeaf, FitsName, List, Tree, arith, depth, length, ℕ, [], ◌+◌, ◌∷◌, ◌≤◌}
 use Rattle.gj_json.specs.Internal.TextMachine.{Broken, begun, Frame, Leaf, in_array, in_object, Member, value_due, value_done, array_opened, object_opened}
 use Rattle.gj_json.specs.Internal.TextMachine.{constant_on, number_on, string_on, name_due, name_on, colon_due}
-use Rattle.gj_json.specs.Internal.ReaderState.{FitsLeaf, FitsName, Fits, FitsBroken}
+use Rattle.gj_json.specs.Internal.ReaderState.{Fits}
 use Rattle.gj_json.proofs.Machine.CompletableStates.{levels_fit}
 use Rattle.gj_json.proofs.Events.OpenContainers.{own_levels}
 
@@ -45,9 +43,7 @@ leaf_levels d stack (object_opened place) h = omega (arith, h.0)
 leaf_levels d stack (constant_on which place left) h = omega (arith, levels_fit d stack h)
 leaf_levels d stack (number_on place so_far) h = omega (arith, levels_fit d stack h)
 leaf_levels d stack (string_on place so_far state) h = omega (arith, levels_fit d stack h)
-leaf_levels d stack (name_due place done) h = omega (arith, h.0)
-leaf_levels d stack (name_on place done np so_far state) h = omega (arith, h.0)
-leaf_levels d stack (colon_due place done np name ne) h = omega (arith, h.0)
+leaf_levels d stack other h = omega (arith, h.0)
 
 pub broken_deeper : (d : ℕ) (s : Broken) → FitsBroken d s → FitsBroken (d + 1) s
 broken_deeper d (begun marked s) h = leaf_deeper d s.stack s.leaf h

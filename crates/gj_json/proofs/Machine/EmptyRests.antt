@@ -1,21 +1,10 @@
 -- Nothing is left to the end of a text only after a value that nothing is around.
-use Rattle.std.proofs.Common.{◌≡◌, ℕ, Bool, true, false, not, List, [], ◌∷◌, ◌++◌, length, Option, Some, None, refl, sym, ap, ◌∙◌, arith}
+use Rattle.gj_json.proofs.Common.{Bool, Event, Exact, IsAdmitted, JsonFault, Level, List, Mode, None, NumberOn, Option, Reader, Some, StandsFor}
+use Rattle.gj_json.proofs.Common.{StandsRefused, Text, Truncated, ValueDone, all_events, ap, arith, events_by, false, inner_of, length, not, refl}
+use Rattle.gj_json.proofs.Common.{sym, true, ℕ, [], ◌++◌, ◌∙◌, ◌∷◌, ◌≡◌}
 use Rattle.std.specs.Option.{is_some}
 use Rattle.std.proofs.lemmas.List.{length-append}
-use Rattle.gj_number.specs.Exact.{Exact}
-use Rattle.gj_json.specs.declared.event.Event.{Event}
-use Rattle.gj_json.specs.declared.fault.JsonFault.{JsonFault}
-use Rattle.gj_json.specs.declared.fault.Cause.TheVariants.{Truncated}
-use Rattle.gj_json.specs.declared.levels.Level.{Level}
-use Rattle.gj_json.specs.declared.mode.Mode.{Mode}
-use Rattle.gj_json.specs.declared.mode.Mode.TheVariants.{ValueDone, NumberOn}
-use Rattle.gj_json.specs.declared.reader.Reader.{Reader}
-use Rattle.gj_json.specs.Internal.OpenLevels.{levels_in, inner_of}
-use Rattle.gj_json.specs.Tree.{Text}
-use Rattle.gj_json.specs.Refusal.{IsAdmitted}
-use Rattle.gj_json.specs.Events.{all_events, events_by}
-use Rattle.gj_json.specs.Reader.{StandsFor}
-use Rattle.gj_json.specs.Internal.ReaderState.{StandsRefused}
+use Rattle.gj_json.specs.Internal.OpenLevels.{levels_in}
 use Rattle.gj_json.specs.Internal.ToldEvents.{last_event}
 use Rattle.gj_json.proofs.Events.FinishedTexts.{Ends, under_ends}
 use Rattle.gj_json.proofs.Machine.LongestPrefixes.{never_both}
@@ -29,14 +18,12 @@ only_whole : (mode : Mode) (inner : Option Level) (may_end : Bool) (value : Opti
     → (mode ≡ ValueDone) × (inner ≡ None)
 only_whole ValueDone None may_end value start e = (refl, refl)
 only_whole NumberOn None true value start e = cc
-only_whole NumberOn None false value start e = cc
-only_whole _ _ may_end value start e = cc
+only_whole other another third value start e = cc
 
 -- what `is_none` answers of nothing
 pub none_told : {A : Type 0} (x : Option A) (b : Bool) → is_some x ≡ not b → x ≡ None → b ≡ true
 none_told None true e n = refl
-none_told None false e n = cc
-none_told (Some y) b e n = cc
+none_told other another e n = cc
 
 -- a list is not itself and one event more
 no_event_more : (events : List Event) (found : Event) → events ++ [] ≡ events ++ found ∷ [] → ⊥

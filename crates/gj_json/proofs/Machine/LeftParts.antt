@@ -1,11 +1,9 @@
 -- What the machine completes to a text is the left part of that text.
-use Rattle.std.proofs.Common.{◌≡◌, ℕ, ◌++◌, List, [], ◌∷◌, Some}
-use Rattle.gj_json.specs.Tree.{Text, Tree, constant, number, string, array, object, element, member}
-use Rattle.gj_json.specs.Text.{IsText}
+use Rattle.gj_json.proofs.Common.{IsText, List, Some, Text, Tree, array, constant, element, member, object, run, string, ℕ, [], ◌++◌, ◌∷◌, ◌≡◌}
+use Rattle.gj_json.specs.Tree.{number}
 use Rattle.gj_json.specs.Broken.{Member, Frame, in_array, in_object, Leaf, value_due, value_done, array_opened, object_opened, constant_on, number_on}
 use Rattle.gj_json.specs.Broken.{string_on, name_due, name_on, colon_due, Broken, text_due, mark_one, mark_two, begun, back_elements, back_members, Has}
 use Rattle.gj_json.specs.Broken.{ExtendsLeaf, Extends}
-use Rattle.gj_json.specs.Internal.TextMachine.{run}
 use Rattle.gj_json.proofs.Machine.Completions.{TextFrom, After, AfterName, Completes, Goes}
 use Rattle.gj_json.proofs.Machine.MachineTexts.{text_goes_on}
 

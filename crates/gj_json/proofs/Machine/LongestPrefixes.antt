@@ -1,20 +1,18 @@
 -- The refusal of an input is decided by its longest prefix that is viable, and there is one refusal or an admitted text.
-use Rattle.std.proofs.Common.{◌≡◌, ◌≢◌, ℕ, zero, suc, ◌+◌, ◌≤◌, ◌<◌, ◌⊎◌, ◌↔◌, inl, inr, min, List, [], ◌∷◌, ◌++◌, length, take, drop, get_or, Bool, true}
-use Rattle.std.proofs.Common.{false, if◌then◌else◌, Option, Some, None, refl, sym, ap, subst, ◌∙◌, arith, append_assoc, drop-cons}
-use Rattle.std.proofs.lemmas.List.{length-append, length-take-le, take_at, take-take, take_all, take-append-drop, append-nil}
-use Rattle.std.proofs.lemmas.Bool.Decides.{eqb_tells, leb_tells}
-use Rattle.gj_json.specs.declared.fault.JsonFault.{JsonFault}
-use Rattle.gj_json.specs.declared.fault.Cause.{Cause}
-use Rattle.gj_json.specs.declared.fault.Cause.TheVariants.{Syntax, Truncated, Depth, Length}
-use Rattle.gj_json.specs.Limits.{Allowed}
-use Rattle.gj_json.specs.Tree.{Text, Tree, constant, number, depth}
-use Rattle.gj_json.specs.Text.{IsText, IsTextWithin, IsViable, IsViableWithin}
-use Rattle.gj_json.specs.Refusal.{Stops, RefusedFor, IsRefusal, IsAdmitted}
+use Rattle.gj_json.proofs.Common.{Allowed, Bool, Cause, Depth, FitsLeaf, IsAdmitted, IsRefusal, IsText, IsViable, IsViableWithin, JsonFault, Length}
+use Rattle.gj_json.proofs.Common.{List, None, Option, RefusedFor, Some, Syntax, Text, Tree, Truncated, ap, append_assoc, arith, broken_depth}
+use Rattle.gj_json.proofs.Common.{constant, depth, drop, eqb_tells, false, finish, finish_leaf, get_or, if◌then◌else◌, inl, inr, length}
+use Rattle.gj_json.proofs.Common.{length-take-le, min, refl, run, subst, suc, sym, take-append-drop, take-take, text_with, true, zero, ℕ, [], ◌++◌}
+use Rattle.gj_json.proofs.Common.{◌+◌, ◌<◌, ◌↔◌, ◌∙◌, ◌∷◌, ◌≡◌, ◌≢◌, ◌≤◌, ◌⊎◌}
+use Rattle.std.proofs.Common.{take}
+use Rattle.std.proofs.Common.{drop-cons}
+use Rattle.std.proofs.lemmas.List.{length-append, take_at, take_all, append-nil}
+use Rattle.std.proofs.lemmas.Bool.Decides.{leb_tells}
+use Rattle.gj_json.specs.Tree.{number}
+use Rattle.gj_json.specs.Text.{IsTextWithin}
+use Rattle.gj_json.specs.Refusal.{Stops}
 use Rattle.gj_json.specs.Longest.{IsLongest, IsToldBy}
-use Rattle.gj_json.specs.Internal.TextMachine.{Broken, text_due, mark_one, mark_two, begun, Frame, Leaf, value_done, constant_on, number_on, run, is_number}
-use Rattle.gj_json.specs.Internal.TextMachine.{finish, finish_leaf, text_with}
-use Rattle.gj_json.specs.Internal.ReaderState.{FitsLeaf}
-use Rattle.gj_json.specs.Broken.{broken_depth}
+use Rattle.gj_json.specs.Internal.TextMachine.{Broken, text_due, mark_one, mark_two, begun, Frame, Leaf, value_done, constant_on, number_on, is_number}
 use Rattle.gj_json.proofs.Machine.CompletableStates.{FitsRun, viable_fits, fits_viable}
 use Rattle.gj_json.proofs.Machine.StateDepths.{broken_fits, fit_broken}
 use Rattle.gj_json.proofs.Machine.ReachedStates.{reached}

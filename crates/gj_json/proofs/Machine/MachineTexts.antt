@@ -1,11 +1,10 @@
 -- A text is what the machine reads from its start to its end.
-use Rattle.std.proofs.Common.{◌≡◌, ℕ, ◌+◌, List, [], ◌∷◌, ◌++◌, length, Option, Some, None, refl, sym, subst, arith}
+use Rattle.gj_json.proofs.Common.{IsText, List, None, Option, Some, Spells, SpellsMark, Text, Tree, arith, finish, length, refl, run, run_from, step}
+use Rattle.gj_json.proofs.Common.{subst, sym, ℕ, [], ◌++◌, ◌+◌, ◌∷◌, ◌≡◌}
 use Rattle.std.proofs.lemmas.List.{append-nil}
-use Rattle.gj_json.specs.Tree.{Text, Tree}
-use Rattle.gj_json.specs.Grammar.{Then, White, Spells}
-use Rattle.gj_json.specs.Text.{SpellsMark, IsText}
+use Rattle.gj_json.specs.Grammar.{Then, White}
 use Rattle.gj_json.proofs.Grammar.SpelledForms
-use Rattle.gj_json.specs.Internal.TextMachine.{Broken, text_due, step, run_from, run, finish}
+use Rattle.gj_json.specs.Internal.TextMachine.{Broken, text_due}
 use Rattle.gj_json.proofs.Machine.Completions.{After, TextFrom, Goes, Due}
 use Rattle.gj_json.proofs.Machine.StepsOfCompletions.{forward}
 use Rattle.gj_json.proofs.Machine.CompletionsOfSteps.{backward}

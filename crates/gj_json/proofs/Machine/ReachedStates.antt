@@ -1,26 +1,12 @@
 -- What holds of each state that some bytes lead to, and so of all texts that begin by these bytes.
-use Rattle.std.proofs.Common.{◌≡◌, ℕ, ◌+◌, ◌*◌, ◌≤◌, List, [], ◌∷◌, ◌++◌, length, Option, Some, None, refl, sym, ap, subst, ◌∙◌, arith, length-append}
-use Rattle.gj_json.specs.declared.event.Event.{Event}
-use Rattle.gj_json.specs.declared.levels.Level.{Level}
-use Rattle.gj_json.specs.declared.mode.Mode.{Mode}
-use Rattle.gj_json.specs.declared.mode.Mode.TheVariants.{ValueDone, TextDue}
-use Rattle.gj_json.specs.declared.mode.Move.{Move}
-use Rattle.gj_json.specs.declared.mode.Move.TheVariants.{Refuse, Go, Open, Close}
-use Rattle.gj_json.specs.Tree.{Text}
-use Rattle.gj_json.specs.Text.{IsText}
-use Rattle.gj_json.specs.Events.{events_by}
-use Rattle.gj_json.specs.Open.{open_at}
-use Rattle.gj_json.specs.Internal.OpenLevels.{inner_of, outer_of}
-use Rattle.gj_json.specs.Internal.TextMachine.{Broken, text_due, step, run_from, run}
-use Rattle.gj_json.specs.Internal.Transitions.{move_of}
-use Rattle.gj_json.specs.Internal.SeenEvents.{seen, IsTimely}
-use Rattle.gj_json.specs.Internal.ReaderState.{StandsAs, FitsBroken}
-use Rattle.gj_json.specs.Internal.ReaderStep.{opened}
-use Rattle.gj_json.specs.Internal.ToldEvents.{emitted, start_after}
+use Rattle.gj_json.proofs.Common.{Close, Event, FitsBroken, Go, IsText, IsTimely, Level, List, Mode, Move, None, Open, Option, Refuse, Some, StandsAs}
+use Rattle.gj_json.proofs.Common.{Text, TextDue, ValueDone, ap, arith, emitted, events_by, inner_of, length, move_of, open_at, opened, outer_of, refl}
+use Rattle.gj_json.proofs.Common.{run, run_from, seen, start_after, step, subst, sym, under_of, ℕ, [], ◌*◌, ◌++◌, ◌+◌, ◌∙◌, ◌∷◌, ◌≡◌, ◌≤◌}
+use Rattle.std.proofs.Common.{length-append}
+use Rattle.gj_json.specs.Internal.TextMachine.{Broken, text_due}
 use Rattle.gj_json.proofs.Machine.BytesUnderWay.{run_none}
 use Rattle.gj_json.proofs.Machine.Completions.{Goes, TextFrom}
 use Rattle.gj_json.proofs.Machine.MachineTexts.{text_goes_on}
-use Rattle.gj_json.specs.Internal.UnderWay.{under_of}
 use Rattle.gj_json.proofs.Readers.NumberUnderWay.{own_turn, own_turns, own_value, own_has, own_words, own_has_words}
 use Rattle.gj_json.proofs.Readers.Simulation.{Follows, moves}
 use Rattle.gj_json.proofs.Events.OpenContainers.{open_levels}

@@ -1,22 +1,18 @@
 -- The bytes of a text that is broken off lead the machine to it, and to nothing else.
-use Rattle.std.proofs.Common.{◌≡◌, ◌≢◌, ℕ, ◌+◌, inl, inr, true, false, List, [], ◌∷◌, ◌++◌, length, Some, None, refl, sym, ap, subst, ◌∙◌, arith, append-nil}
+use Rattle.gj_json.proofs.Common.{BeginsCharacter, BeginsQuoted, Constant, Exactly, False, List, Named, None, Null, Opened, Quoted, Some, Spells}
+use Rattle.gj_json.proofs.Common.{SpellsBroken, SpellsContent, SpellsLeaf, StringState, Tree, True, ap, arith, array, constant, eqb_tells, false}
+use Rattle.gj_json.proofs.Common.{first_letter, inl, inr, length, letters_after, letters_of, mark_first, mark_second, mark_third, object, refl, run}
+use Rattle.gj_json.proofs.Common.{run_from, step_leaf, string, subst, sym, true, ℕ, [], ◌++◌, ◌+◌, ◌∙◌, ◌∷◌, ◌≡◌, ◌≢◌}
+use Rattle.std.proofs.Common.{append-nil}
 use Rattle.std.proofs.Common.{eq-eqb}
-use Rattle.std.proofs.lemmas.Bool.Decides.{eqb_tells}
 use Rattle.gj_json.specs.Bytes.{comma as comma_byte}
-use Rattle.gj_json.specs.Internal.NamedBytes.{mark_first, mark_second, mark_third}
-use Rattle.gj_json.specs.declared.constant.Constant.{Constant}
-use Rattle.gj_json.specs.declared.constant.Constant.TheVariants.{Null, True, False}
 use Rattle.gj_json.specs.declared.class.Class.TheVariants.{Letter as letter}
-use Rattle.gj_json.specs.declared.mode.StringState.{StringState}
 use Rattle.gj_json.specs.declared.mode.StringState.TheVariants.{Plain as plain}
-use Rattle.gj_json.specs.Tree.{Tree, constant, number, string, array, object}
-use Rattle.gj_json.specs.Characters.{SpellsContent}
-use Rattle.gj_json.specs.Grammar.{Then, White, Exactly, Quoted, letters_of, Spells}
-use Rattle.gj_json.specs.Internal.ByteClasses.{first_letter}
+use Rattle.gj_json.specs.Tree.{number}
+use Rattle.gj_json.specs.Grammar.{Then, White}
 use Rattle.gj_json.specs.Broken.{Member, Frame, in_array, in_object, Leaf, value_due, value_done, array_opened, object_opened, constant_on, number_on}
-use Rattle.gj_json.specs.Broken.{string_on, name_due, name_on, colon_due, Partial, Broken, text_due, mark_one, mark_two, begun, BeginsCharacter, BeginsQuoted}
-use Rattle.gj_json.specs.Broken.{ElementsSoFar, MembersSoFar, Named, ArrayOpened, ObjectOpened, Opened, IsDue, Behind, SpellsLeaf, SpellsBroken}
-use Rattle.gj_json.specs.Internal.TextMachine.{step_leaf, run_from, run, letters_after}
+use Rattle.gj_json.specs.Broken.{string_on, name_due, name_on, colon_due, Partial, Broken, text_due, mark_one, mark_two, begun}
+use Rattle.gj_json.specs.Broken.{ElementsSoFar, MembersSoFar, ArrayOpened, ObjectOpened, IsDue, Behind}
 use Rattle.gj_json.proofs.Grammar.ClassOfBytes.{class_is, class_mark}
 use Rattle.gj_json.proofs.Grammar.SpelledForms
 use Rattle.gj_json.proofs.Machine.BytesUnderWay.{run_none}
@@ -91,8 +87,7 @@ opened_leads (in_object place done np name ne ∷ stack) u {K} k m bytes h =
 due_awaits : (stack : List Frame) → IsDue stack → awaiting stack ≡ at stack value_due
 due_awaits [] h = refl
 due_awaits (in_array place [] ∷ stack) h = absurd h
-due_awaits (in_array place (t ∷ done) ∷ stack) h = refl
-due_awaits (in_object place done np name ne ∷ stack) h = refl
+due_awaits other h = refl
 
 due_leads : (stack : List Frame) (m : ℕ) (bytes : List ℕ) → SpellsLeaf stack value_due m bytes → Leads (awaiting stack) m bytes (at stack value_due)
 due_leads stack m bytes h =
@@ -137,8 +132,7 @@ letters_lead stack which place (a ∷ more) left n h =
 
 letters_begin : (which : Constant) (b : ℕ) (rest : List ℕ) → letters_of which ≡ b ∷ rest → (b ≡ first_letter which) × (letters_after which ≡ rest)
 letters_begin Null b rest e = ((cc), (cc))
-letters_begin True b rest e = ((cc), (cc))
-letters_begin False b rest e = ((cc), (cc))
+letters_begin other b rest e = ((cc), (cc))
 
 constant_leads : (stack : List Frame) (which : Constant) (place : ℕ) (left : List ℕ) (m : ℕ) (bytes : List ℕ)
     → SpellsLeaf stack (constant_on which place left) m bytes → Leads (awaiting stack) m bytes (at stack (constant_on which place left))

@@ -1,21 +1,19 @@
 -- The bytes of a value lead the machine to that value.
-use Rattle.std.proofs.Common.{◌≡◌, ℕ, ◌+◌, inl, inr, List, [], ◌∷◌, ◌++◌, length, Some, refl, sym, ap, subst, ◌∙◌, arith, append_assoc, append-nil, eq-eqb}
-use Rattle.gj_json.specs.Bytes.{open_bracket, close_bracket, open_brace, close_brace, comma as comma_byte, colon as colon_byte, quote as quote_byte}
-use Rattle.gj_json.specs.declared.constant.Constant.{Constant}
-use Rattle.gj_json.specs.declared.constant.Constant.TheVariants.{Null, True, False}
+use Rattle.gj_json.proofs.Common.{BeginsNumber, Constant, Elements, Exactly, False, List, Members, Null, Quoted, Some, Spells, SpellsContent}
+use Rattle.gj_json.proofs.Common.{SpellsElements, SpellsMembers, SpellsMoreElements, SpellsMoreMembers, StringState, Tree, True, ap, append_assoc}
+use Rattle.gj_json.proofs.Common.{arith, array, close_brace, close_bracket, constant, element, end_of_array, end_of_object, first_letter, inl, inr}
+use Rattle.gj_json.proofs.Common.{length, letters_after, letters_of, member, object, open_brace, open_bracket, refl, step_leaf, string, string_ends}
+use Rattle.gj_json.proofs.Common.{string_goes, string_next, subst, sym, to, ℕ, [], ◌++◌, ◌+◌, ◌∙◌, ◌∷◌, ◌≡◌}
+use Rattle.std.proofs.Common.{append-nil, eq-eqb}
+use Rattle.gj_json.specs.Bytes.{comma as comma_byte, colon as colon_byte, quote as quote_byte}
 use Rattle.gj_json.specs.declared.class.Class.TheVariants.{OpenArray as open_array, CloseArray as close_array, OpenObject as open_object}
 use Rattle.gj_json.specs.declared.class.Class.TheVariants.{CloseObject as close_object, Comma as comma, Colon as colon, Quote as quote}
 use Rattle.gj_json.specs.declared.class.Class.TheVariants.{NumberStart as number_start, Letter as letter}
-use Rattle.gj_json.specs.declared.mode.StringState.{StringState}
 use Rattle.gj_json.specs.declared.mode.StringState.TheVariants.{Plain as plain}
-use Rattle.gj_json.specs.Tree.{Tree, constant, number, string, array, object, Elements, end_of_array, element, Members, end_of_object, member}
-use Rattle.gj_json.specs.Characters.{SpellsContent}
-use Rattle.gj_json.specs.Grammar.{Then, White, Exactly, Ends, Quoted, letters_of, Spells, SpellsElements, SpellsMoreElements, SpellsMembers, SpellsMoreMembers}
-use Rattle.gj_json.specs.Internal.ByteClasses.{first_letter}
-use Rattle.gj_number.specs.Grammar.{BeginsNumber}
+use Rattle.gj_json.specs.Tree.{number}
+use Rattle.gj_json.specs.Grammar.{Then, White, Ends}
 use Rattle.gj_json.specs.Broken.{Member, Frame, in_array, in_object, Leaf, value_due, value_done, array_opened, object_opened, constant_on, number_on}
 use Rattle.gj_json.specs.Broken.{string_on, name_due, name_on, colon_due, Partial, back_elements, back_members, BeginsNumber as NumberBegun}
-use Rattle.gj_json.specs.Internal.TextMachine.{step_leaf, letters_after, string_next, string_ends, string_goes, to}
 use Rattle.gj_json.proofs.Grammar.ClassOfBytes.{class_is, starts_number}
 use Rattle.gj_json.proofs.Grammar.SpelledTexts.{quote_on}
 use Rattle.gj_json.proofs.Grammar.CharacterPrefixes.{StringTo, content_to}

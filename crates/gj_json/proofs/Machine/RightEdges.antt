@@ -1,27 +1,23 @@
 -- What one byte more makes of what is due or under way at the right edge.
-use Rattle.std.proofs.Common.{◌≡◌, ◌≢◌, ℕ, ◌+◌, List, [], ◌∷◌, ◌++◌, length, refl, sym, ap, subst, ◌∙◌, arith, append_assoc, append-nil}
-use Rattle.gj_json.specs.Bytes.{quote as quote_byte, IsWhite}
-use Rattle.gj_json.specs.declared.constant.Constant.{Constant}
-use Rattle.gj_json.specs.declared.constant.Constant.TheVariants.{Null, True, False}
-use Rattle.gj_json.specs.declared.mode.StringState.{StringState}
+use Rattle.gj_json.proofs.Common.{BeginsCharacter, BeginsQuoted, Constant, Exactly, False, IsNumber, IsWhite, List, Null, Quoted, Spells}
+use Rattle.gj_json.proofs.Common.{SpellsContent, SpellsLeaf, StringState, StringStep, True, ap, append_assoc, arith, first_letter, length}
+use Rattle.gj_json.proofs.Common.{letters_after, letters_of, refl, string_ends, string_goes, string_next, subst, sym, ℕ, [], ◌++◌, ◌+◌, ◌∙◌, ◌∷◌, ◌≡◌}
+use Rattle.gj_json.proofs.Common.{◌≢◌}
+use Rattle.std.proofs.Common.{append-nil}
+use Rattle.gj_json.specs.Bytes.{quote as quote_byte}
 use Rattle.gj_json.specs.declared.mode.StringState.TheVariants.{Plain as plain}
 use Rattle.gj_json.specs.Tree.{number}
-use Rattle.gj_json.specs.Characters.{SpellsContent}
-use Rattle.gj_json.specs.Grammar.{Then, White, Exactly, Ends, Quoted, letters_of, Spells}
-use Rattle.gj_json.specs.Internal.ByteClasses.{first_letter}
-use Rattle.gj_json.specs.Broken.{Frame, number_on, BeginsCharacter, BeginsQuoted, SpellsLeaf}
-use Rattle.gj_json.specs.Internal.TextMachine.{letters_after, string_next, StringStep, string_ends, string_goes}
+use Rattle.gj_json.specs.Grammar.{Then, White, Ends}
+use Rattle.gj_json.specs.Broken.{Frame, number_on}
 use Rattle.gj_json.proofs.Grammar.SpelledForms
 use Rattle.gj_json.proofs.Grammar.SpelledTexts
 use Rattle.gj_json.proofs.Grammar.SpelledTexts.{Begun}
 use Rattle.gj_json.proofs.Grammar.CharacterPrefixes.{content_push}
-use Rattle.gj_number.specs.Grammar.{IsNumber}
 use Rattle.gj_json.proofs.Machine.TakenBytes.{Adds, then_adds, white_adds}
 
 pub letters_spelled : (which : Constant) (b : ℕ) → b ≡ first_letter which → (letters_of which ≡ (b ∷ []) ++ letters_after which) × (letters_after which ≢ [])
 letters_spelled Null b e = (rw e refl, λ f. cc)
-letters_spelled True b e = (rw e refl, λ f. cc)
-letters_spelled False b e = (rw e refl, λ f. cc)
+letters_spelled other b e = (rw e refl, λ f. cc)
 
 -- a quote, and nothing after it
 pub quote_begins : {n b : ℕ} → b ≡ quote_byte → BeginsQuoted n [] plain n (b ∷ [])

@@ -1,27 +1,25 @@
 -- Each step of the machine: what the bytes spell before it, they spell after it with one byte more.
-use Rattle.std.proofs.Common.{◌≡◌, ℕ, ◌+◌, ◌==◌, Bool, true, false, if◌then◌else◌, List, [], ◌∷◌, ◌++◌, length, Option, Some, None, refl, sym, ap, subst, ◌∙◌}
-use Rattle.std.proofs.Common.{arith, append_assoc, append-nil, eqb-true}
+use Rattle.gj_json.proofs.Common.{BeginsQuoted, Bool, Class, Constant, Exactly, List, Means, Named, None, Opened, Option, Some, Spells, SpellsBroken}
+use Rattle.gj_json.proofs.Common.{SpellsLeaf, SpellsMark, StringState, StringStep, Tree, after_value, ap, append_assoc, arith, begin_value, constant}
+use Rattle.gj_json.proofs.Common.{false, if◌then◌else◌, length, letters_after, mark_first, mark_second, mark_third, refl, run, run_from, step}
+use Rattle.gj_json.proofs.Common.{step_array_opened, step_colon_due, step_constant, step_leaf, step_name, step_name_due, step_number}
+use Rattle.gj_json.proofs.Common.{step_object_opened, step_string, step_value_due, string_ends, string_goes, string_next, string_refuses, subst, sym}
+use Rattle.gj_json.proofs.Common.{to, true, with_mark, ℕ, [], ◌++◌, ◌+◌, ◌==◌, ◌∙◌, ◌∷◌, ◌≡◌}
+use Rattle.std.proofs.Common.{append-nil, eqb-true}
 use Rattle.std.proofs.lemmas.List.{length-append}
 use Rattle.gj_json.specs.Bytes.{comma as comma_byte, mark_bytes}
-use Rattle.gj_json.specs.Internal.NamedBytes.{mark_first, mark_second, mark_third}
-use Rattle.gj_json.specs.declared.constant.Constant.{Constant}
-use Rattle.gj_json.specs.declared.class.Class.{Class}
 use Rattle.gj_json.specs.declared.class.Class.TheVariants.{White as white, OpenArray as open_array, CloseArray as close_array, OpenObject as open_object}
 use Rattle.gj_json.specs.declared.class.Class.TheVariants.{CloseObject as close_object, Comma as comma, Colon as colon, Quote as quote}
 use Rattle.gj_json.specs.declared.class.Class.TheVariants.{NumberStart as number_start, Letter as letter, Other as other}
 use Rattle.gj_number.proofs.Grammar.DecidedNumbers.{number as decided_number, begins as decided_begins}
-use Rattle.gj_json.specs.declared.mode.StringState.{StringState}
 use Rattle.gj_json.specs.declared.mode.StringState.TheVariants.{Plain as plain}
-use Rattle.gj_json.specs.Tree.{Tree, constant, number}
-use Rattle.gj_json.specs.Grammar.{Then, White, Exactly, Spells}
-use Rattle.gj_json.specs.Text.{SpellsMark}
-use Rattle.gj_json.specs.Internal.ByteClasses.{class_of, Means}
+use Rattle.gj_json.specs.Tree.{number}
+use Rattle.gj_json.specs.Grammar.{Then, White}
+use Rattle.gj_json.specs.Internal.ByteClasses.{class_of}
 use Rattle.gj_json.specs.Broken.{Member, Frame, in_array, in_object, Leaf, value_due, value_done, array_opened, object_opened, constant_on, number_on}
-use Rattle.gj_json.specs.Broken.{string_on, name_due, name_on, colon_due, Partial, Broken, text_due, mark_one, mark_two, begun, BeginsQuoted, Named}
-use Rattle.gj_json.specs.Broken.{ObjectOpened, Opened, IsDue, SpellsLeaf, SpellsBroken}
-use Rattle.gj_json.specs.Internal.TextMachine.{with_mark, begin_value, after_value, step_value_due, step_array_opened, step_object_opened, step_name_due}
-use Rattle.gj_json.specs.Internal.TextMachine.{step_colon_due, step_constant, step_number, step_string, step_name, step_leaf, step, run_from, run}
-use Rattle.gj_json.specs.Internal.TextMachine.{letters_after, begins_number, is_number, string_next, StringStep, string_ends, string_goes, string_refuses, to}
+use Rattle.gj_json.specs.Broken.{string_on, name_due, name_on, colon_due, Partial, Broken, text_due, mark_one, mark_two, begun}
+use Rattle.gj_json.specs.Broken.{ObjectOpened, IsDue}
+use Rattle.gj_json.specs.Internal.TextMachine.{begins_number, is_number}
 use Rattle.gj_json.proofs.Grammar.ClassOfBytes.{means, number_starts}
 use Rattle.gj_json.proofs.Grammar.SpelledForms
 use Rattle.gj_json.proofs.Machine.TakenBytes.{Adds, then_adds, named_adds, array_adds, object_adds, opened_adds, white_adds, follows, alone, ended_white}
@@ -52,12 +50,7 @@ module _ (m n b : ℕ) (q : List ℕ) (e : m + length q ≡ n) where
   begins stack (letter which) k w h =
       let g = letters_spelled which b w in
       put {L = Then White (SpellsLeaf stack (constant_on which n (letters_after which)))} stack (follows (refl, g.0, (λ f. cc), g.1)) h
-  begins stack white k w h = tt
-  begins stack close_array k w h = tt
-  begins stack close_object k w h = tt
-  begins stack comma k w h = tt
-  begins stack colon k w h = tt
-  begins stack other k w h = tt
+  begins stack another k w h = tt
 
   keeps_due : (stack : List Frame) (c : Class) → class_of b ≡ c → Means c b → Opened stack (Then White (SpellsLeaf stack value_due)) m q
       → Keeps m (q ++ b ∷ []) (step_value_due stack n b c)

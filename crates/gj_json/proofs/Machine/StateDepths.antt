@@ -1,11 +1,10 @@
 -- A state fits within a depth exactly where it nests no deeper.
-use Rattle.std.proofs.Common.{ℕ, ◌+◌, ◌≤◌, List, [], ◌∷◌, length, arith}
-use Rattle.std.specs.List.{AllByRecursion}
-use Rattle.gj_json.specs.Tree.{Tree, depth}
+use Rattle.gj_json.proofs.Common.{AllByRecursion, FitsBroken, FitsLeaf, FitsName, List, Tree, arith, broken_depth, depth, length, ℕ, [], ◌+◌, ◌∷◌}
+use Rattle.gj_json.proofs.Common.{◌≤◌}
 use Rattle.gj_json.specs.Internal.TextMachine.{Broken, text_due, mark_one, mark_two, begun, Frame, Leaf, in_array, in_object, Member, value_due, value_done}
 use Rattle.gj_json.specs.Internal.TextMachine.{array_opened, object_opened, constant_on, number_on, string_on, name_due, name_on, colon_due}
-use Rattle.gj_json.specs.Broken.{trees_depth, values_depth, stack_depth, leaf_depth, broken_depth}
-use Rattle.gj_json.specs.Internal.ReaderState.{Fits, FitsName, FitsLeaf, FitsBroken}
+use Rattle.gj_json.specs.Broken.{trees_depth, values_depth, stack_depth, leaf_depth}
+use Rattle.gj_json.specs.Internal.ReaderState.{Fits}
 use Rattle.gj_json.proofs.Machine.CompletableStates.{levels_fit}
 
 trees_fit : (d k : ℕ) (done : List Tree) → k ≤ d → AllByRecursion (λ t. depth t + k ≤ d) done → k + trees_depth done ≤ d

@@ -1,30 +1,27 @@
 -- Where a state completes by a byte and more, the step by that byte is made, and its state completes by the rest.
-use Rattle.std.proofs.Common.{Bool, true, false, Option, ◌≡◌, ℕ, ◌+◌, inl, inr, if◌then◌else◌, List, [], ◌∷◌, ◌++◌, Some, None, refl, sym, ap, subst, ◌∙◌}
-use Rattle.std.proofs.Common.{append_assoc, append-nil, eq-eqb}
-use Rattle.gj_json.specs.Bytes.{colon as colon_byte, open_brace, open_bracket, quote as quote_byte}
-use Rattle.gj_json.specs.Internal.NamedBytes.{mark_first, mark_second, mark_third}
-use Rattle.gj_json.specs.declared.constant.Constant.{Constant}
-use Rattle.std.proofs.lemmas.Bool.Decides.{eqb_tells}
-use Rattle.gj_json.specs.Tree.{Text, Tree, constant, number, string, array, object, Elements, end_of_array, element, Members, end_of_object, member}
-use Rattle.gj_json.specs.Grammar.{Then, White, Exactly, Ends, Quoted, letters_of, Spells, SpellsElements, SpellsMoreElements, SpellsMembers, SpellsMoreMembers}
-use Rattle.gj_json.specs.Text.{SpellsMark}
-use Rattle.gj_number.specs.Grammar.{IsNumber}
-use Rattle.gj_json.specs.Characters.{SpellsContent}
-use Rattle.gj_json.specs.declared.class.Class.{Class}
+use Rattle.gj_json.proofs.Common.{Bool, Class, Constant, Elements, Exactly, IsNumber, List, Members, None, Option, Quoted, Some, Spells}
+use Rattle.gj_json.proofs.Common.{SpellsContent, SpellsElements, SpellsMark, SpellsMembers, SpellsMoreElements, SpellsMoreMembers, StringState, Text}
+use Rattle.gj_json.proofs.Common.{Tree, after_value, ap, append_assoc, array, begin_value, constant, element, end_of_array, end_of_object, eqb_tells}
+use Rattle.gj_json.proofs.Common.{false, first_letter, if◌then◌else◌, inl, inr, letters_after, letters_of, mark_first, mark_second, mark_third}
+use Rattle.gj_json.proofs.Common.{member, object, open_brace, open_bracket, refl, step, step_array_opened, step_colon_due, step_constant, step_leaf}
+use Rattle.gj_json.proofs.Common.{step_name, step_name_due, step_number, step_object_opened, step_string, step_value_due, string, string_next, subst}
+use Rattle.gj_json.proofs.Common.{sym, true, with_mark, ℕ, [], ◌++◌, ◌+◌, ◌∙◌, ◌∷◌, ◌≡◌}
+use Rattle.std.proofs.Common.{append-nil, eq-eqb}
+use Rattle.gj_json.specs.Bytes.{colon as colon_byte, quote as quote_byte}
+use Rattle.gj_json.specs.Tree.{number}
+use Rattle.gj_json.specs.Grammar.{Then, White, Ends}
 use Rattle.gj_json.specs.declared.class.Class.TheVariants.{White as white, OpenArray as open_array, CloseArray as close_array, OpenObject as open_object}
 use Rattle.gj_json.specs.declared.class.Class.TheVariants.{CloseObject as close_object, Comma as comma, Colon as colon, Quote as quote, Letter as letter}
-use Rattle.gj_json.specs.Internal.ByteClasses.{class_of, first_letter}
+use Rattle.gj_json.specs.Internal.ByteClasses.{class_of}
 use Rattle.gj_json.proofs.Grammar.ClassOfBytes.{class_is, starts_number, number_classes, class_mark}
 use Rattle.gj_json.proofs.Grammar.SpelledForms
 use Rattle.gj_number.proofs.Grammar.DecidedNumbers.{number as decided_number, begins, no_number}
 use Rattle.gj_json.proofs.Grammar.NumberPrefixes.{stops}
-use Rattle.gj_json.specs.declared.mode.StringState.{StringState}
 use Rattle.gj_json.specs.declared.mode.StringState.TheVariants.{Plain as plain}
-use Rattle.gj_json.specs.Internal.TextMachine.{Broken, text_due, mark_one, mark_two, begun, with_mark, Frame, in_array, in_object, Member, Leaf, Partial}
-use Rattle.gj_json.specs.Internal.TextMachine.{begin_value, after_value, value_due, value_done, array_opened, object_opened, constant_on}
-use Rattle.gj_json.specs.Internal.TextMachine.{number_on as number_on_leaf, string_on, name_due, name_on as name_on_leaf, colon_due, step_value_due}
-use Rattle.gj_json.specs.Internal.TextMachine.{step_array_opened, step_object_opened, step_name_due, step_colon_due, step_constant, step_number, step_string}
-use Rattle.gj_json.specs.Internal.TextMachine.{step_name, step_leaf, step, letters_after, back_elements, back_members, begins_number, is_number, string_next}
+use Rattle.gj_json.specs.Internal.TextMachine.{Broken, text_due, mark_one, mark_two, begun, Frame, in_array, in_object, Member, Leaf, Partial}
+use Rattle.gj_json.specs.Internal.TextMachine.{value_due, value_done, array_opened, object_opened, constant_on}
+use Rattle.gj_json.specs.Internal.TextMachine.{number_on as number_on_leaf, string_on, name_due, name_on as name_on_leaf, colon_due}
+use Rattle.gj_json.specs.Internal.TextMachine.{back_elements, back_members, begins_number, is_number}
 use Rattle.gj_json.proofs.Machine.Completions.{TextFrom, After, AfterName, Completes, CompletesFrom, Goes, StringOn, Due, spelled}
 use Rattle.gj_json.proofs.Grammar.SpelledTexts
 
@@ -306,8 +303,7 @@ follows P stack t n comma h = tt
 follows P stack t n close_array h = tt
 follows P stack t n close_object h = tt
 follows P [] t n _ h = h
-follows P (in_array place done ∷ stack) t n _ h = h
-follows P (in_object place done np name ne ∷ stack) t n _ h = h
+follows P other t n _ h = h
 
 -- a byte that goes on after a value goes on in no number
 pub no_more : (P : Partial → Type 0) (stack : List Frame) (t : Tree) (n : ℕ) (so_far : List ℕ) (b : ℕ) → Goes P (after_value stack t n (class_of b))

@@ -1,11 +1,13 @@
 -- A byte that the machine takes: the bytes with it are spelled as the state after it.
-use Rattle.std.proofs.Common.{◌≡◌, ◌≢◌, ℕ, ◌+◌, List, [], ◌∷◌, ◌++◌, length, refl, sym, ap, ◌∙◌, arith, append_assoc, append-nil}
+use Rattle.gj_json.proofs.Common.{Elements, Exactly, IsWhite, List, Members, Named, Opened, Spells, SpellsElements, SpellsMembers, Tree, ap}
+use Rattle.gj_json.proofs.Common.{append_assoc, arith, array, close_brace, close_bracket, constant, element, end_of_array, end_of_object, length}
+use Rattle.gj_json.proofs.Common.{member, object, open_brace, open_bracket, refl, string, sym, ℕ, [], ◌++◌, ◌+◌, ◌∙◌, ◌∷◌, ◌≡◌, ◌≢◌}
+use Rattle.std.proofs.Common.{append-nil}
 use Rattle.std.proofs.lemmas.List.{length-append}
-use Rattle.gj_json.specs.Bytes.{open_bracket, close_bracket, open_brace, close_brace, IsWhite}
-use Rattle.gj_json.specs.Tree.{Tree, constant, number, string, array, object, Elements, end_of_array, element, Members, end_of_object, member}
-use Rattle.gj_json.specs.Grammar.{Then, White, Exactly, Closes, Spells, SpellsElements, SpellsMembers}
-use Rattle.gj_json.specs.Broken.{Member, Frame, in_array, in_object, back_elements, back_members, ElementsSoFar, MembersSoFar, Named, ArrayOpened, ObjectOpened}
-use Rattle.gj_json.specs.Broken.{Opened, Behind}
+use Rattle.gj_json.specs.Tree.{number}
+use Rattle.gj_json.specs.Grammar.{Then, White, Closes}
+use Rattle.gj_json.specs.Broken.{Member, Frame, in_array, in_object, back_elements, back_members, ElementsSoFar, MembersSoFar, ArrayOpened, ObjectOpened}
+use Rattle.gj_json.specs.Broken.{Behind}
 use Rattle.gj_json.proofs.Grammar.SpelledForms
 
 -- ---- what stands at the end of a form
@@ -78,10 +80,7 @@ ended_white t {n} = then_adds (then_adds (record { on = λ m bytes e h. (let k =
   where
     white_behind : (v : Tree) (m : ℕ) (bytes : List ℕ) → Behind v m bytes → White m bytes
     white_behind (number place literal end) m bytes h = h.0
-    white_behind (constant which place) m bytes h = h
-    white_behind (string place content end) m bytes h = h
-    white_behind (array place elements close) m bytes h = h
-    white_behind (object place members close) m bytes h = h
+    white_behind other m bytes h = h
 
 pub some_push : (bytes : List ℕ) (b : ℕ) → (bytes ++ b ∷ []) ≢ []
 some_push [] b e = cc
@@ -90,9 +89,7 @@ some_push (c ∷ bytes) b e = cc
 pub behind_adds : {n b : ℕ} (t : Tree) → IsWhite b → Adds n (b ∷ []) White (Behind t)
 behind_adds {n} {b} (number place literal end) w = record { on = λ m bytes e h. (whites bytes m b w h, some_push bytes b) }
 behind_adds (constant which place) w = white_adds w
-behind_adds (string place content end) w = white_adds w
-behind_adds (array place elements close) w = white_adds w
-behind_adds (object place members close) w = white_adds w
+behind_adds other w = white_adds w
 
 -- ---- what has ended in a container, and what comes last
 

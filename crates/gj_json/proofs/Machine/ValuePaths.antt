@@ -1,17 +1,15 @@
 -- Where the bytes of a value lead the machine.
-use Rattle.std.proofs.Common.{◌≡◌, ℕ, ◌+◌, ◌⊎◌, inl, inr, Bool, List, [], ◌∷◌, ◌++◌, length, Option, Some, None, refl, sym, ap, subst, ◌∙◌, arith, false}
-use Rattle.gj_json.specs.Bytes.{IsWhite}
-use Rattle.gj_json.specs.declared.class.Class.{Class}
+use Rattle.gj_json.proofs.Common.{Bool, Class, Exactly, IsNumber, IsWhite, List, None, Option, Some, Tree, after_value, ap, arith, begin_value, false}
+use Rattle.gj_json.proofs.Common.{inl, inr, length, refl, run_from, step, step_array_opened, step_leaf, step_value_due, subst, sym, to, with_mark, ℕ}
+use Rattle.gj_json.proofs.Common.{[], ◌++◌, ◌+◌, ◌∙◌, ◌∷◌, ◌≡◌, ◌⊎◌}
 use Rattle.gj_json.specs.declared.class.Class.TheVariants.{White as white, CloseArray as close_array}
-use Rattle.gj_json.specs.Tree.{Tree, number}
-use Rattle.gj_json.specs.Grammar.{Then, White, Exactly}
+use Rattle.gj_json.specs.Tree.{number}
+use Rattle.gj_json.specs.Grammar.{Then, White}
 use Rattle.gj_json.specs.Internal.ByteClasses.{class_of}
-use Rattle.gj_number.specs.Grammar.{IsNumber}
 use Rattle.gj_number.specs.DecidedNumbers.{begins_number}
 use Rattle.gj_number.proofs.Grammar.DecidedNumbers.{number as decided_number}
 use Rattle.gj_json.specs.Broken.{Member, Frame, in_array, in_object, Leaf, value_due, value_done, array_opened, object_opened, number_on, name_due, colon_due}
 use Rattle.gj_json.specs.Broken.{Partial, Broken, begun}
-use Rattle.gj_json.specs.Internal.TextMachine.{with_mark, begin_value, after_value, step_value_due, step_array_opened, step_leaf, run_from, step, to}
 use Rattle.gj_json.proofs.Grammar.ClassOfBytes.{class_is}
 use Rattle.gj_json.proofs.Grammar.SpelledForms
 use Rattle.gj_json.proofs.Machine.Completions.{Goes}

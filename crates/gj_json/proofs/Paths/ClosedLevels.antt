@@ -1,11 +1,8 @@
 -- Events that close the innermost level: whichever they are, the steps around it are left, with one element more.
-use Rattle.std.proofs.Common.{◌≡◌, ℕ, zero, suc, ◌+◌, ◌-◌, List, [], ◌∷◌, drop, refl, sym, ap, subst, ◌∙◌, arith}
-use Rattle.gj_json.specs.declared.event.Event.{Event}
-use Rattle.gj_json.specs.declared.event.What.{What}
-use Rattle.gj_json.specs.declared.path.PathStep.{PathStep}
-use Rattle.gj_json.specs.declared.path.PathStep.TheVariants.{Index}
-use Rattle.gj_json.specs.Ignored.{levels_behind, Leaves}
-use Rattle.gj_json.specs.Internal.PathTrail.{outer_steps, with_inner, advanced, IsSmall, followed, HasRoom, Follows}
+use Rattle.gj_json.proofs.Common.{Event, Index, Leaves, List, PathStep, What, advanced, ap, arith, drop, outer_steps, refl, subst, suc, sym, zero, ℕ}
+use Rattle.gj_json.proofs.Common.{[], ◌+◌, ◌-◌, ◌∙◌, ◌∷◌, ◌≡◌}
+use Rattle.gj_json.specs.Ignored.{levels_behind}
+use Rattle.gj_json.specs.Internal.PathTrail.{with_inner, IsSmall, followed, HasRoom, Follows}
 
 outer_dropped : (s : List PathStep) → outer_steps s ≡ drop 1 s
 outer_dropped [] = refl
@@ -54,12 +51,7 @@ module _ (last around : List PathStep) (is : IsSmall (advanced around) → last 
   after What.CloseArray es rest k s d l room = closed es rest k s d l room
   after What.CloseObject es rest k s d l room = closed es rest k s d l room
   after (What.Name known) es rest k s d l room = rest k (with_inner (PathStep.Member known) s) (named_dropped k (PathStep.Member known) s ∙ d) l
-  after (What.Text word) es rest k s d l room = rest k (advanced s) (advanced_dropped k s ∙ d) l
-  after (What.Number value) es rest k s d l room = rest k (advanced s) (advanced_dropped k s ∙ d) l
-  after What.True es rest k s d l room = rest k (advanced s) (advanced_dropped k s ∙ d) l
-  after What.False es rest k s d l room = rest k (advanced s) (advanced_dropped k s ∙ d) l
-  after What.Null es rest k s d l room = rest k (advanced s) (advanced_dropped k s ∙ d) l
-  after What.Mark es rest k s d l room = rest k (advanced s) (advanced_dropped k s ∙ d) l
+  after other es rest k s d l room = rest k (advanced s) (advanced_dropped k s ∙ d) l
 
   pub closes : (es : List Event) → Closes es
   closes [] k s d l = absurd (omega (arith, l))

@@ -1,27 +1,21 @@
 -- The steps after the events that a state has seen.
-use Rattle.std.proofs.Common.{◌≡◌, ℕ, suc, ◌+◌, ◌^◌, ◌≤◌, ◌<◌, Bool, true, false, List, [], ◌∷◌, ◌++◌, length, Option, Some, None, refl, sym, ap, subst, ◌∙◌}
-use Rattle.std.proofs.Common.{arith, append_assoc}
-use Rattle.std.proofs.lemmas.List.{append-nil, length-append, map-append}
-use Rattle.std.specs.List.{AllByRecursion}
-use Rattle.std.specs.Option.{option_to_list}
-use Rattle.gj_json.specs.declared.constant.Constant.TheVariants.{Null, True, False}
-use Rattle.gj_json.specs.declared.event.Event.{Event}
+use Rattle.gj_json.proofs.Common.{AllByRecursion, Bool, Elements, Event, False, FitsBroken, FitsLeaf, Flat, Index, List, Members, None, Null}
+use Rattle.gj_json.proofs.Common.{Numbered, Option, PathStep, Some, Timed, TrailAt, Tree, True, advanced, ap, append_assoc, arith, array, constant}
+use Rattle.gj_json.proofs.Common.{depth, done_elements, done_members, element, elements_depth, elements_events, end_of_array, end_of_object, events}
+use Rattle.gj_json.proofs.Common.{false, flat_events, leaf_timed, length, map-append, mark_events, member, members_events, object, option_to_list}
+use Rattle.gj_json.proofs.Common.{partial_timed, refl, seen, stack_timed, string, subst, suc, sym, timed, true, ℕ, [], ◌++◌, ◌+◌, ◌<◌, ◌^◌, ◌∙◌, ◌∷◌}
+use Rattle.gj_json.proofs.Common.{◌≡◌, ◌≤◌}
+use Rattle.std.proofs.lemmas.List.{append-nil, length-append}
 use Rattle.gj_json.specs.declared.event.What.TheVariants as What
-use Rattle.gj_json.specs.declared.flat.Flat.{Flat}
-use Rattle.gj_json.specs.declared.flat.Numbered.{Numbered}
-use Rattle.gj_json.specs.Flat.{numbers_events, flat_events}
+use Rattle.gj_json.specs.Flat.{numbers_events}
 use Rattle.gj_json.specs.declared.limits.TheConstants.{MOST_LEVELS}
-use Rattle.gj_json.specs.declared.path.PathStep.{PathStep}
-use Rattle.gj_json.specs.declared.path.PathStep.TheVariants.{Index}
-use Rattle.gj_json.specs.Tree.{Tree, constant, number, string, array, object, Elements, end_of_array, element, Members, end_of_object, member, depth}
-use Rattle.gj_json.specs.Tree.{elements_depth, members_depth}
+use Rattle.gj_json.specs.Tree.{number}
+use Rattle.gj_json.specs.Tree.{members_depth}
 use Rattle.gj_json.specs.Names.{known_of}
-use Rattle.gj_json.specs.Events.{Timed, timed, events, elements_events, members_events, mark_events}
-use Rattle.gj_json.specs.Internal.PathTrail.{advanced, IsSmall, followed, HasRoom, Follows, stack_steps, LeafTrail, TrailAt}
+use Rattle.gj_json.specs.Internal.PathTrail.{IsSmall, followed, HasRoom, Follows, stack_steps, LeafTrail}
 use Rattle.gj_json.specs.Internal.TextMachine.{Frame, in_array, in_object, Member, Leaf, value_due, value_done, array_opened, object_opened, constant_on}
 use Rattle.gj_json.specs.Internal.TextMachine.{number_on, string_on, name_due, name_on, colon_due, Broken, text_due, mark_one, mark_two, begun}
-use Rattle.gj_json.specs.Internal.ReaderState.{Fits, FitsLeaf, FitsBroken}
-use Rattle.gj_json.specs.Internal.SeenEvents.{stack_timed, leaf_timed, partial_timed, seen, done_elements, done_members}
+use Rattle.gj_json.specs.Internal.ReaderState.{Fits}
 use Rattle.gj_json.proofs.Events.EventTimes.{told}
 
 pub follows_on : (p q : List PathStep) (more : List Event) → ((t : List PathStep) → p ≡ t → Follows q more t) → (es : List Event) (s : List PathStep)
@@ -61,10 +55,7 @@ passes_both xs ys s t u f g p more h =
 
 events_some : (t : Tree) → 1 ≤ length (events t)
 events_some (constant which place) = omega arith
-events_some (number place literal end) = omega arith
-events_some (string place content end) = omega arith
-events_some (array place elements close) = omega arith
-events_some (object place members close) = omega arith
+events_some other = omega arith
 
 mutual
   value_passes : (t : Tree) (steps : List PathStep) → depth t + length steps ≤ MOST_LEVELS → length (events t) < 2 ^ 63 → IsSmall (advanced steps)
@@ -268,6 +259,4 @@ seen_trail (begun marked s) d p f m c h =
     leaf_stack d stack (constant_on which place left) f = f
     leaf_stack d stack (number_on place so_far) f = f
     leaf_stack d stack (string_on place so_far state) f = f
-    leaf_stack d stack (name_due place done) f = f.2
-    leaf_stack d stack (name_on place done np so_far state) f = f.2
-    leaf_stack d stack (colon_due place done np name ne) f = f.2
+    leaf_stack d stack other f = f.2

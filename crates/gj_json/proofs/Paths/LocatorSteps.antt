@@ -1,27 +1,18 @@
 -- What a piece leaves of a locator, and the path that it reports.
-use Rattle.std.proofs.Common.{◌≡◌, ℕ, ◌+◌, ◌-◌, ◌≤◌, List, [], ◌++◌, length, take, Option, Some, None, Result, Ok, Err, refl, sym, ap, subst, ◌∙◌, arith}
-use Rattle.std.proofs.Common.{append_assoc}
+use Rattle.gj_json.proofs.Common.{Allowed, Err, Event, IsText, JsonFault, Level, List, Mode, None, Ok, Option, PathStep, Reader, Result, Some}
+use Rattle.gj_json.proofs.Common.{StandsFor, StandsRefused, StandsWell, Text, TrailAt, ap, append_assoc, arith, events_by, inner_steps, length}
+use Rattle.gj_json.proofs.Common.{length-take-le, path_at, refl, seen, subst, sym, ℕ, [], ◌++◌, ◌+◌, ◌-◌, ◌∙◌, ◌≡◌, ◌≤◌}
+use Rattle.std.proofs.Common.{take}
 use Rattle.std.specs.Prelude.{MatchResult}
 use Rattle.std.proofs.Math.Seq.{take-append-add}
-use Rattle.std.proofs.lemmas.List.{append-nil, length-take-le, take-append-le}
-use Rattle.gj_json.specs.declared.event.Event.{Event}
-use Rattle.gj_json.specs.declared.fault.JsonFault.{JsonFault}
-use Rattle.gj_json.specs.declared.levels.Level.{Level}
+use Rattle.std.proofs.lemmas.List.{append-nil, take-append-le}
 use Rattle.gj_json.specs.declared.locator.Locator.{Locator}
-use Rattle.gj_json.specs.declared.mode.Mode.{Mode}
 use Rattle.gj_json.specs.declared.path.Path.{Path}
-use Rattle.gj_json.specs.declared.path.PathStep.{PathStep}
-use Rattle.gj_json.specs.declared.reader.Reader.{Reader}
-use Rattle.gj_json.specs.Limits.{Allowed, IsAllowed}
-use Rattle.gj_json.specs.Tree.{Text}
-use Rattle.gj_json.specs.Text.{IsText}
-use Rattle.gj_json.specs.Events.{events_by}
+use Rattle.gj_json.specs.Limits.{IsAllowed}
 use Rattle.gj_json.specs.Internal.OpenLevels.{levels_in}
-use Rattle.gj_json.specs.Internal.SeenEvents.{seen}
-use Rattle.gj_json.specs.Internal.ReaderState.{StandsWell, StandsRefused}
-use Rattle.gj_json.specs.Reader.{StandsFor, Hears, HearsBy}
-use Rattle.gj_json.specs.Path.{steps_of, path_at}
-use Rattle.gj_json.specs.Internal.PathTrail.{inner_steps, Follows, TrailAt, begins, kept_steps}
+use Rattle.gj_json.specs.Reader.{Hears, HearsBy}
+use Rattle.gj_json.specs.Path.{steps_of}
+use Rattle.gj_json.specs.Internal.PathTrail.{Follows, begins, kept_steps}
 use Rattle.gj_json.specs.Locator.{Trails, StandsFor as LocatorStandsFor}
 use Rattle.gj_json.proofs.Machine.Completions.{Goes, TextFrom}
 use Rattle.gj_json.proofs.Machine.MachineTexts.{text_goes_on}

@@ -1,10 +1,10 @@
 -- Rows of the paths that prefixes of texts lead to.
-use Rattle.std.proofs.Common.{◌≡◌, false, [], ◌∷◌, codes, refl}
+use Rattle.gj_json.proofs.Common.{Index, Text, Tree, array, codes, element, end_of_array, end_of_object, false, member, object, path_at, refl, string}
+use Rattle.gj_json.proofs.Common.{[], ◌∷◌, ◌≡◌}
 use Rattle.gj_json.specs.declared.names.Known.{Known}
-use Rattle.gj_json.specs.declared.path.PathStep.TheVariants.{Index, Member}
-use Rattle.gj_json.specs.Tree.{Text, Tree, number, string, array, object, end_of_array, element, end_of_object, member}
+use Rattle.gj_json.specs.declared.path.PathStep.TheVariants.{Member}
+use Rattle.gj_json.specs.Tree.{number}
 use Rattle.gj_json.specs.Names.{known_of}
-use Rattle.gj_json.specs.Path.{path_at}
 
 unmarked : Tree → Text
 unmarked value = record { marked = false; value = value }

@@ -1,11 +1,10 @@
 -- The steps of a path, the innermost first.
-use Rattle.std.proofs.Common.{◌≡◌, ◌≢◌, ℕ, zero, suc, ◌+◌, ◌-◌, ◌≤◌, ◌<◌, List, [], ◌∷◌, ◌++◌, length, get_or, take, set, refl, sym, ap, ◌∙◌, arith, add-one}
-use Rattle.std.proofs.Common.{append_assoc}
-use Rattle.std.proofs.lemmas.List.{get_or-set_same, get_or-set_other, take_more}
+use Rattle.gj_json.proofs.Common.{Index, List, PathStep, ap, append_assoc, arith, get_or, length, outer_steps, refl, suc, sym, take_more, zero, ℕ, []}
+use Rattle.gj_json.proofs.Common.{◌++◌, ◌+◌, ◌-◌, ◌<◌, ◌∙◌, ◌∷◌, ◌≡◌, ◌≢◌, ◌≤◌}
+use Rattle.std.proofs.Common.{take, set, add-one}
+use Rattle.std.proofs.lemmas.List.{get_or-set_same, get_or-set_other}
 use Rattle.std.specs.Prelude.{slice_set}
-use Rattle.gj_json.specs.declared.path.PathStep.{PathStep}
-use Rattle.gj_json.specs.declared.path.PathStep.TheVariants.{Index}
-use Rattle.gj_json.specs.Internal.PathTrail.{steps_back, with_inner, outer_steps}
+use Rattle.gj_json.specs.Internal.PathTrail.{steps_back, with_inner}
 
 set_above : (xs : List PathStep) (n m : ℕ) (x : PathStep) → n ≤ m → steps_back n (set xs m x) ≡ steps_back n xs
 set_above xs zero m x l = refl

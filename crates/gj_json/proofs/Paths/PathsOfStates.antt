@@ -1,26 +1,20 @@
 -- The path that a prefix of a text leads to, by the state of the machine.
-use Rattle.std.proofs.Common.{◌≡◌, ℕ, ◌+◌, ◌==◌, ◌&&◌, nat_lt, nat_le, ◌≤◌, Bool, true, false, if◌then◌else◌, List, [], ◌∷◌, ◌++◌, length, Option, Some, None}
-use Rattle.std.proofs.Common.{unwrap_or, refl, sym, ap, ◌∙◌, arith}
-use Rattle.std.proofs.lemmas.Bool.Decides.{nat_tests}
+use Rattle.gj_json.proofs.Common.{BegunAs, Bool, Elements, False, InTime, Index, IsText, IsTimely, LeafAs, Level, List, Members, Mode, None, Null}
+use Rattle.gj_json.proofs.Common.{Option, PathStep, Some, Spells, SpellsElements, SpellsMembers, SpellsMoreElements, SpellsMoreMembers, StandsAs}
+use Rattle.gj_json.proofs.Common.{Text, TrailAt, Tree, True, advanced, ap, arith, array, constant, done_elements, done_members, element}
+use Rattle.gj_json.proofs.Common.{elements_events, end_of_array, end_of_object, events, false, if◌then◌else◌, leaf_timed, length, mark_events, member}
+use Rattle.gj_json.proofs.Common.{members_events, nat_le, nat_lt, nat_tests, object, outer_steps, partial_timed, path_at, refl, run, stack_timed}
+use Rattle.gj_json.proofs.Common.{string, sym, timed, true, ℕ, [], ◌&&◌, ◌++◌, ◌+◌, ◌==◌, ◌∙◌, ◌∷◌, ◌≡◌, ◌≤◌}
+use Rattle.std.proofs.Common.{unwrap_or}
 use Rattle.std.specs.Option.{option_or}
-use Rattle.gj_json.specs.declared.constant.Constant.TheVariants.{Null, True, False}
 use Rattle.gj_json.specs.declared.event.What.TheVariants as What
-use Rattle.gj_json.specs.declared.levels.Level.{Level}
-use Rattle.gj_json.specs.declared.mode.Mode.{Mode}
-use Rattle.gj_json.specs.declared.path.PathStep.{PathStep}
-use Rattle.gj_json.specs.declared.path.PathStep.TheVariants.{Index}
-use Rattle.gj_json.specs.Text.{IsText}
-use Rattle.gj_json.specs.Tree.{Text, Tree, constant, number, string, array, object, Elements, end_of_array, element, Members, end_of_object, member}
-use Rattle.gj_json.specs.Grammar.{Spells, SpellsElements, SpellsMoreElements, SpellsMembers, SpellsMoreMembers}
+use Rattle.gj_json.specs.Tree.{number}
 use Rattle.gj_json.specs.Names.{known_of}
-use Rattle.gj_json.specs.Events.{timed, events, elements_events, members_events, mark_events}
-use Rattle.gj_json.specs.Path.{by_step, path_in, elements_path, members_path, path_at}
-use Rattle.gj_json.specs.Internal.PathTrail.{outer_steps, advanced, stack_steps, LeafTrail, TrailAt, begins, kept_steps}
-use Rattle.gj_json.specs.Internal.TextMachine.{run, Broken, text_due, mark_one, mark_two, begun, Frame, in_array, in_object, Member, Leaf, value_due}
+use Rattle.gj_json.specs.Path.{by_step, path_in, elements_path, members_path}
+use Rattle.gj_json.specs.Internal.PathTrail.{stack_steps, LeafTrail, begins, kept_steps}
+use Rattle.gj_json.specs.Internal.TextMachine.{Broken, text_due, mark_one, mark_two, begun, Frame, in_array, in_object, Member, Leaf, value_due}
 use Rattle.gj_json.specs.Internal.TextMachine.{value_done, array_opened, object_opened, constant_on, number_on, string_on, name_due, name_on, colon_due}
 use Rattle.gj_json.specs.Internal.TextMachine.{back_elements, back_members}
-use Rattle.gj_json.specs.Internal.ReaderState.{LeafAs, StandsAs}
-use Rattle.gj_json.specs.Internal.SeenEvents.{InTime, BegunAs, IsTimely, stack_timed, leaf_timed, partial_timed, done_elements, done_members}
 use Rattle.gj_json.proofs.Machine.Completions.{Goes, TextFrom, After, AfterName, Due, Completes}
 use Rattle.gj_json.proofs.Events.OpenContainers.{front}
 use Rattle.gj_json.proofs.Paths.PathSteps.{outward}

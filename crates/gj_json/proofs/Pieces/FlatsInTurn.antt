@@ -1,19 +1,10 @@
 -- One array of numbers after another, within an array: what was taken of the piece before, and the rest of it.
-use Rattle.std.proofs.Common.{◌≡◌, ℕ, ◌+◌, ◌-◌, ◌≤◌, ◌<◌, List, ◌++◌, get_or, length, length-drop, take, drop, Some, refl, sym, ap, subst, ◌∙◌, arith}
-use Rattle.std.proofs.lemmas.List.{length-take-le, get_or-drop}
-use Rattle.std.specs.List.{AllByRecursion}
-use Rattle.gj_json.specs.Bytes.{open_bracket, comma, IsWhite}
-use Rattle.gj_json.specs.declared.event.Event.{Event}
-use Rattle.gj_json.specs.declared.flat.Flat.{Flat}
-use Rattle.gj_json.specs.declared.levels.Level.TheVariants.{Array}
-use Rattle.gj_json.specs.declared.mode.Mode.{Mode}
-use Rattle.gj_json.specs.declared.mode.Mode.TheVariants.{ValueDone, ValueDue}
-use Rattle.gj_json.specs.declared.reader.Reader.{Reader}
-use Rattle.gj_json.specs.Flat.{flat_events}
-use Rattle.gj_json.specs.Internal.FedReader.{Passed, FeedsAll}
-use Rattle.gj_json.specs.Internal.SpelledNumbers.{IsFlat}
-use Rattle.gj_json.specs.Internal.FlatParts.{cut, IsDueAt}
-use Rattle.gj_json.specs.Internal.OpenLevels.{levels_in, inner_of}
+use Rattle.gj_json.proofs.Common.{AllByRecursion, Array, Event, FeedsAll, Flat, IsDueAt, IsFlat, IsWhite, List, Mode, Passed, Reader, Some, ValueDone}
+use Rattle.gj_json.proofs.Common.{ValueDue, ap, arith, cut, drop, flat_events, get_or, get_or-drop, inner_of, length, length-take-le, open_bracket}
+use Rattle.gj_json.proofs.Common.{refl, subst, sym, ℕ, ◌++◌, ◌+◌, ◌-◌, ◌<◌, ◌∙◌, ◌≡◌, ◌≤◌}
+use Rattle.std.proofs.Common.{length-drop, take}
+use Rattle.gj_json.specs.Bytes.{comma}
+use Rattle.gj_json.specs.Internal.OpenLevels.{levels_in}
 use Rattle.gj_json.proofs.Pieces.PieceRests.{rest_of, more_within}
 use Rattle.gj_json.proofs.Pieces.TakenFlats.{flat_taken, comma_taken}
 use Rattle.gj_json.proofs.Readers.CallsInTurn.{piece_all, piece_left}

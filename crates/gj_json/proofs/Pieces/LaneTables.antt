@@ -1,10 +1,10 @@
 -- Tables of sixteen bytes that are read at the halves of the bytes of a vector.
-use Rattle.std.proofs.Common.{◌≡◌, ℕ, ◌/◌, ◌<◌, ◌^◌, Fits, w8, List, map, length, get_or, replicate, bit_and, refl, sym, ap, ◌∙◌, arith}
-use Rattle.std.proofs.lemmas.List.{get_or-map, length-map, ext_get_or}
-use Rattle.std.proofs.lemmas.Nat.{and_le_r}
+use Rattle.gj_json.proofs.Common.{Each1, List, and_le_r, ap, arith, bit_and, get_or, length, length-map, map, refl, sym, w8, zip2, ℕ, ◌/◌, ◌<◌, ◌^◌}
+use Rattle.gj_json.proofs.Common.{◌∙◌, ◌≡◌}
+use Rattle.std.proofs.Common.{Fits, replicate}
+use Rattle.std.proofs.lemmas.List.{get_or-map, ext_get_or}
 use Rattle.std.proofs.lemmas.Simd.{Each1-all, Each1-weaker, Each1-zip2, Each2-splat, Each1-get_or, below_from_Fits, length-zip2, swz_l, SwzOk, SwzOk-from_below}
 use Rattle.std.proofs.lemmas.Simd.{length-swz_l, get_or-swz_l_below}
-use lib.Lanes.{zip2, Each1}
 
 abbrev pub down : ℕ → ℕ → ℕ
 down a b = a / 2 ^ b

@@ -1,15 +1,15 @@
 -- Bytes that pass a test, seen a vector at a time.
-use Rattle.std.proofs.Common.{◌≡◌, ℕ, ◌+◌, ◌<◌, ◌≤◌, ◌%◌, ◌^◌, ◌*◌, ◌/◌, Bool, true, false, not, cond, eqb, ltb, w8, Fits, List, [], ◌∷◌, map, length, take}
-use Rattle.std.proofs.Common.{drop, get_or, zero, suc, refl, sym, ap, ap₂, subst, ◌∙◌, drop-drop, arith}
-use Rattle.std.proofs.lemmas.Bool.{agree_below, agree_below_at, eq-eqb, ne_eqb}
-use Rattle.std.proofs.lemmas.List.{length-map}
+use Rattle.gj_json.proofs.Common.{Bool, Each1, List, agree_below, agree_below_at, ap, ap₂, arith, cond, drop, eqb, false, get_or, leading_from_mask_l}
+use Rattle.gj_json.proofs.Common.{length, length-map, ltb, map, mask_l, mask_l-mod, not, prefix_len, prefix_len-le-length, refl, subst, suc, sym}
+use Rattle.gj_json.proofs.Common.{trailing_mask_l, true, w8, zero, zip2, ℕ, [], ◌%◌, ◌*◌, ◌+◌, ◌/◌, ◌<◌, ◌^◌, ◌∙◌, ◌∷◌, ◌≡◌, ◌≤◌}
+use Rattle.std.proofs.Common.{Fits, take}
+use Rattle.std.proofs.Common.{drop-drop}
+use Rattle.std.proofs.lemmas.Bool.{eq-eqb, ne_eqb}
 use Rattle.std.proofs.lemmas.List.Folds.{prefix_len-append}
-use Rattle.std.proofs.lemmas.Simd.{map-map, mask_l-mod, chunk-drop, length-chunk, leading_from_mask_l, zip2_of_maps, trailing_mask_l}
-use Rattle.std.proofs.lemmas.List.Sums.{prefix_len-le-length}
-use Rattle.std.specs.List.{prefix_len}
+use Rattle.std.proofs.lemmas.Simd.{map-map, chunk-drop, length-chunk, zip2_of_maps}
 use lib.Count.{count_trailing_zeros}
 use lib.Bits.{bit_or}
-use lib.Lanes.{zip2, chunk, mask_l, top, Each1}
+use lib.Lanes.{chunk, top}
 use Rattle.std.specs.Simd.{first_chunks}
 
 -- a mask by lanes says of each byte what the test says, if they agree on all 256

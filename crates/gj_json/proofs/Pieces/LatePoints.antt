@@ -1,37 +1,19 @@
 -- A member `geometry` that is a whole Point whose coordinates stand before its type, taken at once: the tokens that it is, one after another.
-use Rattle.std.proofs.Common.{◌≡◌, ℕ, ◌+◌, ◌-◌, ◌≤◌, ◌<◌, true, List, [], ◌∷◌, ◌++◌, codes, length, take, take-add, drop, None, refl, sym, ap, ap₂, subst, ◌∙◌}
-use Rattle.std.proofs.Common.{arith, append_assoc, length-drop}
-use Rattle.std.proofs.lemmas.List.{length-append, length-take-le}
-use Rattle.std.specs.List.{AllByRecursion}
-use Rattle.gj_json.specs.Bytes.{IsWhite, open_brace, close_brace, comma}
+use Rattle.gj_json.proofs.Common.{AllByRecursion, Allowed, Coordinates, Ending, Event, FeedsAll, Flat, Geometry, IsFlat, IsQuoted, IsWhite, Lands}
+use Rattle.gj_json.proofs.Common.{Level, List, Mode, NameDue, None, Object, Reader, StandsWell, TypeName, ValueDone, ValueDue, What, Word, ap}
+use Rattle.gj_json.proofs.Common.{append_assoc, ap₂, arith, close_brace, codes, cut, drop, event_at, flat_events, length, length-take-le, names}
+use Rattle.gj_json.proofs.Common.{open_brace, opened, refl, string, subst, sym, take-add, true, ℕ, [], ◌++◌, ◌+◌, ◌-◌, ◌<◌, ◌∙◌, ◌∷◌, ◌≡◌, ◌≤◌}
+use Rattle.std.proofs.Common.{take}
+use Rattle.std.proofs.Common.{length-drop}
+use Rattle.std.proofs.lemmas.List.{length-append}
+use Rattle.gj_json.specs.Bytes.{comma}
 use Rattle.gj_json.specs.declared.class.Class.TheVariants.{Comma as comma_class}
-use Rattle.gj_json.specs.declared.event.Event.{Event}
-use Rattle.gj_json.specs.declared.event.What.{What}
-use Rattle.gj_json.specs.declared.flat.Flat.{Flat}
 use Rattle.gj_json.specs.declared.head.LatePoint.{LatePoint}
-use Rattle.gj_json.specs.declared.levels.Level.{Level}
-use Rattle.gj_json.specs.declared.levels.Level.TheVariants.{Object}
-use Rattle.gj_json.specs.declared.mode.Ending.{Ending}
-use Rattle.gj_json.specs.declared.mode.Mode.{Mode}
-use Rattle.gj_json.specs.declared.mode.Mode.TheVariants.{ValueDue, ValueDone, NameDue}
-use Rattle.gj_json.specs.declared.names.Known.TheVariants.{TypeName, Geometry, Coordinates}
-use Rattle.gj_json.specs.declared.names.Word.{Word}
-use Rattle.gj_json.specs.declared.reader.Reader.{Reader}
-use Rattle.gj_json.specs.Flat.{flat_events}
 use Rattle.gj_json.specs.Head.{late_point_events}
-use Rattle.gj_json.specs.Limits.{Allowed}
 use Rattle.gj_json.specs.Names.{known_of, word_of}
-use Rattle.gj_json.specs.Tree.{string}
-use Rattle.gj_json.specs.Internal.FedReader.{FeedsAll}
-use Rattle.gj_json.specs.Internal.FlatParts.{cut}
 use Rattle.gj_json.specs.Internal.LatePoints.{before_position, after_position, IsLatePoint}
 use Rattle.gj_json.specs.Internal.OpenLevels.{levels_in}
-use Rattle.gj_json.specs.Internal.ReaderState.{StandsWell}
-use Rattle.gj_json.specs.Internal.ReaderStep.{opened}
-use Rattle.gj_json.specs.Internal.SpelledNumbers.{IsFlat}
-use Rattle.gj_json.specs.Internal.ToldEvents.{event_at}
 use Rattle.gj_json.specs.Internal.WholeHeads.{quoted, named}
-use Rattle.gj_json.specs.Internal.WholeTokens.{IsQuoted, Lands, names}
 use Rattle.gj_json.proofs.Grammar.ClassOfBytes.{class_is}
 use Rattle.gj_json.proofs.Grammar.UsualTokens.{plain}
 use Rattle.gj_json.proofs.Pieces.PieceCuts.{cut_length}

@@ -1,24 +1,13 @@
 -- The numbers of an array, one after another: each with the comma or the bracket after it.
-use Rattle.std.proofs.Common.{◌≡◌, ℕ, ◌+◌, ◌-◌, ◌≤◌, ◌<◌, true, List, [], ◌∷◌, ◌++◌, get_or, length, take, drop, Some, refl, ap, ◌∙◌, arith}
-use Rattle.std.proofs.lemmas.List.{get_or-drop, length-drop, length-take-le}
-use Rattle.gj_number.specs.Exact.{Exact}
-use Rattle.gj_number.specs.Short.{StartsWithNumber}
-use Rattle.gj_json.specs.Bytes.{comma as comma_byte, close_bracket}
+use Rattle.gj_json.proofs.Common.{Array, Close, CloseArray, Comma, Event, Exact, FeedsAll, Go, Item, Lands, List, Passed, Reader, Some}
+use Rattle.gj_json.proofs.Common.{StartsWithNumber, ValueDone, ValueDue, What, after_move, ap, arith, awaits, close_bracket, closing_of, drop}
+use Rattle.gj_json.proofs.Common.{event_at, get_or, get_or-drop, inner_of, length, length-take-le, outer_of, refl, true, ℕ, [], ◌++◌, ◌+◌, ◌-◌, ◌<◌}
+use Rattle.gj_json.proofs.Common.{◌∙◌, ◌∷◌, ◌≡◌, ◌≤◌}
+use Rattle.std.proofs.Common.{take}
+use Rattle.std.proofs.lemmas.List.{length-drop}
+use Rattle.gj_json.specs.Bytes.{comma as comma_byte}
 use Rattle.gj_json.specs.Internal.ByteClasses.{class_of}
-use Rattle.gj_json.specs.Internal.FedReader.{Passed, FeedsAll}
-use Rattle.gj_json.specs.Internal.FlatParts.{awaits}
-use Rattle.gj_json.specs.Internal.OpenLevels.{levels_in, inner_of, outer_of}
-use Rattle.gj_json.specs.Internal.ToldEvents.{event_at, closing_of}
-use Rattle.gj_json.specs.Internal.Transitions.{after_move}
-use Rattle.gj_json.specs.Internal.WholeTokens.{Lands}
-use Rattle.gj_json.specs.declared.class.Class.TheVariants.{Comma, CloseArray}
-use Rattle.gj_json.specs.declared.event.Event.{Event}
-use Rattle.gj_json.specs.declared.event.What.{What}
-use Rattle.gj_json.specs.declared.levels.Level.TheVariants.{Array}
-use Rattle.gj_json.specs.declared.mode.Ending.TheVariants.{Item}
-use Rattle.gj_json.specs.declared.mode.Mode.TheVariants.{ValueDue, ValueDone}
-use Rattle.gj_json.specs.declared.mode.Move.TheVariants.{Go, Close}
-use Rattle.gj_json.specs.declared.reader.Reader.{Reader}
+use Rattle.gj_json.specs.Internal.OpenLevels.{levels_in}
 use Rattle.gj_json.proofs.Pieces.PieceRests.{rest_of}
 use Rattle.gj_json.proofs.Pieces.TakenTokens.{number_then, number_closed}
 use Rattle.gj_json.proofs.Readers.CallsInTurn.{piece_all, rest_all}

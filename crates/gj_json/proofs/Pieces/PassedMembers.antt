@@ -1,30 +1,18 @@
 -- Members of objects in which no event matters: a name and its colon, and a value with the byte after it.
-use Rattle.std.proofs.Common.{◌≡◌, ℕ, ◌+◌, ◌-◌, ◌^◌, ◌≤◌, ◌<◌, true, false, List, [], ◌∷◌, get_or, length}
-use Rattle.std.proofs.Common.{take, drop, Option, Some, None, refl, sym, ap, subst, ◌∙◌, inl, inr, ◌⊎◌, arith}
-use Rattle.std.proofs.lemmas.List.{get_or-drop, length-drop}
-use Rattle.std.specs.List.{AllByRecursion}
-use Rattle.gj_json.specs.Bytes.{IsWhite, space, colon as colon_byte, close_brace}
+use Rattle.gj_json.proofs.Common.{AllByRecursion, Close, Ending, Event, FeedsAll, FeedsAny, Go, IsMode, IsString, IsWhite, Lands, Level, List, Mode}
+use Rattle.gj_json.proofs.Common.{NameDue, None, Object, Option, Passed, Reader, Some, ValueDone, ValueDue, What, after_move, ap, arith, awaits}
+use Rattle.gj_json.proofs.Common.{close_brace, cut, drop, event_at, false, get_or, get_or-drop, inl, inner_of, inr, length, names, outer_of, refl}
+use Rattle.gj_json.proofs.Common.{space, subst, sym, true, ℕ, [], ◌+◌, ◌-◌, ◌<◌, ◌^◌, ◌∙◌, ◌∷◌, ◌≡◌, ◌≤◌, ◌⊎◌}
+use Rattle.std.proofs.Common.{take}
+use Rattle.std.proofs.lemmas.List.{length-drop}
+use Rattle.gj_json.specs.Bytes.{colon as colon_byte}
 use Rattle.gj_json.specs.declared.class.Class.TheVariants.{CloseObject as close_class}
-use Rattle.gj_json.specs.declared.event.Event.{Event}
-use Rattle.gj_json.specs.declared.event.What.{What}
-use Rattle.gj_json.specs.declared.levels.Level.{Level}
-use Rattle.gj_json.specs.declared.levels.Level.TheVariants.{Object}
-use Rattle.gj_json.specs.declared.mode.Ending.{Ending}
-use Rattle.gj_json.specs.declared.mode.Mode.{Mode}
-use Rattle.gj_json.specs.declared.mode.Mode.TheVariants.{ValueDone, ValueDue, NameDue}
-use Rattle.gj_json.specs.declared.mode.Move.TheVariants.{Go, Close}
 use Rattle.gj_json.specs.declared.name_lengths.NameLengths.{NameLengths}
-use Rattle.gj_json.specs.declared.reader.Reader.{Reader}
 use Rattle.gj_json.specs.Names.{known_of, word_of}
 use Rattle.gj_json.specs.Internal.ByteClasses.{class_of}
-use Rattle.gj_json.specs.Internal.FedReader.{Passed, FeedsAll, FeedsAny}
-use Rattle.gj_json.specs.Internal.FlatParts.{awaits, cut}
-use Rattle.gj_json.specs.Internal.OpenLevels.{levels_in, inner_of, outer_of}
+use Rattle.gj_json.specs.Internal.OpenLevels.{levels_in}
 use Rattle.gj_json.specs.Internal.QuietBytes.{Leads}
 use Rattle.gj_json.specs.Internal.Scalars.{IsScalar, text, digits, literal}
-use Rattle.gj_json.specs.Internal.ToldEvents.{event_at}
-use Rattle.gj_json.specs.Internal.Transitions.{IsMode, after_move}
-use Rattle.gj_json.specs.Internal.WholeTokens.{names, IsString, Lands}
 use Rattle.gj_json.proofs.Grammar.ClassOfBytes.{class_is}
 use Rattle.gj_json.proofs.Grammar.SpelledTokens.{first_colon_cut}
 use Rattle.gj_json.proofs.Pieces.PieceRests.{rest_of}

@@ -1,8 +1,9 @@
 -- The bytes of a piece from one index up to another.
-use Rattle.std.proofs.Common.{◌≡◌, ℕ, suc, ◌+◌, ◌-◌, ◌≤◌, ◌<◌, List, [], ◌∷◌, ◌++◌, get_or, length, take, drop, take-add, ap, sym, ◌∙◌, arith}
-use Rattle.std.proofs.lemmas.List.{drop-drop, length-drop, length-take-le}
+use Rattle.gj_json.proofs.Common.{List, ap, arith, cut, drop, get_or, length, length-take-le, suc, sym, take-add, ℕ, [], ◌++◌, ◌+◌, ◌-◌, ◌<◌, ◌∙◌}
+use Rattle.gj_json.proofs.Common.{◌∷◌, ◌≡◌, ◌≤◌}
+use Rattle.std.proofs.Common.{take}
+use Rattle.std.proofs.lemmas.List.{drop-drop, length-drop}
 use Rattle.std.proofs.Math.Seq.{drop-cons}
-use Rattle.gj_json.specs.Internal.FlatParts.{cut}
 use Rattle.gj_json.proofs.Pieces.PieceRests.{rest_of}
 
 pub cut_joins : (piece : List ℕ) (a b c : ℕ) → a ≤ b → b ≤ c → cut piece a c ≡ cut piece a b ++ cut piece b c

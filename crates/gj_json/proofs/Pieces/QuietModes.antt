@@ -1,23 +1,16 @@
 -- White space and digits leave some modes as they are, and bytes of a string its mode.
-use Rattle.std.proofs.Common.{◌≡◌, ℕ, zero, suc, ◌+◌, ◌-◌, ◌<◌, ◌≤◌, Bool, true, false, cond, List, [], ◌∷◌, ◌++◌, length, take, drop, take-add, get_or, None}
-use Rattle.std.proofs.Common.{refl, sym, ap, subst, ◌∙◌, append_assoc, append-nil, arith}
-use Rattle.std.proofs.lemmas.List.{take_more}
-use Rattle.std.specs.List.{AllByRecursion, prefix_len}
+use Rattle.gj_json.proofs.Common.{AllByRecursion, Bool, ColonDue, IsAscii, IsPlain, IsQuiet, IsWhite, List, Mode, NameDue, NameOn, None, NumberOn}
+use Rattle.gj_json.proofs.Common.{Plain, StringState, ValueDone, ValueDue, ap, append_assoc, arith, cond, drop, false, get_or, in_number}
+use Rattle.gj_json.proofs.Common.{is_unescaped_ascii, is_white, length, nat_tests, prefix_len, refl, string_goes, string_next, subst, suc, sym}
+use Rattle.gj_json.proofs.Common.{take-add, take_more, text_state, true, zero, ℕ, [], ◌++◌, ◌+◌, ◌-◌, ◌<◌, ◌∙◌, ◌∷◌, ◌≡◌, ◌≤◌}
+use Rattle.std.proofs.Common.{take}
+use Rattle.std.proofs.Common.{append-nil}
 use Rattle.std.proofs.Math.Numerals.{one-add}
-use Rattle.std.proofs.lemmas.Bool.Decides.{nat_tests}
-use Rattle.gj_json.specs.Bytes.{IsWhite}
-use Rattle.gj_json.specs.Characters.{IsPlain}
 use Rattle.gj_json.specs.declared.class.Class.TheVariants.{White as white}
-use Rattle.gj_json.specs.declared.mode.Mode.{Mode}
-use Rattle.gj_json.specs.declared.mode.Mode.TheVariants.{ValueDue, ValueDone, ArrayOpened, ObjectOpened, NumberOn, StringOn, NameDue, NameOn, ColonDue}
-use Rattle.gj_json.specs.declared.mode.StringState.{StringState}
-use Rattle.gj_json.specs.Internal.TextMachine.{string_next, string_goes}
-use Rattle.gj_json.specs.Internal.ToldEvents.{in_number, text_state}
+use Rattle.gj_json.specs.declared.mode.Mode.TheVariants.{ArrayOpened, ObjectOpened, StringOn}
 use Rattle.gj_json.proofs.Pieces.PieceRests.{rest_of}
-use Rattle.gj_json.specs.declared.mode.StringState.TheVariants.{Plain}
 use Rattle.gj_json.specs.Internal.ByteClasses.{class_of}
-use Rattle.gj_json.specs.Internal.KeptContent.{IsAscii}
-use Rattle.gj_json.specs.Internal.QuietBytes.{IsQuiet, Leads, Reads, awaits_token, is_unescaped_ascii, is_white}
+use Rattle.gj_json.specs.Internal.QuietBytes.{Leads, Reads, awaits_token}
 use Rattle.gj_json.proofs.Grammar.ClassOfBytes.{class_is}
 use Rattle.gj_json.proofs.Grammar.SpelledTexts.{plain_on}
 

@@ -1,43 +1,27 @@
 -- Bytes that complete nothing, in a row.
-use Rattle.std.proofs.Common.{inl, inr, ◌≡◌, ℕ, ◌+◌, ◌≤◌, ◌<◌, true, false, List, [], ◌∷◌, ◌++◌, length, Option, Some, None, refl, sym, ap, subst, ◌∙◌, arith}
-use Rattle.std.proofs.Common.{append_assoc, append-nil}
-use Rattle.gj_json.specs.declared.event.Event.{Event}
-use Rattle.gj_json.specs.declared.levels.Level.{Level}
-use Rattle.gj_json.specs.declared.mode.Mode.{Mode}
-use Rattle.gj_json.specs.Limits.{Allowed}
-use Rattle.gj_json.specs.Text.{IsText}
-use Rattle.gj_json.specs.Events.{events_by}
-use Rattle.gj_json.specs.Internal.OpenLevels.{inner_of}
-use Rattle.gj_json.specs.Internal.TextMachine.{Broken, text_due, mark_one, mark_two, begun, step, string_next, string_goes, Leaf, value_due, value_done}
+use Rattle.gj_json.proofs.Common.{Allowed, BeginsNumber, BegunAs, ComesFrom, Completed, Content, EdgeAt, Ending, Event, FitsBroken, Go, GoesOn, Holds}
+use Rattle.gj_json.proofs.Common.{IsText, Keeps, LeafAs, Level, List, Literal, Mode, NameOn, None, Nothing, NumberOn, NumberTurn, Option, Some}
+use Rattle.gj_json.proofs.Common.{StandsAs, StandsOpen, StandsWell, StringState, Turns, Under, Words, ap, append_assoc, arith, emitted, ending_event}
+use Rattle.gj_json.proofs.Common.{events_by, false, in_number, inl, inner_of, inr, length, move_of, name_string_move, number_events, refl, seen}
+use Rattle.gj_json.proofs.Common.{start_after, step, string_goes, string_move, string_next, subst, sym, text_state, true, under_of, value_string_move}
+use Rattle.gj_json.proofs.Common.{ℕ, [], ◌++◌, ◌+◌, ◌<◌, ◌∙◌, ◌∷◌, ◌≡◌, ◌≤◌}
+use Rattle.std.proofs.Common.{append-nil}
+use Rattle.gj_json.specs.Internal.TextMachine.{Broken, text_due, mark_one, mark_two, begun, Leaf, value_due, value_done}
 use Rattle.gj_json.specs.Internal.TextMachine.{array_opened, object_opened, constant_on, number_on, string_on, name_due, name_on, colon_due}
-use Rattle.gj_json.specs.Internal.Transitions.{move_of, string_move, value_string_move, name_string_move}
 use Rattle.gj_json.specs.Internal.QuietBytes.{LeadsBy, Leads, Reads}
-use Rattle.gj_json.specs.Reader.{Completed}
-use Rattle.gj_json.specs.Internal.SeenEvents.{EdgeAt, BegunAs, seen}
-use Rattle.gj_json.specs.Internal.ReaderState.{StandsWell, StandsOpen, StandsAs, LeafAs, FitsBroken}
-use Rattle.gj_number.specs.Grammar.{BeginsNumber}
-use Rattle.gj_number.specs.declared.literal.Literal.{Literal}
 use Rattle.gj_number.specs.Literal.{StandsFor as LiteralStandsFor}
-use Rattle.gj_json.specs.declared.content.Content.{Content}
-use Rattle.gj_json.specs.declared.mode.StringState.{StringState}
-use Rattle.gj_json.specs.declared.mode.Mode.TheVariants.{NumberOn, StringOn, NameOn}
-use Rattle.gj_json.specs.Internal.KeptContent.{Holds}
-use Rattle.gj_json.specs.Internal.ContentWords.{Words}
-use Rattle.gj_json.specs.Internal.FedReader.{GoesOn}
+use Rattle.gj_json.specs.declared.mode.Mode.TheVariants.{StringOn}
 use Rattle.gj_json.proofs.Grammar.OneCharacter.{OneCharacter, one_character}
-use Rattle.gj_json.specs.declared.mode.Move.TheVariants.{Go}
-use Rattle.gj_json.specs.Internal.UnderWay.{Under, nothing, number, text, under_of, ComesFrom, Keeps, Turns}
+use Rattle.gj_json.specs.Internal.UnderWay.{nothing, number, text}
 use Rattle.gj_json.proofs.Machine.BytesUnderWay.{has_number, state_under, CameTo, step_came, mode_under, mode_state}
 use Rattle.gj_json.proofs.Readers.NumberUnderWay.{own_turn, own_turns, own_value, own_has, own_words, own_has_words, came_number, came_text}
 use Rattle.gj_json.proofs.Grammar.NumberPrefixes.{goes_on}
-use Rattle.gj_json.specs.Internal.ToldEvents.{ending_event, number_events, emitted, in_number, is_on, start_after, text_state, NumberTurn}
+use Rattle.gj_json.specs.Internal.ToldEvents.{is_on}
 use Rattle.gj_json.proofs.Machine.Completions.{Goes}
 use Rattle.gj_json.proofs.Readers.Simulation.{moves}
 use Rattle.gj_json.proofs.Events.EventsOfSteps.{Tells}
 use Rattle.gj_json.proofs.Readers.ReadBytes.{passed, told_by_step, completed_from}
 use Rattle.gj_json.proofs.Readers.StepsAlike.{no_number}
-use Rattle.gj_json.specs.declared.mode.Ending.{Ending}
-use Rattle.gj_json.specs.declared.mode.Ending.TheVariants.{Nothing}
 
 -- where nothing is under way, it does not matter where that began
 leaf_start : (leaf : Leaf) (mode next : Mode) (start n : ℕ) → is_on mode ≡ is_on next → LeafAs leaf next → BegunAs leaf (start_after mode start n)

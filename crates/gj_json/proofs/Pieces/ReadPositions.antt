@@ -1,11 +1,11 @@
 -- Positions that a piece starts with, one after another: where they end, those before the last ones, and one more.
-use Rattle.std.proofs.Common.{◌≡◌, ◌∙◌, ℕ, zero, suc, ◌+◌, ◌-◌, ◌≤◌, ◌<◌, List, [], ◌∷◌, ◌++◌, get_or, length, take, drop, refl, sym, ap, subst, arith}
+use Rattle.gj_json.proofs.Common.{CutPosition, List, SpellsPositions, ap, arith, drop, get_or, get_or-drop, length, open_bracket, place_after}
+use Rattle.gj_json.proofs.Common.{place_after_all, refl, subst, suc, sym, zero, ℕ, [], ◌++◌, ◌+◌, ◌-◌, ◌<◌, ◌∙◌, ◌∷◌, ◌≡◌, ◌≤◌}
+use Rattle.std.proofs.Common.{take}
 use Rattle.std.proofs.Common.{length-drop, slice_index_or}
-use Rattle.std.proofs.lemmas.List.{get_or-drop, drop-drop}
-use Rattle.gj_json.specs.Bytes.{open_bracket}
-use Rattle.gj_json.specs.declared.cut_position.CutPosition.{CutPosition}
+use Rattle.std.proofs.lemmas.List.{drop-drop}
 use Rattle.gj_json.specs.CutPosition.{RiseAfter, Rise}
-use Rattle.gj_json.specs.Internal.SpelledPositions.{place_after, place_after_all, SpellsPosition, SpellsPositions}
+use Rattle.gj_json.specs.Internal.SpelledPositions.{SpellsPosition}
 use Rattle.gj_json.proofs.Pieces.PieceRests.{rest_of}
 
 -- the place after one lies after its start

@@ -1,15 +1,10 @@
 -- Bytes that complete nothing, from reader to reader.
-use Rattle.std.proofs.Common.{◌≡◌, ℕ, ◌+◌, ◌-◌, ◌<◌, false, List, [], ◌++◌, length, take, drop, get_or, None, refl, sym, ap, subst, ◌∙◌, arith, append_assoc}
-use Rattle.std.specs.List.{AllByRecursion}
-use Rattle.gj_json.specs.declared.content.Content.{Content}
-use Rattle.gj_json.specs.declared.mode.Mode.{Mode}
-use Rattle.gj_json.specs.declared.mode.StringState.{StringState}
-use Rattle.gj_json.specs.declared.reader.Reader.{Reader}
-use Rattle.gj_json.specs.Internal.KeptContent.{IsAscii, Holds}
-use Rattle.gj_json.specs.Internal.FedReader.{GoesOn, Passed, Skips, leading, in_text}
-use Rattle.gj_json.specs.Internal.TextMachine.{string_next, string_goes}
+use Rattle.gj_json.proofs.Common.{AllByRecursion, Content, GoesOn, Holds, IsAscii, List, Mode, None, Passed, Reader, Skips, StringState, ap}
+use Rattle.gj_json.proofs.Common.{append_assoc, arith, drop, false, get_or, in_number, length, refl, string_goes, string_next, subst, sym, text_state}
+use Rattle.gj_json.proofs.Common.{ℕ, [], ◌++◌, ◌+◌, ◌-◌, ◌<◌, ◌∙◌, ◌≡◌}
+use Rattle.std.proofs.Common.{take}
+use Rattle.gj_json.specs.Internal.FedReader.{leading, in_text}
 use Rattle.gj_json.specs.Internal.QuietBytes.{Leads, Reads}
-use Rattle.gj_json.specs.Internal.ToldEvents.{in_number, text_state}
 use Rattle.gj_json.proofs.Readers.StepsAlike.{Alike}
 use Rattle.gj_json.proofs.Pieces.QuietModes.{reads_more, reads_byte}
 use Rattle.gj_json.proofs.Pieces.PieceRests.{rest_of}

@@ -1,45 +1,28 @@
 -- Where a run of characters goes on: after bytes that some byte of a character may follow.
-use Rattle.std.proofs.Common.{◌≡◌, ℕ, zero, suc, ◌==◌, ◌+◌, ◌≤◌, Bool, true, false, inl, inr, List, [], ◌∷◌, ◌++◌, length, take, slice_index, Option, Some}
-use Rattle.std.proofs.Common.{None, refl, subst, ◌∙◌, arith}
-use Rattle.std.specs.List.{AllByRecursion}
+use Rattle.gj_json.proofs.Common.{AfterE0, AfterED, AfterF0, AfterF4, AllByRecursion, Any, Array, Bool, Bounds, ColonDue, Completed, Constant}
+use Rattle.gj_json.proofs.Common.{ConstantOn, Event, False, FeedsAll, FitsBroken, Go, Holds, IsViable, Level, List, MarkOne, MarkTwo, Mode, Move}
+use Rattle.gj_json.proofs.Common.{NameDue, NameOn, None, Nothing, Null, NumberOn, NumberTurn, Object, Option, Passed, Plain, Reader, Refuse, Skips}
+use Rattle.gj_json.proofs.Common.{Some, StandsAs, StandsFor, StringState, TextDue, True, Under, ValueDone, ValueDue, after_move, arith, constant_move}
+use Rattle.gj_json.proofs.Common.{false, in_number, inl, inner_of, inr, length, letters_of, move_of, number_move, refl, run, step, string_goes}
+use Rattle.gj_json.proofs.Common.{string_next, string_refuses, subst, suc, true, turn_of, under_of, words_of, zero, ℕ, [], ◌++◌, ◌+◌, ◌==◌, ◌∙◌, ◌∷◌}
+use Rattle.gj_json.proofs.Common.{◌≡◌, ◌≤◌}
+use Rattle.std.proofs.Common.{take, slice_index}
 use Rattle.std.specs.Str.{IsUtf8}
 use Rattle.std.proofs.lemmas.List.{length-append}
 use Rattle.gj_json.specs.Internal.ByteClasses.{class_of}
 use Rattle.gj_json.specs.Characters.{hex_of, escape_of}
 use Rattle.gj_json.specs.Utf8Bytes.{lead_of}
 use Rattle.gj_json.specs.declared.class.Class.TheVariants.{Other as other}
-use Rattle.gj_json.specs.declared.constant.Constant.{Constant}
-use Rattle.gj_json.specs.declared.constant.Constant.TheVariants.{Null, True, False}
-use Rattle.gj_json.specs.declared.event.Event.{Event}
-use Rattle.gj_json.specs.declared.levels.Level.{Level}
-use Rattle.gj_json.specs.declared.levels.Level.TheVariants.{Array, Object}
-use Rattle.gj_json.specs.declared.mode.Bounds.{Bounds}
-use Rattle.gj_json.specs.declared.mode.Bounds.TheVariants.{Any, AfterE0, AfterED, AfterF0, AfterF4}
-use Rattle.gj_json.specs.declared.mode.Mode.{Mode}
-use Rattle.gj_json.specs.declared.mode.Mode.TheVariants.{TextDue, MarkOne, MarkTwo, ValueDue, ValueDone, ArrayOpened, ObjectOpened, ConstantOn, NumberOn}
-use Rattle.gj_json.specs.declared.mode.Mode.TheVariants.{StringOn, NameDue, NameOn, ColonDue}
-use Rattle.gj_json.specs.declared.mode.Move.{Move}
-use Rattle.gj_json.specs.declared.mode.Move.TheVariants.{Refuse, Go}
-use Rattle.gj_json.specs.declared.mode.Ending.TheVariants.{Nothing}
-use Rattle.gj_json.specs.Internal.ContentWords.{words_of}
-use Rattle.gj_json.specs.declared.mode.StringState.{StringState}
-use Rattle.gj_json.specs.declared.mode.StringState.TheVariants.{Plain, Escape, HexDue, HexOne, HexTwo, HexThree, InCharacter}
-use Rattle.gj_json.specs.declared.reader.Reader.{Reader}
-use Rattle.gj_json.specs.Internal.KeptContent.{Holds}
-use Rattle.gj_json.specs.Internal.FedReader.{Passed, Skips, FeedsAll}
-use Rattle.gj_json.specs.Grammar.{letters_of}
-use Rattle.gj_json.specs.Internal.OpenLevels.{levels_in, inner_of}
-use Rattle.gj_json.specs.Internal.TextMachine.{Broken, step, run, string_next, plain_step, string_goes, string_refuses}
-use Rattle.gj_json.specs.Internal.Transitions.{move_of, after_move, constant_move, number_move}
+use Rattle.gj_json.specs.declared.mode.Mode.TheVariants.{ArrayOpened, ObjectOpened}
+use Rattle.gj_json.specs.declared.mode.Mode.TheVariants.{StringOn}
+use Rattle.gj_json.specs.declared.mode.StringState.TheVariants.{Escape, HexDue, HexOne, HexTwo, HexThree, InCharacter}
+use Rattle.gj_json.specs.Internal.OpenLevels.{levels_in}
+use Rattle.gj_json.specs.Internal.TextMachine.{Broken, plain_step}
 use Rattle.gj_number.specs.DecidedNumbers.{is_number, begins_number}
 use Rattle.gj_json.proofs.Grammar.NumberPrefixes.{stops}
 use Rattle.gj_json.specs.Internal.QuietBytes.{is_between}
-use Rattle.gj_json.specs.Reader.{StandsFor, Completed}
 use Rattle.gj_json.specs.Runs.{character_byte}
-use Rattle.gj_json.specs.Internal.ReaderState.{StandsAs, FitsBroken}
-use Rattle.gj_json.specs.Text.{IsViable}
-use Rattle.gj_json.specs.Internal.ToldEvents.{in_number, NumberTurn, turn_of}
-use Rattle.gj_json.specs.Internal.UnderWay.{Under, under_of, nothing, number, text}
+use Rattle.gj_json.specs.Internal.UnderWay.{nothing, number, text}
 use Rattle.gj_json.proofs.Readers.StepsAlike.{Alike}
 use Rattle.gj_json.proofs.Machine.BytesUnderWay.{mode_under, has_number}
 use Rattle.gj_json.proofs.Machine.Completions.{Goes}

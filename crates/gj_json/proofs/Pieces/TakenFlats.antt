@@ -1,44 +1,23 @@
 -- An array that stands whole, taken at once: the machine goes from where it is due to where it is done, and the reader keeps
 -- nothing of it but the mode and the offset.
-use Rattle.std.proofs.Common.{◌≡◌, ℕ, ◌+◌, ◌-◌, ◌≤◌, ◌<◌, Bool, true, List, [], ◌∷◌, ◌++◌, get_or, length, length-drop, take, take-add, drop, Some, None, refl}
-use Rattle.std.proofs.Common.{sym, ap, subst, ◌∙◌, arith, append_assoc, append-nil}
-use Rattle.std.proofs.lemmas.List.{length-append, length-take-le, map-append, take_more, get_or-drop, drop-drop}
-use Rattle.std.specs.List.{AllByRecursion}
-use Rattle.gj_json.specs.Bytes.{open_bracket, comma, IsWhite}
-use Rattle.gj_json.specs.declared.class.Class.{Class}
+use Rattle.gj_json.proofs.Common.{AllByRecursion, Allowed, Array, Bool, Class, Completed, Content, Elements, Ending, Event, FeedsAll, FitsBroken}
+use Rattle.gj_json.proofs.Common.{Flat, Go, IsFlat, IsMode, IsQuiet, IsText, IsWhite, Keeps, Level, List, Literal, Mode, None, Passed, Reader, Skips}
+use Rattle.gj_json.proofs.Common.{Some, Spells, StandsAs, StandsWell, Text, Timed, Tree, ValueDone, ValueDue, What, ap, append_assoc, arith, array}
+use Rattle.gj_json.proofs.Common.{awaits, begin_value, cut, depth, drop, elements_depth, elements_events, events, events_by, flat_events, get_or}
+use Rattle.gj_json.proofs.Common.{get_or-drop, inner_of, length, length-take-le, levels_of, map-append, mark_events, move_of, open_bracket}
+use Rattle.gj_json.proofs.Common.{partial_timed, refl, run, run_from, seen, stack_timed, step_leaf, subst, sym, take-add, take_more, timed, to, true}
+use Rattle.gj_json.proofs.Common.{under_of, ℕ, [], ◌++◌, ◌+◌, ◌-◌, ◌<◌, ◌∙◌, ◌∷◌, ◌≡◌, ◌≤◌}
+use Rattle.std.proofs.Common.{length-drop, take}
+use Rattle.std.proofs.Common.{append-nil}
+use Rattle.std.proofs.lemmas.List.{length-append, drop-drop}
+use Rattle.gj_json.specs.Bytes.{comma}
 use Rattle.gj_json.specs.declared.class.Class.TheVariants.{OpenArray as open_array, Comma as comma_class, White as white_class}
-use Rattle.gj_json.specs.declared.content.Content.{Content}
-use Rattle.gj_json.specs.declared.event.Event.{Event}
-use Rattle.gj_json.specs.declared.event.What.{What}
-use Rattle.gj_json.specs.declared.flat.Flat.{Flat}
-use Rattle.gj_json.specs.declared.levels.Level.{Level}
-use Rattle.gj_json.specs.declared.levels.Level.TheVariants.{Array}
-use Rattle.gj_json.specs.declared.mode.Mode.{Mode}
-use Rattle.gj_json.specs.declared.mode.Mode.TheVariants.{ValueDone, ValueDue}
-use Rattle.gj_json.specs.declared.mode.Ending.{Ending}
-use Rattle.gj_json.specs.declared.mode.Move.TheVariants.{Go}
-use Rattle.gj_json.specs.declared.reader.Reader.{Reader}
-use Rattle.gj_json.specs.Limits.{Allowed}
 use Rattle.gj_json.specs.Internal.ByteClasses.{class_of}
-use Rattle.gj_json.specs.Tree.{Text, Tree, array, Elements, elements_depth, depth}
-use Rattle.gj_json.specs.Text.{IsText}
-use Rattle.gj_json.specs.Grammar.{Spells}
-use Rattle.gj_json.specs.Events.{Timed, timed, events, elements_events, value_events, mark_events, events_by}
-use Rattle.gj_json.specs.Internal.FedReader.{Passed, Skips, FeedsAll}
-use Rattle.gj_json.specs.Flat.{flat_events}
-use Rattle.gj_json.specs.Internal.SpelledNumbers.{IsFlat}
-use Rattle.gj_json.specs.Internal.FlatParts.{awaits, cut}
-use Rattle.gj_json.specs.Internal.OpenLevels.{levels_in, inner_of}
+use Rattle.gj_json.specs.Events.{value_events}
+use Rattle.gj_json.specs.Internal.OpenLevels.{levels_in}
 use Rattle.gj_json.specs.Internal.TextMachine.{Frame, in_array, Leaf, value_due, value_done, array_opened, object_opened, constant_on, number_on}
-use Rattle.gj_json.specs.Internal.TextMachine.{string_on, name_due, name_on, colon_due, Partial, Broken, text_due, mark_one, mark_two, begun, begin_value}
-use Rattle.gj_json.specs.Internal.TextMachine.{step_leaf, to, run_from, run}
-use Rattle.gj_json.specs.Internal.Transitions.{IsMode, move_of}
-use Rattle.gj_json.specs.Internal.QuietBytes.{IsQuiet}
-use Rattle.gj_json.specs.Reader.{Completed}
-use Rattle.gj_json.specs.Internal.SeenEvents.{seen, partial_timed, stack_timed}
-use Rattle.gj_json.specs.Internal.ReaderState.{StandsWell, StandsAs, Fits, FitsBroken, levels_of}
-use Rattle.gj_json.specs.Internal.UnderWay.{Keeps, under_of}
-use Rattle.gj_number.specs.declared.literal.Literal.{Literal}
+use Rattle.gj_json.specs.Internal.TextMachine.{string_on, name_due, name_on, colon_due, Partial, Broken, text_due, mark_one, mark_two, begun}
+use Rattle.gj_json.specs.Internal.ReaderState.{Fits}
 use Rattle.gj_json.proofs.Grammar.ClassOfBytes.{class_is}
 use Rattle.gj_json.proofs.Machine.BytesUnderWay.{mode_under, mode_state}
 use Rattle.gj_json.proofs.Machine.Completions.{Goes, TextFrom}
@@ -109,11 +88,7 @@ leaf_due marked stack (array_opened place) mode levels d w a f =
 leaf_due marked stack (value_done t) mode levels d w a f = let x = rw (a.0) at w in cc
 leaf_due marked stack (object_opened place) mode levels d w a f = let x = rw (a.0) at w in cc
 leaf_due marked stack (constant_on which place left) mode levels d w a f = let x = rw (a.0.1) at w in cc
-leaf_due marked stack (number_on place so_far) mode levels d w a f = let x = rw (a.0) at w in cc
-leaf_due marked stack (string_on place so_far state) mode levels d w a f = let x = rw (a.0) at w in cc
-leaf_due marked stack (name_due place done) mode levels d w a f = let x = rw (a.0) at w in cc
-leaf_due marked stack (name_on place done np so_far state) mode levels d w a f = let x = rw (a.0) at w in cc
-leaf_due marked stack (colon_due place done np name ne) mode levels d w a f = let x = rw (a.0) at w in cc
+leaf_due marked stack other mode levels d w a f = let x = rw (a.0) at w in cc
 
 pub is_due : (state : Broken) (mode : Mode) (levels : List Level) (d : ℕ) → awaits mode ≡ true → StandsAs state mode levels → FitsBroken d state
     → IsDue state levels d

@@ -1,40 +1,23 @@
 -- The beginnings of objects, taken at once: the tokens that they are, one after another.
-use Rattle.std.proofs.Common.{◌≡◌, ℕ, ◌+◌, ◌-◌, ◌≤◌, ◌<◌, true, List, [], ◌∷◌, ◌++◌, codes, get_or, length, take, take-add, drop, None, refl, sym, ap, subst}
-use Rattle.std.proofs.Common.{◌∙◌, arith, append_assoc}
-use Rattle.std.proofs.lemmas.List.{length-append, length-take-le, take_more}
-use Rattle.std.specs.List.{AllByRecursion}
-use Rattle.gj_json.specs.Bytes.{IsWhite, open_brace, close_brace, comma, colon}
+use Rattle.gj_json.proofs.Common.{AllByRecursion, Allowed, Array, ColonDue, Coordinates, Ending, Event, FeedsAll, Flat, Geometry, IsQuiet, IsQuoted}
+use Rattle.gj_json.proofs.Common.{IsText, IsTyped, IsWhite, Lands, Level, List, Mode, NameDue, None, Object, Reader, StandsWell, TypeName, ValueDone}
+use Rattle.gj_json.proofs.Common.{ValueDue, What, Word, ap, append_assoc, arith, awaits, close_brace, codes, cut, drop, event_at, events_by}
+use Rattle.gj_json.proofs.Common.{flat_events, get_or, length, length-take-le, names, open_brace, opened, refl, string, subst, sym, take-add}
+use Rattle.gj_json.proofs.Common.{take_more, true, ℕ, [], ◌++◌, ◌+◌, ◌-◌, ◌<◌, ◌∙◌, ◌∷◌, ◌≡◌, ◌≤◌}
+use Rattle.std.proofs.Common.{take}
+use Rattle.std.proofs.lemmas.List.{length-append}
+use Rattle.gj_json.specs.Bytes.{comma, colon}
 use Rattle.gj_json.specs.declared.class.Class.TheVariants.{CloseObject as close_class, Comma as comma_class, White as white_class}
-use Rattle.gj_json.specs.declared.event.Event.{Event}
-use Rattle.gj_json.specs.declared.event.What.{What}
-use Rattle.gj_json.specs.declared.flat.Flat.{Flat}
 use Rattle.gj_json.specs.declared.head.Located.{Located}
 use Rattle.gj_json.specs.declared.heads.UsualLocated.{UsualLocated}
 use Rattle.gj_json.specs.declared.heads.UsualNext.{UsualNext}
-use Rattle.gj_json.specs.declared.levels.Level.{Level}
-use Rattle.gj_json.specs.declared.levels.Level.TheVariants.{Array, Object}
-use Rattle.gj_json.specs.declared.mode.Ending.{Ending}
-use Rattle.gj_json.specs.declared.mode.Mode.{Mode}
-use Rattle.gj_json.specs.declared.mode.Mode.TheVariants.{ValueDue, ValueDone, NameDue, ColonDue}
-use Rattle.gj_json.specs.declared.names.Known.TheVariants.{TypeName, Geometry, Coordinates, Properties}
-use Rattle.gj_json.specs.declared.names.Word.{Word}
-use Rattle.gj_json.specs.declared.reader.Reader.{Reader}
-use Rattle.gj_json.specs.Limits.{Allowed}
+use Rattle.gj_json.specs.declared.names.Known.TheVariants.{Properties}
 use Rattle.gj_json.specs.Names.{known_of, word_of}
-use Rattle.gj_json.specs.Text.{IsText}
-use Rattle.gj_json.specs.Tree.{string}
-use Rattle.gj_json.specs.Events.{events_by}
-use Rattle.gj_json.specs.Internal.FedReader.{FeedsAll}
-use Rattle.gj_json.specs.Flat.{flat_events}
 use Rattle.gj_json.specs.Head.{located_events, point_events}
-use Rattle.gj_json.specs.Internal.FlatParts.{awaits, cut}
 use Rattle.gj_json.specs.Internal.OpenLevels.{levels_in}
-use Rattle.gj_json.specs.Internal.QuietBytes.{IsQuiet, Leads}
-use Rattle.gj_json.specs.Internal.ReaderState.{StandsWell}
-use Rattle.gj_json.specs.Internal.ReaderStep.{opened}
-use Rattle.gj_json.specs.Internal.ToldEvents.{event_at}
-use Rattle.gj_json.specs.Internal.WholeHeads.{quoted, named, BeginsTyped, IsTyped, IsEnclosed, IsFollowing, IsFound, IsLocatedAt, OpensProperties}
-use Rattle.gj_json.specs.Internal.WholeTokens.{IsQuoted, Lands, names, may_begin}
+use Rattle.gj_json.specs.Internal.QuietBytes.{Leads}
+use Rattle.gj_json.specs.Internal.WholeHeads.{quoted, named, BeginsTyped, IsEnclosed, IsFollowing, IsFound, IsLocatedAt, OpensProperties}
+use Rattle.gj_json.specs.Internal.WholeTokens.{may_begin}
 use Rattle.gj_json.proofs.Grammar.ClassOfBytes.{class_is}
 use Rattle.gj_json.proofs.Grammar.SpelledTokens.{colon_by}
 use Rattle.gj_json.proofs.Grammar.UsualTokens.{plain}

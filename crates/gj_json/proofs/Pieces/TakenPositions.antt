@@ -1,24 +1,15 @@
 -- Positions that are taken as their cut values: the reader goes as over their arrays, one after another.
-use Rattle.std.proofs.Common.{◌≡◌, ◌∙◌, ℕ, ◌+◌, ◌-◌, ◌^◌, ◌≤◌, ◌<◌, true, List, [], ◌∷◌, ◌++◌}
-use Rattle.std.proofs.Common.{zero, suc, get_or, length, take, drop, Some, None, refl, sym, ap, subst, arith}
-use Rattle.std.proofs.Common.{append_assoc, append-nil, length-drop, take-add}
-use Rattle.std.proofs.lemmas.List.{get_or-drop, drop-drop}
-use Rattle.std.specs.List.{AllByRecursion}
-use Rattle.gj_json.specs.Bytes.{comma, IsWhite}
-use Rattle.gj_json.specs.declared.cut_position.CutPosition.{CutPosition}
-use Rattle.gj_json.specs.declared.event.Event.{Event}
-use Rattle.gj_json.specs.declared.flat.Flat.{Flat}
-use Rattle.gj_json.specs.declared.levels.Level.TheVariants.{Array}
-use Rattle.gj_json.specs.declared.mode.Mode.{Mode}
-use Rattle.gj_json.specs.declared.mode.Mode.TheVariants.{ValueDue}
-use Rattle.gj_json.specs.declared.reader.Reader.{Reader}
-use Rattle.gj_json.specs.Flat.{flat_events}
+use Rattle.gj_json.proofs.Common.{AllByRecursion, Array, CutPosition, Event, FeedsAll, Flat, IsMode, IsWhite, List, Mode, None, Passed, Reader, Some}
+use Rattle.gj_json.proofs.Common.{SpellsPositions, ValueDue, ap, append_assoc, arith, awaits, cut, drop, flat_events, get_or, get_or-drop, inner_of}
+use Rattle.gj_json.proofs.Common.{length, place_after, place_after_all, refl, subst, suc, sym, take-add, true, zero, ℕ, [], ◌++◌, ◌+◌, ◌-◌, ◌<◌, ◌^◌}
+use Rattle.gj_json.proofs.Common.{◌∙◌, ◌∷◌, ◌≡◌, ◌≤◌}
+use Rattle.std.proofs.Common.{take}
+use Rattle.std.proofs.Common.{append-nil, length-drop}
+use Rattle.std.proofs.lemmas.List.{drop-drop}
+use Rattle.gj_json.specs.Bytes.{comma}
 use Rattle.gj_json.specs.CutPosition.{AreCutPositions, flats_events}
-use Rattle.gj_json.specs.Internal.FedReader.{Passed, FeedsAll}
-use Rattle.gj_json.specs.Internal.FlatParts.{awaits, cut}
-use Rattle.gj_json.specs.Internal.OpenLevels.{levels_in, inner_of}
-use Rattle.gj_json.specs.Internal.SpelledPositions.{place_after, place_after_all, SpellsPosition, SpellsPositions}
-use Rattle.gj_json.specs.Internal.Transitions.{IsMode}
+use Rattle.gj_json.specs.Internal.OpenLevels.{levels_in}
+use Rattle.gj_json.specs.Internal.SpelledPositions.{SpellsPosition}
 use Rattle.gj_json.proofs.Pieces.PieceRests.{rest_of}
 use Rattle.gj_json.proofs.Pieces.TakenFlats.{comma_taken, mid_of, to_mid, from_mid}
 use Rattle.gj_json.proofs.Pieces.ReadPositions.{all_on, first_of}

@@ -1,56 +1,36 @@
 -- Whole tokens: where they lead the machine, and what they leave of a reader. Between two tokens a reader keeps nothing but
 -- the mode, the levels and the offset.
-use Rattle.std.proofs.Common.{◌≡◌, ℕ, ◌+◌, ◌-◌, ◌≤◌, ◌<◌, inl, inr, Bool, true, false, List, [], ◌∷◌, ◌++◌, get_or, length, take, drop, Option, Some, None}
-use Rattle.std.proofs.Common.{refl, sym, ap, subst, ◌∙◌, arith, append_assoc, append-nil}
-use Rattle.std.proofs.lemmas.List.{length-append, length-take-le, map-append, take_more}
-use Rattle.gj_json.specs.Bytes.{quote as quote_byte, open_bracket, open_brace}
+use Rattle.gj_json.proofs.Common.{Allowed, Array, BegunAs, Bool, Class, Close, ColonDue, Completed, Constant, EdgeAt, Ending, Event, Exact, False}
+use Rattle.gj_json.proofs.Common.{FeedsAll, FitsBroken, FitsName, Go, HasValue, InTime, IsMode, IsNumber, IsQuoted, IsString, IsText, Lands, LeafAs}
+use Rattle.gj_json.proofs.Common.{Level, List, Mode, Move, NameDue, NameOn, None, Null, NumberOn, NumberTurn, Object, Open, Option, Passed, Plain}
+use Rattle.gj_json.proofs.Common.{Reader, Refuse, Skips, Some, StandsAs, StandsWell, StringState, TextDue, Timed, Tree, True, Turns, ValueDone}
+use Rattle.gj_json.proofs.Common.{ValueDue, What, Words, after_move, ap, append_assoc, arith, awaits, begin_value, closing_of, constant, depth}
+use Rattle.gj_json.proofs.Common.{done_members, drop, emitted, ending_event, event_at, events_by, false, get_or, in_number, inl, inner_of, inr}
+use Rattle.gj_json.proofs.Common.{length, length-take-le, letters_after, letters_of, levels_of, map-append, mark_events, move_of, names, open_brace}
+use Rattle.gj_json.proofs.Common.{open_bracket, opened, opening_of, outer_of, partial_timed, refl, run, run_from, seen, stack_timed, start_after}
+use Rattle.gj_json.proofs.Common.{step, step_leaf, string, subst, sym, take_more, text_state, timed, to, true, under_of, value_of, what_of, ℕ, []}
+use Rattle.gj_json.proofs.Common.{◌++◌, ◌+◌, ◌-◌, ◌<◌, ◌∙◌, ◌∷◌, ◌≡◌, ◌≤◌}
+use Rattle.std.proofs.Common.{take}
+use Rattle.std.proofs.Common.{append-nil}
+use Rattle.std.proofs.lemmas.List.{length-append}
+use Rattle.gj_json.specs.Bytes.{quote as quote_byte}
 use Rattle.gj_json.specs.Internal.ByteClasses.{class_of}
-use Rattle.gj_json.specs.declared.class.Class.{Class}
 use Rattle.gj_json.specs.declared.class.Class.TheVariants.{White as white, OpenArray as open_array, OpenObject as open_object, Comma as comma, Quote as quote}
 use Rattle.gj_json.specs.declared.class.Class.TheVariants.{NumberStart as number_start, Letter as letter, Other as other_class}
-use Rattle.gj_json.specs.declared.constant.Constant.{Constant}
-use Rattle.gj_json.specs.declared.constant.Constant.TheVariants.{Null, True, False}
-use Rattle.gj_json.specs.declared.event.Event.{Event}
-use Rattle.gj_json.specs.declared.event.What.{What}
-use Rattle.gj_json.specs.declared.levels.Level.{Level}
-use Rattle.gj_json.specs.declared.levels.Level.TheVariants.{Array, Object}
-use Rattle.gj_json.specs.declared.mode.Mode.{Mode}
-use Rattle.gj_json.specs.declared.mode.Mode.TheVariants.{TextDue, ValueDue, ValueDone, ArrayOpened, NumberOn, StringOn, NameDue, NameOn, ColonDue}
-use Rattle.gj_json.specs.declared.mode.Ending.{Ending}
-use Rattle.gj_json.specs.declared.mode.Move.{Move}
-use Rattle.gj_json.specs.declared.mode.Move.TheVariants.{Refuse, Go, Open, Close}
+use Rattle.gj_json.specs.declared.mode.Mode.TheVariants.{ArrayOpened, StringOn}
 use Rattle.gj_json.proofs.Readers.StepsAlike.{no_number}
-use Rattle.gj_json.specs.declared.mode.StringState.{StringState}
-use Rattle.gj_json.specs.declared.mode.StringState.TheVariants.{Plain}
-use Rattle.gj_json.specs.declared.reader.Reader.{Reader}
-use Rattle.gj_json.specs.Limits.{Allowed}
-use Rattle.gj_json.specs.Tree.{Tree, constant, string, depth}
-use Rattle.gj_json.specs.Text.{IsText}
-use Rattle.gj_json.specs.Grammar.{letters_of}
-use Rattle.gj_json.specs.Events.{Timed, timed, events_by, value_events, mark_events, what_of}
-use Rattle.gj_json.specs.Internal.FedReader.{Passed, Skips, FeedsAll}
-use Rattle.gj_json.specs.Internal.FlatParts.{awaits}
-use Rattle.gj_json.specs.Internal.OpenLevels.{levels_in, inner_of, outer_of}
+use Rattle.gj_json.specs.Events.{value_events}
+use Rattle.gj_json.specs.Internal.OpenLevels.{levels_in}
 use Rattle.gj_json.specs.Internal.TextMachine.{Frame, Leaf, value_due, value_done, array_opened, object_opened, constant_on, number_on, string_on, name_due}
-use Rattle.gj_json.specs.Internal.TextMachine.{name_on, colon_due, Partial, Member, Broken, text_due, mark_one, mark_two, begun, begin_value, letters_after}
-use Rattle.gj_json.specs.Internal.TextMachine.{step_leaf, step, to, run_from, run}
-use Rattle.gj_json.specs.Internal.Transitions.{IsMode, move_of, after_move}
+use Rattle.gj_json.specs.Internal.TextMachine.{name_on, colon_due, Partial, Member, Broken, text_due, mark_one, mark_two, begun}
 use Rattle.gj_json.specs.Names.{known_of, word_of}
-use Rattle.gj_json.specs.Internal.ContentWords.{Words}
 use Rattle.gj_number.specs.DecidedNumbers.{is_number, begins_number}
 use Rattle.gj_number.proofs.Grammar.DecidedNumbers.{number as decided_number}
 use Rattle.gj_json.specs.Broken.{BeginsNumber as NumberBegun}
 use Rattle.gj_json.specs.Internal.QuietBytes.{Leads as LeadsOn, Reads}
-use Rattle.gj_json.specs.Reader.{Completed}
-use Rattle.gj_json.specs.Internal.SeenEvents.{seen, InTime, BegunAs, EdgeAt, partial_timed, stack_timed, done_members}
-use Rattle.gj_json.specs.Internal.ReaderState.{StandsWell, StandsAs, LeafAs, FitsBroken, FitsName, levels_of}
-use Rattle.gj_json.specs.Internal.ReaderStep.{opened}
-use Rattle.gj_json.specs.Internal.ToldEvents.{ending_event, emitted, event_at, opening_of, closing_of, is_on, in_number, text_state, start_after, NumberTurn}
-use Rattle.gj_json.specs.Internal.WholeTokens.{IsQuoted, IsString, Lands, names, may_begin, bracket_of}
-use Rattle.gj_json.specs.Internal.UnderWay.{Turns, HasValue, under_of, number}
-use Rattle.gj_number.specs.Exact.{Exact}
-use Rattle.gj_number.specs.Grammar.{IsNumber}
-use Rattle.gj_number.specs.Value.{value_of}
+use Rattle.gj_json.specs.Internal.ToldEvents.{is_on}
+use Rattle.gj_json.specs.Internal.WholeTokens.{may_begin, bracket_of}
+use Rattle.gj_json.specs.Internal.UnderWay.{number}
 use Rattle.gj_json.proofs.Grammar.CharacterPrefixes.{StringTo}
 use Rattle.gj_json.proofs.Grammar.ClassOfBytes.{class_is, starts_number, number_classes}
 use Rattle.gj_json.proofs.Machine.BytesUnderWay.{mode_under, mode_state}
@@ -382,10 +362,7 @@ leaf_naming marked stack value_due mode levels d w a f = let x = rw (a.0) at w i
 leaf_naming marked stack (array_opened place) mode levels d w a f = let x = rw (a.0) at w in cc
 leaf_naming marked stack (value_done t) mode levels d w a f = let x = rw (a.0) at w in cc
 leaf_naming marked stack (constant_on which place left) mode levels d w a f = let x = rw (a.0.1) at w in cc
-leaf_naming marked stack (number_on place so_far) mode levels d w a f = let x = rw (a.0) at w in cc
-leaf_naming marked stack (string_on place so_far state) mode levels d w a f = let x = rw (a.0) at w in cc
-leaf_naming marked stack (name_on place done np so_far state) mode levels d w a f = let x = rw (a.0) at w in cc
-leaf_naming marked stack (colon_due place done np name ne) mode levels d w a f = let x = rw (a.0) at w in cc
+leaf_naming marked stack other mode levels d w a f = let x = rw (a.0) at w in cc
 
 is_naming : (state : Broken) (mode : Mode) (levels : List Level) (d : ℕ) → names mode ≡ true → StandsAs state mode levels → FitsBroken d state
     → IsNaming state levels d
@@ -579,8 +556,7 @@ never inner so_far b h = stops so_far b (λ x. elim (number_classes b x) [ inl e
   where
     none : (inner : Option Level) → (after_move inner number_start ≡ Refuse) × (after_move inner other_class ≡ Refuse)
     none None = (refl, refl)
-    none (Some Array) = (refl, refl)
-    none (Some Object) = (refl, refl)
+    none other = (refl, refl)
 
 module _ (limits : Allowed) (levels : List Level) (from to : ℕ) (bytes given : List ℕ) (b : ℕ) (d : Digits limits levels from to bytes given)
     (room : to < limits.bytes) (h : after_move (inner_of levels) (class_of b) ≡ Refuse → ⊥) where

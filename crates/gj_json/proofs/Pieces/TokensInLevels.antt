@@ -1,42 +1,25 @@
 -- Tokens within levels that are open: of the events that one completes, the last alone may close a level.
-use Rattle.std.proofs.Common.{◌≡◌, ℕ, zero, suc, ◌+◌, ◌-◌, ◌≤◌, ◌<◌, Bool, true, false, List, [], ◌∷◌, ◌++◌, get_or, length, take, take-add}
-use Rattle.std.proofs.Common.{drop, Option, Some, None, refl, sym, ap, subst, ◌∙◌, arith}
-use Rattle.std.proofs.lemmas.List.{drop-drop, length-append, length-drop, take_more}
+use Rattle.gj_json.proofs.Common.{Array, Bool, Close, Constant, Ending, Event, Exact, False, FeedsAll, FeedsAny, FeedsWithin, Go, IsNumber, IsString}
+use Rattle.gj_json.proofs.Common.{Lands, Leaves, Level, List, Mode, NameDue, None, Null, Object, Option, Passed, Reader, Skips, Some, True, ValueDone}
+use Rattle.gj_json.proofs.Common.{What, above, after_move, ap, arith, awaits, closing_of, drop, event_at, false, get_or, inner_of, is_white, length}
+use Rattle.gj_json.proofs.Common.{letters_of, opening_of, outer_of, refl, subst, suc, sym, take-add, take_more, true, value_of, what_of, zero, ℕ, []}
+use Rattle.gj_json.proofs.Common.{◌++◌, ◌+◌, ◌-◌, ◌<◌, ◌∙◌, ◌∷◌, ◌≡◌, ◌≤◌}
+use Rattle.std.proofs.Common.{take}
+use Rattle.std.proofs.lemmas.List.{drop-drop, length-append, length-drop}
 use Rattle.gj_json.specs.Bytes.{quote as quote_byte, comma as comma_byte}
 use Rattle.gj_json.specs.declared.class.Class.TheVariants.{Comma as comma_class}
-use Rattle.gj_json.specs.declared.constant.Constant.{Constant}
-use Rattle.gj_json.specs.declared.constant.Constant.TheVariants.{Null, True, False}
-use Rattle.gj_json.specs.declared.event.Event.{Event}
-use Rattle.gj_json.specs.declared.event.What.{What}
-use Rattle.gj_json.specs.Grammar.{letters_of}
-use Rattle.gj_json.specs.declared.levels.Level.{Level}
-use Rattle.gj_json.specs.declared.levels.Level.TheVariants.{Array, Object}
-use Rattle.gj_json.specs.declared.mode.Mode.{Mode}
-use Rattle.gj_json.specs.declared.mode.Mode.TheVariants.{ValueDone, NameDue}
-use Rattle.gj_json.specs.declared.mode.Ending.{Ending}
-use Rattle.gj_json.specs.declared.mode.Move.TheVariants.{Go, Close}
 use Rattle.gj_json.specs.declared.mode.StringState.TheVariants.{Plain as plain}
-use Rattle.gj_json.specs.declared.reader.Reader.{Reader}
 use Rattle.gj_json.specs.Internal.ByteClasses.{class_of}
-use Rattle.gj_json.specs.Events.{what_of}
-use Rattle.gj_json.specs.Internal.FedReader.{Passed, Skips, FeedsAll, FeedsWithin, FeedsAny, FeedsToken, above}
-use Rattle.gj_json.specs.Internal.FlatParts.{awaits}
-use Rattle.gj_json.specs.Ignored.{Leaves}
-use Rattle.gj_json.specs.Internal.OpenLevels.{levels_in, inner_of, outer_of}
-use Rattle.gj_json.specs.Internal.Transitions.{after_move}
-use Rattle.gj_json.specs.Internal.QuietBytes.{Reads, is_white}
-use Rattle.gj_json.specs.Internal.WholeTokens.{IsString, Lands}
-use Rattle.gj_json.specs.Internal.ToldEvents.{event_at, opening_of, closing_of}
+use Rattle.gj_json.specs.Internal.FedReader.{FeedsToken}
+use Rattle.gj_json.specs.Internal.OpenLevels.{levels_in}
+use Rattle.gj_json.specs.Internal.QuietBytes.{Reads}
 use Rattle.gj_json.proofs.Grammar.ClassOfBytes.{class_is}
 use Rattle.gj_json.proofs.Readers.CallsInTurn.{feeds_nothing, front_skipped, piece_all, rest_all}
 use Rattle.gj_json.proofs.Events.IgnoredEvents.{outer_length, all_by, all_more}
 use Rattle.gj_json.proofs.Machine.ValuePaths.{at}
-use Rattle.gj_number.specs.Exact.{Exact}
 use Rattle.gj_json.proofs.Pieces.PieceRests.{rest_of}
 use Rattle.gj_json.proofs.Pieces.QuietModes.{class_white, reads_more}
 use Rattle.gj_json.proofs.Pieces.TakenTokens.{constant_taken, end_goes, end_closes, number_then, number_closed}
-use Rattle.gj_number.specs.Grammar.{IsNumber}
-use Rattle.gj_number.specs.Value.{value_of}
 
 -- a token completes these events, whoever hears them
 abbrev pub Completes : List Event → Reader → Reader → List ℕ → Type 0
@@ -86,8 +69,7 @@ close_leaves Object place k = omega arith
 
 constant_leaves : (which : Constant) (place k : ℕ) → Leaves (suc k) (event_at place (what_of which) ∷ []) (suc k)
 constant_leaves Null place k = refl
-constant_leaves True place k = refl
-constant_leaves False place k = refl
+constant_leaves other place k = refl
 
 -- ---- one token
 

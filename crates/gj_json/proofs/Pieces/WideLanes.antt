@@ -1,11 +1,12 @@
 -- Lanes that are looked at with those before and after them, by tables.
-use Rattle.std.proofs.Common.{◌≡◌, ℕ, zero, suc, ◌/◌, ◌<◌, ◌≤◌, ◌%◌, ◌^◌, Bool, true, false, not, ◌&&◌, ◌||◌, cond, Fits, w8, eqb, ltb, leb, List, [], ◌∷◌, map}
-use Rattle.std.proofs.Common.{length, get_or, replicate, bit_and, bit_or, refl, sym, ap, ap₂, ◌∙◌, arith, eqb-true}
-use Rattle.std.proofs.lemmas.Bool.{agree_below_at}
-use Rattle.std.proofs.lemmas.Simd.{mask_l-mod}
-use lib.Lanes.{zip2, sel_l, mask_l, top, Each1}
+use Rattle.gj_json.proofs.Common.{Bool, Each1, List, agree_below_at, ap, ap₂, arith, bit_and, cond, ends_at, eqb, false, get_or, leb, length, ltb}
+use Rattle.gj_json.proofs.Common.{map, mask_l, mask_l-mod, not, refl, suc, sym, true, w8, zero, zip2, ℕ, [], ◌%◌, ◌&&◌, ◌/◌, ◌<◌, ◌^◌, ◌∙◌, ◌∷◌, ◌≡◌}
+use Rattle.gj_json.proofs.Common.{◌≤◌}
+use Rattle.std.proofs.Common.{◌||◌, Fits}
+use Rattle.std.proofs.Common.{replicate, bit_or, eqb-true}
+use lib.Lanes.{sel_l, top}
 use Rattle.gj_json.specs.declared.wide.TheConstants.{BEFORE}
-use Rattle.gj_json.specs.Internal.WideCharacters.{is_tail, is_stop, lower_of, upper_of, kind_at, kinds_of, ends_at, ends_of}
+use Rattle.gj_json.specs.Internal.WideCharacters.{is_tail, is_stop, lower_of, upper_of, kind_at, kinds_of, ends_of}
 use Rattle.gj_json.proofs.Pieces.LaneTests.{differs, top_c}
 
 abbrev pub at_most : ℕ → ℕ → ℕ
@@ -85,9 +86,7 @@ lanes _ _ _ _ h k l f g = absurd (omega arith)
 
 few : (ps hs ns : List ℕ) → length (ends_of ps hs ns) ≤ length hs
 few (p ∷ ps) (a ∷ hs) (b ∷ ns) = let k = few ps hs ns in omega arith
-few [] hs ns = omega arith
-few (p ∷ ps) [] ns = omega arith
-few (p ∷ ps) (a ∷ hs) [] = omega arith
+few other another third = omega arith
 
 pub ends_are : (ps hs ns : List ℕ) → length ps ≡ 16 → length hs ≡ 16 → length ns ≡ 16 → Each1 (Fits w8) hs → Each1 (Fits w8) ns → {ks es : List ℕ}
     → ks ≡ kinds_of ps hs → es ≡ map ending_of ns

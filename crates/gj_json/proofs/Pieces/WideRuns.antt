@@ -1,14 +1,12 @@
 -- Unescaped characters of up to three bytes, by what is seen at each byte.
-use Rattle.std.proofs.Common.{◌≡◌, ℕ, zero, suc, ◌+◌, ◌-◌, ◌<◌, ◌≤◌, Bool, true, false, not, List, [], ◌∷◌, map, length, take, drop, get_or, inl, inr, refl}
-use Rattle.std.proofs.Common.{sym, ap, ap₂, ◌∙◌, arith}
-use Rattle.std.proofs.lemmas.Bool.{cases_lt}
-use Rattle.std.proofs.lemmas.List.{get_or-drop, get_or-take, length-drop, length-take-le, map-id}
-use Rattle.std.proofs.lemmas.List.Sums.{prefix_len_passes, prefix_len_stops, prefix_len-le-length}
-use Rattle.std.proofs.lemmas.Simd.{leading_from_mask_l, trailing_mask_l}
-use Rattle.std.specs.List.{prefix_len}
+use Rattle.gj_json.proofs.Common.{Bool, List, NoneEnds, ap, ap₂, arith, cases_lt, drop, ends_at, false, get_or, get_or-drop, inl, inr}
+use Rattle.gj_json.proofs.Common.{leading_from_mask_l, length, length-take-le, map, map-id, mask_l, not, prefix_len, prefix_len-le-length, refl, suc}
+use Rattle.gj_json.proofs.Common.{sym, trailing_mask_l, true, zero, ℕ, [], ◌+◌, ◌-◌, ◌<◌, ◌∙◌, ◌∷◌, ◌≡◌, ◌≤◌}
+use Rattle.std.proofs.Common.{take}
+use Rattle.std.proofs.lemmas.List.{get_or-take, length-drop}
+use Rattle.std.proofs.lemmas.List.Sums.{prefix_len_passes, prefix_len_stops}
 use lib.Count.{count_trailing_zeros}
-use lib.Lanes.{mask_l}
-use Rattle.gj_json.specs.Internal.WideCharacters.{ends_at, ends_of, EndsThere, NoneEnds}
+use Rattle.gj_json.specs.Internal.WideCharacters.{ends_of, EndsThere}
 
 -- ---- one look
 
@@ -21,9 +19,7 @@ at_of : (ps hs ns : List ℕ) (i : ℕ) → i < length ps → i < length hs → 
     → get_or (ends_of ps hs ns) i true ≡ ends_at (get_or ps i 0) (get_or hs i 0) (get_or ns i 0)
 at_of (p ∷ ps) (a ∷ hs) (b ∷ ns) zero h k l = refl
 at_of (p ∷ ps) (a ∷ hs) (b ∷ ns) (suc i) h k l = at_of ps hs ns i (omega arith) (omega arith) (omega arith)
-at_of [] hs ns i h k l = absurd (omega arith)
-at_of (p ∷ ps) [] ns i h k l = absurd (omega arith)
-at_of (p ∷ ps) (a ∷ hs) [] i h k l = absurd (omega arith)
+at_of other another third i h k l = absurd (omega arith)
 
 -- sixteen bytes from a place on
 abbrev pub sixteen : List ℕ → ℕ → List ℕ

@@ -1,33 +1,20 @@
 -- What a call that takes bytes leaves, one call after another.
-use Rattle.std.proofs.Common.{inl, inr, ◌≡◌, ℕ, ◌+◌, ◌-◌, ◌≤◌, ◌<◌, List, [], ◌∷◌, ◌++◌, length, take, drop, take-add, get_or, Option, Some, None, Result, Ok}
-use Rattle.std.proofs.Common.{Err, refl, sym, ap, subst, ◌∙◌, arith, append_assoc, append-nil}
+use Rattle.gj_json.proofs.Common.{Allowed, Applied, Cause, Close, Completed, Depth, Err, Event, FeedsAll, FeedsTo, Go, IsRefusal, IsText, JsonFault}
+use Rattle.gj_json.proofs.Common.{Length, Level, List, Mode, Move, None, Ok, Open, Option, PassesTo, Reader, Refuse, RefusesWith, Result, Skips, Some}
+use Rattle.gj_json.proofs.Common.{StandsFor, StandsOpen, StandsRefused, Syntax, Takes, ValueDone, ap, append_assoc, arith, drop, eqb_tells, events_by}
+use Rattle.gj_json.proofs.Common.{get_or, inl, inr, length, length-take-le, move_by, opened, outer_of, refl, subst, sym, take-add, take-append-drop}
+use Rattle.gj_json.proofs.Common.{take_more, told_by, told_on, under_of, ℕ, [], ◌++◌, ◌+◌, ◌-◌, ◌<◌, ◌∙◌, ◌∷◌, ◌≡◌, ◌≤◌}
+use Rattle.std.proofs.Common.{take}
+use Rattle.std.proofs.Common.{append-nil}
 use Rattle.std.specs.Result.{MatchResult, IfOk}
-use Rattle.std.proofs.lemmas.List.{length-append, length-take-le, take-append-le, take-append-drop, take_more}
+use Rattle.std.proofs.lemmas.List.{length-append, take-append-le}
 use Rattle.std.proofs.Math.Seq.{take-append-add}
-use Rattle.std.proofs.lemmas.Bool.Decides.{eqb_tells}
-use Rattle.gj_json.specs.declared.event.Event.{Event}
-use Rattle.gj_json.specs.declared.fault.JsonFault.{JsonFault}
-use Rattle.gj_json.specs.declared.fault.Cause.{Cause}
-use Rattle.gj_json.specs.declared.fault.Cause.TheVariants.{Syntax, Depth, Length}
-use Rattle.gj_json.specs.declared.levels.Level.{Level}
-use Rattle.gj_json.specs.declared.mode.Mode.{Mode}
-use Rattle.gj_json.specs.declared.reader.Reader.{Reader}
-use Rattle.gj_json.specs.Limits.{Allowed}
-use Rattle.gj_json.specs.Text.{IsText}
-use Rattle.gj_json.specs.Refusal.{IsRefusal}
-use Rattle.gj_json.specs.Events.{events_by}
 use Rattle.gj_json.specs.Internal.OpenLevels.{levels_in}
-use Rattle.gj_json.specs.Internal.FedReader.{Skips, SkipsBy, leading, in_literal, in_text, Feeds, FeedsAll, FeedsTo, HearsTwo}
-use Rattle.gj_json.specs.Internal.UnderWay.{under_of}
+use Rattle.gj_json.specs.Internal.FedReader.{SkipsBy, leading, in_literal, in_text, Feeds, HearsTwo}
 use Rattle.gj_json.proofs.Machine.BytesUnderWay.{mode_under, mode_state}
 use Rattle.gj_json.proofs.Readers.NumberUnderWay.{keeps_none}
-use Rattle.gj_json.specs.Reader.{StandsFor, Answers, Completed, Hears, HearsBy}
-use Rattle.gj_json.specs.Internal.ReaderState.{StandsOpen, StandsRefused}
-use Rattle.gj_json.specs.declared.mode.Mode.TheVariants.{ValueDone}
-use Rattle.gj_json.specs.declared.mode.Move.{Move}
-use Rattle.gj_json.specs.declared.mode.Move.TheVariants.{Refuse, Go, Open, Close}
-use Rattle.gj_json.specs.Internal.OpenLevels.{outer_of}
-use Rattle.gj_json.specs.Internal.ReaderStep.{Applied, PassesTo, RefusesWith, IsRefusedWith, opened, told_on, move_by, told_by, Takes}
+use Rattle.gj_json.specs.Reader.{Answers, Hears, HearsBy}
+use Rattle.gj_json.specs.Internal.ReaderStep.{IsRefusedWith}
 use Rattle.gj_json.proofs.Readers.ReadBytes.{pushed, completed, stop, well_viable, well_of, open_of, refuses_on, lasts}
 use Rattle.gj_json.proofs.Events.EventsOfSteps.{emitted_few}
 use Rattle.gj_json.proofs.Pieces.QuietRuns.{quiet_run, digits_run, text_run}

@@ -1,16 +1,11 @@
 -- What the characters that are kept say of a string's content.
-use Rattle.std.proofs.Common.{◌≡◌, ℕ, ◌≤◌, Bool, true, false, ◌&&◌, nat_lt, nat_le, List, [], ◌∷◌, ◌++◌, length, codes, refl, sym, ap, subst, arith}
-use Rattle.std.specs.List.{AllByRecursion}
-use Rattle.std.specs.Str.{bytes_eq}
-use Rattle.std.proofs.lemmas.Bool.Decides.{nat_tests}
+use Rattle.gj_json.proofs.Common.{AllByRecursion, Bool, Content, Holds, IsAscii, List, Word, ap, arith, bytes_eq, codes, false, length, nat_le}
+use Rattle.gj_json.proofs.Common.{nat_lt, nat_tests, refl, subst, sym, true, words_in, words_of, ℕ, [], ◌&&◌, ◌++◌, ◌∷◌, ◌≡◌, ◌≤◌}
 use Rattle.std.proofs.lemmas.Slice.Eq.{bytes_eq-Decides}
 use Rattle.std.proofs.lemmas.List.{length-append}
-use Rattle.gj_json.specs.declared.content.Content.{Content}
 use Rattle.gj_json.specs.declared.names.Known.{Known}
-use Rattle.gj_json.specs.declared.names.Word.{Word}
-use Rattle.gj_json.specs.Internal.KeptContent.{IsAscii, IsOther, HoldsBy, Holds, words_in}
+use Rattle.gj_json.specs.Internal.KeptContent.{IsOther, HoldsBy}
 use Rattle.gj_json.specs.Names.{known_of, word_of}
-use Rattle.gj_json.specs.Internal.ContentWords.{words_of}
 
 -- what is other stays so
 ascii_front : (xs ys : List ℕ) → AllByRecursion IsAscii (xs ++ ys) → AllByRecursion IsAscii xs

@@ -1,12 +1,12 @@
 -- Words of bits keep as many levels as their counts say.
-use Rattle.std.proofs.Common.{◌≡◌, ◌≢◌, ℕ, zero, suc, ◌+◌, ◌-◌, ◌*◌, ◌≤◌, ◌<◌, ◌/◌, ◌%◌, List, ◌∷◌, ◌++◌, length, get_or, set, Some, refl, ap, arith, add-one}
+use Rattle.gj_json.proofs.Common.{Array, Level, List, Object, Some, ap, arith, get_or, inner_of, length, outer_of, refl, suc, zero, ℕ, ◌%◌, ◌*◌, ◌++◌}
+use Rattle.gj_json.proofs.Common.{◌+◌, ◌-◌, ◌/◌, ◌<◌, ◌∷◌, ◌≡◌, ◌≢◌, ◌≤◌}
+use Rattle.std.proofs.Common.{set, add-one}
 use Rattle.std.proofs.lemmas.List.{get_or-set_same, get_or-set_other, length-append}
 use Rattle.std.specs.Prelude.{slice_set}
 use Rattle.gj_json.specs.declared.levels.Levels.{Levels}
-use Rattle.gj_json.specs.declared.levels.Level.{Level}
-use Rattle.gj_json.specs.declared.levels.Level.TheVariants.{Array, Object}
 use Rattle.gj_json.specs.declared.levels.TheConstants.{WORD}
-use Rattle.gj_json.specs.Internal.OpenLevels.{level_of, bit_of, levels_at, full_levels, levels_in, inner_of, outer_of}
+use Rattle.gj_json.specs.Internal.OpenLevels.{level_of, bit_of, levels_at, full_levels, levels_in}
 
 length-levels_at : (count bits : ℕ) → length (levels_at count bits) ≡ count
 length-levels_at zero bits = refl

@@ -1,21 +1,13 @@
 -- What the literal that is kept says of the number under way.
-use Rattle.std.proofs.Common.{◌≡◌, ℕ, true, false, List, [], ◌∷◌, ◌++◌, Option, Some, None, refl, sym, ◌∙◌}
+use Rattle.gj_json.proofs.Common.{ComesFrom, Content, Exact, HasValue, HasWords, IsNumber, Keeps, List, Literal, None, NumberTurn, Option, Reader}
+use Rattle.gj_json.proofs.Common.{Refuses, Some, StringState, Turns, Under, Words, false, in_number, refl, string_goes, string_next, sym, text_state}
+use Rattle.gj_json.proofs.Common.{true, turn_of, value_of, words_in, words_of, ℕ, [], ◌++◌, ◌∙◌, ◌∷◌, ◌≡◌}
 use Rattle.std.proofs.lemmas.Bool.{false_from_ne_true}
-use Rattle.gj_number.specs.Exact.{Exact}
-use Rattle.gj_number.specs.Grammar.{IsNumber}
-use Rattle.gj_number.specs.Value.{value_of}
-use Rattle.gj_number.specs.declared.literal.Literal.{Literal}
-use Rattle.gj_json.specs.declared.mode.StringState.{StringState}
-use Rattle.gj_json.specs.Internal.TextMachine.{string_next, string_goes}
-use Rattle.gj_json.specs.declared.reader.Reader.{Reader}
 use Rattle.gj_number.specs.DecidedNumbers.{is_number, begins_number}
 use Rattle.gj_number.proofs.Grammar.DecidedNumbers.{number as decided_number, begins}
-use Rattle.gj_json.specs.Internal.ToldEvents.{in_number, text_state, NumberTurn, turn_of, Goes, Ends, Refuses}
-use Rattle.gj_json.specs.Internal.UnderWay.{Under, nothing, number, text, ComesFrom, Keeps, Turns, HasValue, HasWords, TurnSays, LiteralSays, LiteralGoes}
+use Rattle.gj_json.specs.Internal.ToldEvents.{Goes, Ends}
+use Rattle.gj_json.specs.Internal.UnderWay.{nothing, number, text, TurnSays, LiteralSays, LiteralGoes}
 use Rattle.gj_json.specs.Internal.UnderWay.{ContentGoes}
-use Rattle.gj_json.specs.declared.content.Content.{Content}
-use Rattle.gj_json.specs.Internal.KeptContent.{words_in}
-use Rattle.gj_json.specs.Internal.ContentWords.{Words, words_of}
 use Rattle.gj_json.proofs.Machine.BytesUnderWay.{has_number, state_under}
 use Rattle.gj_json.proofs.Readers.ContentLetters.{holds_words}
 

@@ -1,37 +1,19 @@
 -- What a byte leaves and answers.
-use Rattle.std.proofs.Common.{◌≡◌, ℕ, ◌+◌, ◌≤◌, ◌<◌, inl, inr, List, [], ◌∷◌, ◌++◌, length, Option, Some, None, Result, Ok, refl, sym, ap, subst, ◌∙◌, arith}
-use Rattle.std.proofs.Common.{append_assoc}
-use Rattle.std.proofs.lemmas.List.{length-append, map-append}
-use Rattle.std.proofs.lemmas.Bool.Decides.{eqb_tells}
-use Rattle.gj_json.specs.declared.event.Event.{Event}
-use Rattle.gj_json.specs.declared.fault.JsonFault.{JsonFault}
-use Rattle.gj_json.specs.declared.fault.Cause.{Cause}
-use Rattle.gj_json.specs.declared.fault.Cause.TheVariants.{Syntax, Depth, Length, Truncated}
-use Rattle.gj_json.specs.declared.levels.Level.{Level}
-use Rattle.gj_json.specs.declared.mode.Mode.{Mode}
-use Rattle.gj_json.specs.declared.mode.Mode.TheVariants.{ValueDone}
-use Rattle.gj_json.specs.declared.mode.Move.{Move}
-use Rattle.gj_json.specs.declared.mode.Move.TheVariants.{Refuse, Go, Open, Close}
-use Rattle.gj_json.specs.declared.reader.Reader.{Reader}
-use Rattle.gj_json.specs.Limits.{Allowed}
-use Rattle.gj_json.specs.Tree.{Text}
-use Rattle.gj_json.specs.Text.{IsText, IsViable, IsViableWithin}
-use Rattle.gj_json.specs.Refusal.{Stops, RefusedFor, IsRefusal, IsByByte}
-use Rattle.gj_json.specs.Events.{Timed, events_by}
-use Rattle.gj_json.specs.Internal.OpenLevels.{levels_in, inner_of, outer_of}
-use Rattle.gj_json.specs.Internal.TextMachine.{Broken, text_due, mark_one, mark_two, begun, step, run_from, run}
-use Rattle.gj_json.specs.Internal.Transitions.{move_of}
-use Rattle.gj_json.specs.Reader.{StandsFor, Answers, Completed}
-use Rattle.gj_json.specs.Internal.SeenEvents.{seen}
-use Rattle.gj_json.specs.Internal.ReaderState.{StandsWell, StandsOpen, StandsRefused, StandsAs, FitsBroken}
-use Rattle.gj_json.specs.Internal.ReaderStep.{RefusesWith, PassesTo, Applied, opened, move_by, told_by, Takes}
-use Rattle.gj_number.specs.Exact.{Exact}
-use Rattle.gj_json.specs.Internal.UnderWay.{under_of, Keeps, Turns, HasValue, HasWords, LiteralSays, LiteralGoes, ContentGoes}
-use Rattle.gj_json.specs.Internal.KeptContent.{words_in}
-use Rattle.gj_json.specs.Internal.ContentWords.{Words}
+use Rattle.gj_json.proofs.Common.{Allowed, Applied, Cause, Close, Completed, Depth, Event, Exact, FitsBroken, Go, HasValue, HasWords, IsRefusal}
+use Rattle.gj_json.proofs.Common.{IsText, IsViable, IsViableWithin, JsonFault, Keeps, Length, Level, List, Mode, Move, None, NumberTurn, Ok, Open}
+use Rattle.gj_json.proofs.Common.{Option, PassesTo, Reader, Refuse, RefusedFor, RefusesWith, Result, Some, StandsAs, StandsFor, StandsOpen}
+use Rattle.gj_json.proofs.Common.{StandsRefused, StandsWell, Syntax, Takes, Text, Timed, Truncated, Turns, ValueDone, Words, ap, append_assoc, arith}
+use Rattle.gj_json.proofs.Common.{emitted, eqb_tells, events_by, inl, inner_of, inr, length, map-append, move_by, move_of, opened, outer_of, refl}
+use Rattle.gj_json.proofs.Common.{run, run_from, seen, start_after, step, subst, sym, told_by, under_of, words_in, ℕ, [], ◌++◌, ◌+◌, ◌<◌, ◌∙◌, ◌∷◌}
+use Rattle.gj_json.proofs.Common.{◌≡◌, ◌≤◌}
+use Rattle.std.proofs.lemmas.List.{length-append}
+use Rattle.gj_json.specs.Refusal.{Stops, IsByByte}
+use Rattle.gj_json.specs.Internal.OpenLevels.{levels_in}
+use Rattle.gj_json.specs.Internal.TextMachine.{Broken, text_due, mark_one, mark_two, begun}
+use Rattle.gj_json.specs.Reader.{Answers}
+use Rattle.gj_json.specs.Internal.UnderWay.{LiteralSays, LiteralGoes, ContentGoes}
 use Rattle.gj_json.proofs.Machine.BytesUnderWay.{CameTo, step_came, mode_under, mode_state}
 use Rattle.gj_json.proofs.Readers.NumberUnderWay.{turns_by, keeps_on, words_by}
-use Rattle.gj_json.specs.Internal.ToldEvents.{emitted, start_after, NumberTurn}
 use Rattle.gj_json.proofs.Machine.Completions.{Goes, TextFrom}
 use Rattle.gj_json.proofs.Machine.MachineTexts.{text_goes_on}
 use Rattle.gj_json.proofs.Machine.StepsOfCompletions.{forward}

@@ -1,37 +1,24 @@
 -- What the reader keeps moves as the machine does.
-use Rattle.std.proofs.Common.{◌≡◌, ℕ, suc, ◌+◌, ◌==◌, ◌≤◌, ◌<◌, Bool, true, false, if◌then◌else◌, List, [], ◌∷◌, length, drop, Option, Some, None, refl, sym}
-use Rattle.std.proofs.Common.{ap, arith, eq-eqb, get_or, length-drop, drop-cons, ◌++◌}
-use Rattle.std.proofs.lemmas.Bool.Decides.{nat_tests}
-use Rattle.gj_json.specs.Internal.NamedBytes.{mark_first, mark_second, mark_third}
-use Rattle.gj_json.specs.declared.class.Class.{Class}
-use Rattle.gj_json.specs.declared.class.Class.TheVariants.{White, OpenArray, CloseArray, OpenObject, CloseObject, Comma, Colon, Quote, NumberStart, Letter}
-use Rattle.gj_json.specs.declared.class.Class.TheVariants.{Other}
-use Rattle.gj_json.specs.declared.constant.Constant.{Constant}
-use Rattle.gj_json.specs.declared.constant.Constant.TheVariants.{Null, True, False}
-use Rattle.gj_json.specs.declared.levels.Level.{Level}
-use Rattle.gj_json.specs.declared.levels.Level.TheVariants.{Array, Object}
-use Rattle.gj_json.specs.declared.mode.Mode.{Mode}
-use Rattle.gj_json.specs.declared.mode.Mode.TheVariants.{ValueDone, ConstantOn, MarkOne, MarkTwo, ValueDue}
-use Rattle.gj_json.specs.declared.mode.Ending.{Ending}
-use Rattle.gj_json.specs.Internal.ContentWords.{Words}
-use Rattle.gj_json.specs.declared.mode.Move.{Move}
-use Rattle.gj_json.specs.declared.mode.Move.TheVariants.{Refuse, Go, Open, Close}
-use Rattle.gj_json.specs.Tree.{Tree, constant, number, end_of_array, element, end_of_object, member, depth}
-use Rattle.gj_json.specs.Grammar.{letters_of}
+use Rattle.gj_json.proofs.Common.{Array, Bool, Class, Close, CloseArray, CloseObject, Colon, Comma, Constant, ConstantOn, Ending, False, FitsBroken}
+use Rattle.gj_json.proofs.Common.{FitsLeaf, FitsName, Go, LeafAs, Letter, Level, List, MarkOne, MarkTwo, Mode, Move, None, Null, NumberStart}
+use Rattle.gj_json.proofs.Common.{NumberTurn, Object, Open, OpenArray, OpenObject, Option, Other, Quote, Refuse, Some, StandsAs, StringStep, Tree}
+use Rattle.gj_json.proofs.Common.{True, Turns, ValueDone, ValueDue, Words, after_move, after_value, ap, arith, begin_value, constant, constant_move}
+use Rattle.gj_json.proofs.Common.{depth, drop, element, end_of_array, end_of_object, false, get_or, if◌then◌else◌, inner_of, length, letters_after}
+use Rattle.gj_json.proofs.Common.{letters_of, levels_of, levels_with, mark_first, mark_second, mark_third, member, move_of, name_string_move}
+use Rattle.gj_json.proofs.Common.{nat_tests, number_move, opened, outer_of, refl, step, step_array_opened, step_colon_due, step_constant, step_leaf}
+use Rattle.gj_json.proofs.Common.{step_name, step_name_due, step_number, step_object_opened, step_string, step_value_due, string_ends, string_goes}
+use Rattle.gj_json.proofs.Common.{string_move, string_next, string_refuses, suc, sym, to, true, turn_of, under_leaf, under_of, value_string_move}
+use Rattle.gj_json.proofs.Common.{with_mark, ℕ, [], ◌++◌, ◌+◌, ◌<◌, ◌==◌, ◌∷◌, ◌≡◌, ◌≤◌}
+use Rattle.std.proofs.Common.{eq-eqb, length-drop, drop-cons}
+use Rattle.gj_json.specs.declared.class.Class.TheVariants.{White}
+use Rattle.gj_json.specs.Tree.{number}
 use Rattle.gj_json.specs.Internal.ByteClasses.{class_of}
-use Rattle.gj_json.specs.Internal.OpenLevels.{inner_of, outer_of}
-use Rattle.gj_json.specs.Internal.TextMachine.{Frame, in_array, in_object, Member, Leaf, Partial, Broken, text_due, mark_one, mark_two, begun, with_mark}
+use Rattle.gj_json.specs.Internal.TextMachine.{Frame, in_array, in_object, Member, Leaf, Partial, Broken, text_due, mark_one, mark_two, begun}
 use Rattle.gj_json.specs.Internal.TextMachine.{value_due, value_done, array_opened, object_opened, constant_on, number_on, string_on, name_due, name_on}
-use Rattle.gj_json.specs.Internal.TextMachine.{colon_due, to, step, step_leaf, begin_value, begin_name, after_value, step_value_due, step_array_opened}
-use Rattle.gj_json.specs.Internal.TextMachine.{step_object_opened, step_name_due, step_colon_due, step_constant, step_number, step_string, step_name}
-use Rattle.gj_json.specs.Internal.TextMachine.{string_next, StringStep, string_ends, string_goes, string_refuses, letters_after}
-use Rattle.gj_json.specs.Internal.Transitions.{string_move, begin_move, due_move, array_move, name_move, object_move, name_due_move, colon_move, after_move}
-use Rattle.gj_json.specs.Internal.Transitions.{constant_move, number_move, value_string_move, name_string_move, move_of}
-use Rattle.gj_json.specs.Internal.ReaderState.{levels_of, levels_with, LeafAs, PartialAs, StandsAs, Fits, FitsName, FitsLeaf, FitsBroken}
-use Rattle.gj_json.specs.Internal.ReaderStep.{opened}
-use Rattle.gj_json.specs.Internal.ToldEvents.{NumberTurn, turn_of}
+use Rattle.gj_json.specs.Internal.TextMachine.{colon_due, begin_name}
+use Rattle.gj_json.specs.Internal.Transitions.{begin_move, due_move, array_move, name_move, object_move, name_due_move, colon_move}
+use Rattle.gj_json.specs.Internal.ReaderState.{PartialAs, Fits}
 use Rattle.gj_number.specs.DecidedNumbers.{is_number, begins_number}
-use Rattle.gj_json.specs.Internal.UnderWay.{under_leaf, under_of, Turns}
 use Rattle.gj_json.proofs.Machine.Completions.{Goes}
 use Rattle.gj_json.proofs.Grammar.OneCharacter.{OneCharacter, one_character}
 use Rattle.gj_json.proofs.Machine.CompletableStates.{elements_joined, members_joined, levels_fit}
@@ -50,8 +37,7 @@ levels_length (in_object place done np name ne ∷ stack) = ap suc (levels_lengt
 
 constant_begun : (which : Constant) → (letters_after which ≡ drop 1 (letters_of which)) × (1 < length (letters_of which))
 constant_begun Null = (refl, omega arith)
-constant_begun True = (refl, omega arith)
-constant_begun False = (refl, omega arith)
+constant_begun other = (refl, omega arith)
 
 on_begin : (d : ℕ) (stack : List Frame) (n b : ℕ) (c : Class) → Fits d stack → Simulates d (levels_of stack) (begin_move c) (begin_value stack n b c)
 on_begin d stack n b OpenArray f = ((refl, refl), λ l. (omega (arith, levels_length stack), f))
@@ -59,12 +45,7 @@ on_begin d stack n b OpenObject f = ((refl, refl), λ l. (omega (arith, levels_l
 on_begin d stack n b Quote f = ((refl, refl), f)
 on_begin d stack n b NumberStart f = ((refl, refl), f)
 on_begin d stack n b (Letter which) f = (((1, refl, (constant_begun which).0, (constant_begun which).1), refl), f)
-on_begin d stack n b White f = refl
-on_begin d stack n b CloseArray f = refl
-on_begin d stack n b CloseObject f = refl
-on_begin d stack n b Comma f = refl
-on_begin d stack n b Colon f = refl
-on_begin d stack n b Other f = refl
+on_begin d stack n b other f = refl
 
 on_after : (d : ℕ) (stack : List Frame) (t : Tree) (n : ℕ) (c : Class) → (depth t + length stack ≤ d) × Fits d stack
     → Simulates d (levels_of stack) (after_move (inner_of (levels_of stack)) c) (after_value stack t n c)

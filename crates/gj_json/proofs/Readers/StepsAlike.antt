@@ -1,34 +1,16 @@
 -- What a byte does to a reader does not depend on its literal and its content.
-use Rattle.std.proofs.Common.{inl, inr, ◌≡◌, ℕ, true, false, List, [], ◌∷◌, ◌++◌, length, Option, Some, None, Result, Ok, Err, refl, sym, ap, subst, ◌∙◌, arith}
-use Rattle.gj_json.specs.declared.fault.JsonFault.{JsonFault}
-use Rattle.gj_json.specs.declared.fault.Cause.{Cause}
-use Rattle.gj_json.specs.declared.fault.Cause.TheVariants.{Syntax, Depth}
-use Rattle.gj_json.specs.declared.levels.Level.{Level}
+use Rattle.gj_json.proofs.Common.{Allowed, Applied, BeginsNumber, Cause, Close, Depth, Err, Event, Exact, Go, GoesOn, Holds, JsonFault, Level, List}
+use Rattle.gj_json.proofs.Common.{Mode, Move, None, Nothing, NumberOn, NumberTurn, Ok, Open, Option, PassesTo, Plain, Reader, Refuse, Refuses}
+use Rattle.gj_json.proofs.Common.{RefusesWith, Result, Some, StringState, StringStep, Syntax, Takes, ValueDone, What, Words, ap, arith, event_at}
+use Rattle.gj_json.proofs.Common.{false, in_number, inl, inner_of, inr, length, move_by, move_of, number_events, opened, option_to_list, outer_of}
+use Rattle.gj_json.proofs.Common.{refl, string_goes, string_move, string_next, subst, sym, text_state, told_by, told_on, true, words_in, ℕ, [], ◌++◌}
+use Rattle.gj_json.proofs.Common.{◌∙◌, ◌∷◌, ◌≡◌}
 use Rattle.gj_json.specs.declared.levels.Levels.{Levels}
-use Rattle.gj_json.specs.Limits.{Allowed}
-use Rattle.gj_json.specs.declared.mode.Mode.{Mode}
-use Rattle.gj_json.specs.declared.mode.Mode.TheVariants.{NumberOn, ValueDone}
-use Rattle.gj_json.specs.declared.mode.Move.{Move}
-use Rattle.gj_json.specs.declared.mode.Move.TheVariants.{Refuse, Go, Open, Close}
 use Rattle.gj_json.specs.declared.mode.StringMove.TheVariants.{Reads}
-use Rattle.gj_json.specs.declared.mode.StringState.{StringState}
-use Rattle.gj_json.specs.declared.mode.StringState.TheVariants.{Plain}
-use Rattle.gj_json.specs.Internal.FedReader.{GoesOn}
-use Rattle.gj_json.specs.Internal.TextMachine.{StringStep, string_next, string_goes}
-use Rattle.gj_json.specs.Internal.ContentWords.{Words}
-use Rattle.gj_json.specs.declared.reader.Reader.{Reader}
-use Rattle.gj_json.specs.Internal.OpenLevels.{levels_in, inner_of, outer_of}
-use Rattle.gj_json.specs.Internal.Transitions.{move_of, string_move}
-use Rattle.gj_json.specs.Internal.KeptContent.{words_in, Holds}
-use Rattle.gj_json.specs.Internal.ReaderStep.{Passes, IsRefusedWith, RefusesWith, PassesTo, Applied, opened, move_by, made_by, told_by, told_on, Takes}
-use Rattle.gj_json.specs.declared.event.Event.{Event}
-use Rattle.gj_number.specs.Grammar.{BeginsNumber}
+use Rattle.gj_json.specs.Internal.OpenLevels.{levels_in}
+use Rattle.gj_json.specs.Internal.ReaderStep.{Passes, IsRefusedWith, made_by}
 use Rattle.gj_number.specs.Literal.{StandsFor as LiteralStandsFor}
-use Rattle.gj_json.specs.Internal.ToldEvents.{event_at, move_event, number_events, in_number, text_state, NumberTurn, Goes, Ends, Refuses}
-use Rattle.std.specs.Option.{option_to_list}
-use Rattle.gj_json.specs.declared.event.What.{What}
-use Rattle.gj_json.specs.declared.mode.Ending.TheVariants.{Nothing}
-use Rattle.gj_number.specs.Exact.{Exact}
+use Rattle.gj_json.specs.Internal.ToldEvents.{move_event, Goes, Ends}
 
 -- where no number is under way, none has ended
 pub no_number : (mode : Mode) (turn : NumberTurn) (value : Option Exact) (start : ℕ) → in_number mode ≡ false → number_events mode turn value start ≡ []

@@ -1,11 +1,10 @@
 -- The class of a byte.
-use Rattle.std.proofs.Common.{◌≡◌, ℕ, ◌==◌, ◌⊎◌, inl, inr, Bool, true, false, if◌then◌else◌, ◌&&◌, refl, arith, nat_le, nat_lt, Some}
-use Rattle.std.proofs.lemmas.Bool.Decides.{nat_tests, eqb_tells}
-use Rattle.gj_number.specs.Bytes.{IsNumberByte, minus_sign, plus_sign, decimal_point, lower_e, upper_e, zero_digit, nine_digit, IsDigit, IsFirstDigit}
-use Rattle.gj_number.specs.declared.state.State.{State}
-use Rattle.gj_number.specs.declared.state.Class.{Class}
-use Rattle.gj_number.specs.declared.state.Class.TheVariants.{Minus, Plus, Point, Letter, Zero, NonZero, Other}
-use Rattle.gj_number.specs.Internal.NumberMachine.{class_of, Means, next_of}
+use Rattle.gj_number.proofs.Common.{Bool, Class, IsDigit, IsFirstDigit, IsNumberByte, Letter, Means, Minus, NonZero, Other, Plus, Point, Some, State}
+use Rattle.gj_number.proofs.Common.{Zero, arith, decimal_point, eqb_tells, false, if◌then◌else◌, inl, inr, minus_sign, nat_tests, next_of, plus_sign}
+use Rattle.gj_number.proofs.Common.{refl, true, zero_digit, ℕ, ◌==◌, ◌≡◌, ◌⊎◌}
+use Rattle.std.proofs.Common.{◌&&◌, nat_le, nat_lt}
+use Rattle.gj_number.specs.Bytes.{lower_e, upper_e, nine_digit}
+use Rattle.gj_number.specs.Internal.NumberMachine.{class_of}
 
 pick : (b k : ℕ) (c d : Class) → (b ≡ k → Means c b) → Means d b → Means (if b == k then c else d) b
 pick b k c d met unmet = elim (eqb_tells b k) [ inl h ↦ rw h.0 (met h.1) | inr h ↦ rw h.0 unmet ]

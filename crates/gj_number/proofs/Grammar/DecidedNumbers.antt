@@ -1,13 +1,10 @@
 -- The functions that decide which bytes are a number, or begin one, say what the grammar says.
-use Rattle.std.proofs.Common.{◌≡◌, ℕ, ◌⊎◌, inl, inr, ◌↔◌, true, false, Option, Some, None, is_some, List, [], ◌∷◌, ◌++◌, refl, sym, ◌∙◌, ap, arith}
-use Rattle.gj_number.specs.Bytes.{minus_sign, IsDigit, IsNumberByte}
-use Rattle.gj_number.specs.Grammar.{IsNumber, BeginsNumber}
+use Rattle.gj_number.proofs.Common.{BeginsNumber, Class, IsDigit, IsNumber, IsNumberByte, List, Means, Minus, NonZero, None, Option, Other, Reaches}
+use Rattle.gj_number.proofs.Common.{Scan, Some, Start, State, Zero, ap, arith, false, inl, inr, may_end_in, minus_sign, next_of, refl, start, sym}
+use Rattle.gj_number.proofs.Common.{taken, true, ℕ, [], ◌++◌, ◌↔◌, ◌∙◌, ◌∷◌, ◌≡◌, ◌⊎◌}
+use Rattle.std.proofs.Common.{is_some}
 use Rattle.gj_number.specs.DecidedNumbers.{is_number, begins_number, may_end_at}
-use Rattle.gj_number.specs.declared.state.State.{State}
-use Rattle.gj_number.specs.declared.state.State.TheVariants.{Start}
-use Rattle.gj_number.specs.declared.state.Class.{Class}
-use Rattle.gj_number.specs.declared.state.Class.TheVariants.{Minus, Zero, NonZero, Other}
-use Rattle.gj_number.specs.Internal.NumberMachine.{class_of, Means, next_of, may_end_in, state_after, Scan, start, taken, Reaches}
+use Rattle.gj_number.specs.Internal.NumberMachine.{class_of, state_after}
 use Rattle.gj_number.proofs.Grammar.ByteClasses.{means, class_is, digit_class, number_byte}
 use Rattle.gj_number.proofs.Grammar.ScanPaths.{state-taken, reaches_part}
 use Rattle.gj_number.proofs.Grammar.StateMoves.{other_ends}

@@ -1,14 +1,13 @@
 -- What the functions on a whole literal find in one that is made of parts.
-use Rattle.std.proofs.Common.{◌≡◌, ℕ, ◌≤◌, Bool, true, false, ◌==◌, List, [], ◌∷◌, ◌++◌, length, drop, refl, sym, ◌∙◌, ap, arith, inl, inr, append_assoc, ℤ}
-use Rattle.std.proofs.Math.Seq.{take-append_seam, drop-append-add}
-use Rattle.std.proofs.lemmas.Bool.Decides.{nat_tests}
-use Rattle.std.specs.List.{AllByRecursion, position_or_len, before_first, after_first}
-use Rattle.gj_number.specs.Bytes.{minus_sign, plus_sign, lower_e, upper_e, zero_digit, IsDigit, IsExponentLetter, is_exponent_letter, decimal_point}
-use Rattle.gj_number.specs.Grammar.{IsNatural, IsDigits}
-use Rattle.gj_number.specs.Exact.{signed}
-use Rattle.gj_number.specs.Value.{number_of, is_negative, unsigned_of, significand_of, natural_of, fraction_of, exponent_of, signed_number, held_value}
+use Rattle.gj_number.proofs.Common.{AllByRecursion, Bool, IsDigit, IsDigits, IsExponentLetter, IsNatural, List, Parts, Spells, SpellsExponent}
+use Rattle.gj_number.proofs.Common.{SpellsExponentSign, SpellsFraction, SpellsSign, ap, append_assoc, arith, decimal_point, drop, false, inl, inr}
+use Rattle.gj_number.proofs.Common.{length, minus_sign, nat_tests, number_of, plus_sign, refl, signed, sym, take-append_seam, true, whole_of}
+use Rattle.gj_number.proofs.Common.{zero_digit, ℕ, ℤ, [], ◌++◌, ◌==◌, ◌∙◌, ◌∷◌, ◌≡◌, ◌≤◌}
+use Rattle.std.proofs.Math.Seq.{drop-append-add}
+use Rattle.std.specs.List.{position_or_len, before_first, after_first}
+use Rattle.gj_number.specs.Bytes.{lower_e, upper_e, is_exponent_letter}
+use Rattle.gj_number.specs.Value.{is_negative, unsigned_of, significand_of, natural_of, fraction_of, exponent_of, signed_number, held_value}
 use Rattle.gj_number.specs.Value.{value_of}
-use Rattle.gj_number.specs.Denotation.{Parts, Spells, SpellsSign, SpellsFraction, SpellsExponent, SpellsExponentSign, whole_of}
 
 -- ---- a list split at the first element that passes
 

@@ -1,17 +1,10 @@
 -- A literal's parts lead to the scan that says their numbers.
-use Rattle.std.proofs.Common.{◌≡◌, ℕ, ◌+◌, Bool, true, false, inl, inr, Some, List, [], ◌∷◌, ◌++◌, length, refl, sym, ap, arith}
-use Rattle.std.specs.List.{AllByRecursion, fold}
-use Rattle.std.proofs.lemmas.List.Sums.{fold-append}
-use Rattle.gj_number.specs.Bytes.{minus_sign, plus_sign, zero_digit, IsDigit}
-use Rattle.gj_number.specs.Grammar.{IsNatural, IsDigits}
-use Rattle.gj_number.specs.Exact.{signed}
-use Rattle.gj_number.specs.Value.{with_digit, number_of}
-use Rattle.gj_number.specs.Denotation.{Parts, Spells, SpellsSign, SpellsFraction, SpellsExponent, SpellsExponentSign, whole_of}
-use Rattle.gj_number.specs.declared.state.State.{State}
-use Rattle.gj_number.specs.declared.state.State.TheVariants.{Start, AfterMinus, AfterZero, InNatural, AfterPoint, InFraction, AfterLetter, AfterSign}
-use Rattle.gj_number.specs.declared.state.State.TheVariants.{InExponent}
-use Rattle.gj_number.specs.declared.state.Class.TheVariants.{Minus, Plus, Point, Letter, Zero, NonZero}
-use Rattle.gj_number.specs.Internal.NumberMachine.{next_of, may_end_in, Scan, start, Reaches}
+use Rattle.gj_number.proofs.Common.{AfterLetter, AfterMinus, AfterPoint, AfterSign, AfterZero, AllByRecursion, Bool, InExponent, InFraction}
+use Rattle.gj_number.proofs.Common.{InNatural, IsDigit, IsDigits, IsNatural, Letter, List, Minus, NonZero, Parts, Plus, Point, Reaches, Scan, Some}
+use Rattle.gj_number.proofs.Common.{Spells, SpellsExponent, SpellsExponentSign, SpellsFraction, SpellsSign, Start, State, Zero, ap, arith, false}
+use Rattle.gj_number.proofs.Common.{fold-append, inl, inr, length, may_end_in, minus_sign, next_of, number_of, plus_sign, refl, signed, start, sym}
+use Rattle.gj_number.proofs.Common.{true, whole_of, with_digit, zero_digit, ℕ, [], ◌++◌, ◌+◌, ◌∷◌, ◌≡◌}
+use Rattle.std.specs.List.{fold}
 use Rattle.gj_number.proofs.Grammar.ByteClasses.{class_is, digit_goes}
 use Rattle.gj_number.proofs.Grammar.ScanPaths.{reaches_on}
 

@@ -1,14 +1,10 @@
 -- What bytes that lead to a number's end are, by the state from which they lead there.
-use Rattle.std.proofs.Common.{◌≡◌, ℕ, true, inl, inr, Some, List, [], ◌∷◌, ◌++◌, refl, ap, subst, arith}
-use Rattle.std.specs.List.{AllByRecursion}
-use Rattle.gj_number.specs.Bytes.{zero_digit, IsDigit, IsFirstDigit, IsExponentLetter}
-use Rattle.gj_number.specs.Grammar.{IsDigits, IsFraction, IsSign, IsExponent, IsUnsigned, IsNumber}
-use Rattle.gj_number.specs.declared.state.State.{State}
-use Rattle.gj_number.specs.declared.state.State.TheVariants.{Start, AfterMinus, AfterZero, InNatural, AfterPoint, InFraction, AfterLetter, AfterSign}
-use Rattle.gj_number.specs.declared.state.State.TheVariants.{InExponent}
-use Rattle.gj_number.specs.declared.state.Class.{Class}
-use Rattle.gj_number.specs.declared.state.Class.TheVariants.{Minus, Plus, Point, Letter, Zero, NonZero}
-use Rattle.gj_number.specs.Internal.NumberMachine.{class_of, Means, next_of, may_end_in, Scan, taken, Reaches}
+use Rattle.gj_number.proofs.Common.{AfterLetter, AfterMinus, AfterPoint, AfterSign, AfterZero, AllByRecursion, Class, InExponent, InFraction}
+use Rattle.gj_number.proofs.Common.{InNatural, IsDigit, IsDigits, IsExponentLetter, IsFirstDigit, IsFraction, IsNumber, Letter, List, Means, Minus}
+use Rattle.gj_number.proofs.Common.{NonZero, Plus, Point, Reaches, Scan, Some, Start, State, Zero, ap, arith, inl, inr, may_end_in, next_of, refl}
+use Rattle.gj_number.proofs.Common.{subst, taken, true, zero_digit, ℕ, [], ◌++◌, ◌∷◌, ◌≡◌}
+use Rattle.gj_number.specs.Grammar.{IsSign, IsExponent, IsUnsigned}
+use Rattle.gj_number.specs.Internal.NumberMachine.{class_of}
 use Rattle.gj_number.proofs.Grammar.ByteClasses.{means}
 use Rattle.gj_number.proofs.Grammar.ScanPaths.{state-taken}
 

@@ -1,23 +1,13 @@
 -- How a machine's scans lead from one to another.
-use Rattle.std.proofs.Common.{◌≡◌, ℕ, true, Some, List, [], ◌∷◌, ◌++◌, refl, sym, ◌∙◌, subst}
-use Rattle.gj_number.specs.Bytes.{zero_digit}
-use Rattle.gj_number.specs.declared.state.State.{State}
-use Rattle.gj_number.specs.declared.state.State.TheVariants.{Start, AfterMinus, AfterZero, InNatural, AfterPoint, InFraction, AfterLetter, AfterSign}
-use Rattle.gj_number.specs.declared.state.State.TheVariants.{InExponent}
-use Rattle.gj_number.specs.declared.state.Class.TheVariants.{Zero}
-use Rattle.gj_number.specs.Internal.NumberMachine.{class_of, next_of, may_end_in, Scan, taken, Reaches}
+use Rattle.gj_number.proofs.Common.{AfterLetter, AfterMinus, AfterPoint, AfterSign, AfterZero, InExponent, InFraction, InNatural, List, Reaches, Scan}
+use Rattle.gj_number.proofs.Common.{Some, Start, State, Zero, may_end_in, next_of, refl, subst, sym, taken, true, zero_digit, ℕ, [], ◌++◌, ◌∙◌, ◌∷◌}
+use Rattle.gj_number.proofs.Common.{◌≡◌}
+use Rattle.gj_number.specs.Internal.NumberMachine.{class_of}
 use Rattle.gj_number.proofs.Grammar.ByteClasses.{class_is}
 
 pub state-taken : (state : State) (b : ℕ) (t : Scan) → (taken state b t).state ≡ state
 state-taken Start b t = refl
-state-taken AfterMinus b t = refl
-state-taken AfterZero b t = refl
-state-taken InNatural b t = refl
-state-taken AfterPoint b t = refl
-state-taken InFraction b t = refl
-state-taken AfterLetter b t = refl
-state-taken AfterSign b t = refl
-state-taken InExponent b t = refl
+state-taken other b t = refl
 
 -- the same bytes lead to one scan
 pub one_scan : (s t u : Scan) (bytes : List ℕ) → Reaches s bytes t → Reaches s bytes u → t ≡ u

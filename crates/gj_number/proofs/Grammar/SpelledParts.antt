@@ -1,10 +1,8 @@
 -- A number's parts and its grammar.
-use Rattle.std.proofs.Common.{◌≡◌, ℕ, Bool, true, false, inl, inr, List, [], ◌∷◌, ◌++◌, refl, pos}
-use Rattle.gj_number.specs.Bytes.{minus_sign}
-use Rattle.gj_number.specs.Grammar.{IsFraction, IsSign, IsExponent, IsUnsigned, IsNumber}
-use Rattle.gj_number.specs.Exact.{signed}
-use Rattle.gj_number.specs.Value.{number_of}
-use Rattle.gj_number.specs.Denotation.{Parts, Spells, SpellsSign, SpellsFraction, SpellsExponent, SpellsExponentSign}
+use Rattle.gj_number.proofs.Common.{Bool, IsFraction, IsNumber, List, Parts, Spells, SpellsExponent, SpellsExponentSign, SpellsFraction, SpellsSign}
+use Rattle.gj_number.proofs.Common.{false, inl, inr, minus_sign, number_of, refl, signed, true, ℕ, [], ◌++◌, ◌∷◌, ◌≡◌}
+use Rattle.std.proofs.Common.{pos}
+use Rattle.gj_number.specs.Grammar.{IsSign, IsExponent, IsUnsigned}
 
 fraction_parts : (bytes : List ℕ) → IsFraction bytes → (digits : List ℕ) × SpellsFraction digits bytes
 fraction_parts bytes h = elim h [ inl e ↦ ([], inl (e, refl)) | inr k ↦ (k.0, inr (k.1, k.2)) ]

@@ -1,12 +1,8 @@
 -- What the state that a byte leads to says of the byte and of the state before it.
-use Rattle.std.proofs.Common.{◌≡◌, ℕ, Bool, true, false, not, ◌||◌, Option, Some, None, refl, arith}
-use Rattle.gj_number.specs.Bytes.{IsDigit}
-use Rattle.gj_number.specs.declared.state.State.{State}
-use Rattle.gj_number.specs.declared.state.State.TheVariants.{Start, AfterMinus, AfterZero, InNatural, AfterPoint, InFraction, AfterLetter, AfterSign}
-use Rattle.gj_number.specs.declared.state.State.TheVariants.{InExponent}
-use Rattle.gj_number.specs.declared.state.Class.{Class}
-use Rattle.gj_number.specs.declared.state.Class.TheVariants.{Zero, NonZero, Other}
-use Rattle.gj_number.specs.Internal.NumberMachine.{class_of, Means, next_of, is_before_fraction}
+use Rattle.gj_number.proofs.Common.{AfterLetter, AfterMinus, AfterPoint, AfterSign, AfterZero, Bool, Class, InExponent, InFraction, InNatural}
+use Rattle.gj_number.proofs.Common.{IsDigit, Means, NonZero, None, Option, Other, Some, Start, State, Zero, arith, false, next_of, not, refl, true, ℕ}
+use Rattle.gj_number.proofs.Common.{◌||◌, ◌≡◌}
+use Rattle.gj_number.specs.Internal.NumberMachine.{class_of, is_before_fraction}
 use Rattle.gj_number.proofs.Grammar.ByteClasses.{means}
 
 -- a digit leads here, and nothing else does
@@ -72,11 +68,4 @@ before_fraction_from s n c e t =
 -- no state follows on a byte that no number has
 pub other_ends : (s : State) → next_of s Other ≡ None
 other_ends Start = refl
-other_ends AfterMinus = refl
-other_ends AfterZero = refl
-other_ends InNatural = refl
-other_ends AfterPoint = refl
-other_ends InFraction = refl
-other_ends AfterLetter = refl
-other_ends AfterSign = refl
-other_ends InExponent = refl
+other_ends other = refl

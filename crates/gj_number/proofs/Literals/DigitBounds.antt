@@ -1,7 +1,5 @@
 -- The bounds of kept digits.
-use Rattle.std.proofs.Common.{◌≡◌, ℕ, ◌+◌, ◌*◌, ◌^◌, ◌<◌, ◌≤◌, arith}
-use Rattle.std.proofs.Math.Nat.{mul-le-mul_right, pow-le-pow_right}
-use Rattle.std.proofs.lemmas.Nat.{pow-add}
+use Rattle.gj_number.proofs.Common.{arith, mul-le-mul_right, pow-add, pow-le-pow_right, ℕ, ◌*◌, ◌+◌, ◌<◌, ◌^◌, ◌≡◌, ◌≤◌}
 
 -- a number below one power of ten, multiplied by another
 pub scaled_below : (n i j k : ℕ) → n < 10 ^ i → i + j ≤ k → (n + 1) * 10 ^ j ≤ 10 ^ k

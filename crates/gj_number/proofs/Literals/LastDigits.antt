@@ -1,8 +1,6 @@
 -- The last of the kept digits.
-use Rattle.std.proofs.Common.{◌≡◌, ◌≢◌, ℕ, ◌+◌, ◌*◌, ◌%◌, ◌^◌, ◌<◌, ◌≤◌, ◌&&◌, nat_le, Bool, true, false, if◌then◌else◌, arith}
-use Rattle.std.proofs.Math.Numerals.{add-one}
-use Rattle.std.proofs.Math.Nat.{pow-suc}
-use Rattle.std.proofs.lemmas.Bool.Decides.{nat_tests}
+use Rattle.gj_number.proofs.Common.{Bool, add-one, arith, false, if◌then◌else◌, nat_tests, pow-suc, true, ℕ, ◌%◌, ◌*◌, ◌+◌, ◌<◌, ◌^◌, ◌≡◌, ◌≢◌, ◌≤◌}
+use Rattle.std.proofs.Common.{◌&&◌, nat_le}
 use Rattle.gj_number.specs.Internal.KeptParts.{last_digit}
 
 -- a number with a last digit

@@ -1,20 +1,14 @@
 -- What the bytes that a literal stands for say of it.
-use Rattle.std.proofs.Common.{◌≡◌, ℕ, ◌+◌, ◌<◌, ◌^◌, true, ◌↔◌, Some, None, List, [], ◌∷◌, ◌++◌, length, refl, sym, subst, arith}
-use Rattle.gj_number.specs.Grammar.{IsNumber, BeginsNumber}
-use Rattle.gj_number.specs.Exact.{signed}
-use Rattle.gj_number.specs.Value.{with_digit, held_value, value_of}
-use Rattle.gj_number.specs.Denotation.{Parts, Spells}
-use Rattle.gj_number.specs.declared.state.State.{State}
-use Rattle.gj_number.specs.Internal.NumberMachine.{class_of, next_of, may_end_in, Scan, start, Reaches}
+use Rattle.gj_number.proofs.Common.{AfterPoint, BeginsNumber, InExponent, InFraction, InNatural, IsDigit, IsNumber, List, None, Parts, Point, Reaches}
+use Rattle.gj_number.proofs.Common.{Scan, Some, Spells, State, arith, decimal_point, length, may_end_in, next_of, recursion_from_All, refl, signed}
+use Rattle.gj_number.proofs.Common.{start, subst, sym, true, with_digit, ℕ, [], ◌++◌, ◌+◌, ◌<◌, ◌^◌, ◌↔◌, ◌∷◌, ◌≡◌}
+use Rattle.gj_number.specs.Value.{held_value, value_of}
+use Rattle.gj_number.specs.Internal.NumberMachine.{class_of}
 use Rattle.gj_number.proofs.Grammar.ScanPaths.{one_scan, reaches_on, reaches_part, ending}
 use Rattle.gj_number.proofs.Grammar.RestsByState.{rest_is}
 use Rattle.gj_number.proofs.Grammar.SpelledParts.{parts_of}
 use Rattle.gj_number.proofs.Grammar.PartScans.{parts_reach, Says, at, natural_run, fraction_run, exponent_run}
 use Rattle.std.specs.List.{All, fold}
-use Rattle.std.proofs.lemmas.List.Elements.{recursion_from_All}
-use Rattle.gj_number.specs.Bytes.{decimal_point, IsDigit}
-use Rattle.gj_number.specs.declared.state.State.TheVariants.{InNatural, AfterPoint, InFraction, InExponent}
-use Rattle.gj_number.specs.declared.state.Class.TheVariants.{Point}
 use Rattle.gj_number.proofs.Grammar.ByteClasses.{class_is, digit_goes}
 use Rattle.gj_number.proofs.Grammar.FoundParts.{value_is, parts_digits}
 use Rattle.gj_number.proofs.Value.NormalForm.{number_bounded}

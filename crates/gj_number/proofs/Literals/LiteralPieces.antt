@@ -1,14 +1,10 @@
 -- The prefix of a piece that a literal takes.
-use Rattle.std.proofs.Common.{◌≡◌, ℕ, ◌+◌, ◌-◌, ◌<◌, Some, List, [], ◌∷◌, ◌++◌, take, drop, get_or, length, sym, ◌∙◌, ap, subst, append_assoc}
-use Rattle.std.proofs.Math.Seq.{take-add}
-use Rattle.std.proofs.lemmas.List.{take_more, take_rest}
-use Rattle.gj_number.specs.Grammar.{BeginsNumber}
+use Rattle.gj_number.proofs.Common.{BeginsNumber, List, Other, Reaches, Scan, Some, State, ap, append_assoc, decimal_point, drop, get_or, length}
+use Rattle.gj_number.proofs.Common.{next_of, start, subst, sym, take, take-add, take_more, take_rest, taken, ℕ, [], ◌++◌, ◌+◌, ◌-◌, ◌<◌, ◌∙◌, ◌∷◌}
+use Rattle.gj_number.proofs.Common.{◌≡◌}
 use Rattle.gj_number.specs.Literal.{StandsFor}
 use Rattle.gj_number.specs.declared.literal.Literal.{Literal}
-use Rattle.gj_number.specs.Bytes.{decimal_point}
-use Rattle.gj_number.specs.Internal.NumberMachine.{class_of, next_of, Scan, start, taken, Reaches}
-use Rattle.gj_number.specs.declared.state.Class.TheVariants.{Other}
-use Rattle.gj_number.specs.declared.state.State.{State}
+use Rattle.gj_number.specs.Internal.NumberMachine.{class_of}
 use Rattle.gj_number.proofs.Shorts.PiecePrefixes.{first_is}
 use Rattle.gj_number.proofs.Grammar.ScanPaths.{reaches_one}
 use Rattle.gj_number.proofs.Literals.LiteralBytes.{begins, begins_none}

@@ -1,10 +1,7 @@
 -- What is kept of a number's digits, one digit further on.
-use Rattle.std.proofs.Common.{◌≡◌, ◌≢◌, ℕ, ◌+◌, ◌*◌, ◌^◌, ◌<◌, ◌≤◌, ◌⊎◌, inl, inr, min, refl, sym, arith}
-use Rattle.std.proofs.Math.Nat.{pow-suc, mul-le-mul_right}
-use Rattle.std.proofs.lemmas.Nat.{pow-add}
-use Rattle.std.proofs.lemmas.Bool.{cases_lt}
-use Rattle.std.proofs.Math.Numerals.{add-one}
-use Rattle.gj_number.specs.Internal.KeptParts.{IsFar, HasNoDigit, HasDigits, IsKept, AddsOne}
+use Rattle.gj_number.proofs.Common.{HasDigits, IsFar, IsKept, add-one, arith, cases_lt, inl, inr, min, mul-le-mul_right, pow-add, pow-suc, refl, sym}
+use Rattle.gj_number.proofs.Common.{ℕ, ◌*◌, ◌+◌, ◌<◌, ◌^◌, ◌≡◌, ◌≢◌, ◌≤◌, ◌⊎◌}
+use Rattle.gj_number.specs.Internal.KeptParts.{HasNoDigit, AddsOne}
 use Rattle.gj_number.proofs.Value.NormalForm.{ten_above_zero}
 use Rattle.gj_number.proofs.Value.UnheldNumbers.{ends_here, thirty, zero_more, far_natural, far_fraction}
 use Rattle.gj_number.proofs.Literals.DigitBounds.{digit_below}

@@ -1,12 +1,7 @@
 -- Digits in a row: in two parts, and without zeros at their end.
-use Rattle.std.proofs.Common.{zero, suc, ◌≡◌, ℕ, ◌+◌, ◌-◌, ◌*◌, ◌/◌, ◌%◌, ◌^◌, ◌<◌, List, take, drop, All, fold, sym, arith}
-use Rattle.std.proofs.Math.Nat.{pow-suc}
-use Rattle.std.proofs.Math.Numerals.{add-one}
-use Rattle.std.proofs.Math.Seq.{take-add}
-use Rattle.std.proofs.lemmas.List.Elements.{All-append}
-use Rattle.std.proofs.lemmas.List.Sums.{fold-append}
-use Rattle.gj_number.specs.Bytes.{IsDigit}
-use Rattle.gj_number.specs.Value.{with_digit}
+use Rattle.gj_number.proofs.Common.{All-append, IsDigit, List, add-one, arith, drop, fold-append, pow-suc, suc, sym, take, take-add, with_digit, zero}
+use Rattle.gj_number.proofs.Common.{ℕ, ◌%◌, ◌*◌, ◌+◌, ◌-◌, ◌/◌, ◌<◌, ◌^◌, ◌≡◌}
+use Rattle.std.proofs.Common.{All, fold}
 
 -- one zero at the end fewer
 pub zero_off : (all head zeros total : ℕ) → 0 < head → head % 10 ≡ 0 → all ≡ head * 10 ^ zeros → head < 10 ^ (total - zeros)

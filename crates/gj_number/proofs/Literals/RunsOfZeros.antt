@@ -1,12 +1,7 @@
 -- Zeros in a row: how they are found, and where they make no difference.
-use Rattle.std.proofs.Common.{◌≡◌, ℕ, ◌+◌, ◌-◌, ◌*◌, ◌≤◌, List, [], ◌∷◌, length, take, drop, All, fold, refl, sym, ◌∙◌, ap, subst, arith}
-use Rattle.std.specs.List.{AllByRecursion}
-use Rattle.std.proofs.lemmas.List.Elements.{recursion_from_All}
-use Rattle.std.proofs.lemmas.List.{take_rest}
-use Rattle.gj_number.specs.Bytes.{IsDigit}
-use Rattle.gj_number.specs.Internal.DigitRuns.{SpellsOn}
-use Rattle.gj_number.specs.Internal.KeptParts.{IsKept}
-use Rattle.gj_number.specs.Value.{with_digit}
+use Rattle.gj_number.proofs.Common.{AllByRecursion, IsDigit, IsKept, List, SpellsOn, ap, arith, drop, length, recursion_from_All, refl, subst, sym}
+use Rattle.gj_number.proofs.Common.{take, take_rest, with_digit, ℕ, [], ◌*◌, ◌+◌, ◌-◌, ◌∙◌, ◌∷◌, ◌≡◌, ◌≤◌}
+use Rattle.std.proofs.Common.{All, fold}
 use Rattle.gj_number.proofs.Literals.OneDigitMore.{zero_fraction}
 use Rattle.gj_number.proofs.Literals.RunsOfDigits.{parts_fold, parts_digits}
 use Rattle.gj_number.proofs.Shorts.RunEnds.{fold_grows}

@@ -1,9 +1,8 @@
 -- Numbers that are read from a copy with more bytes after it.
-use Rattle.std.proofs.Common.{◌≡◌, ◌<◌, ◌≤◌, ◌+◌, ◌-◌, ℕ, List, ◌++◌, length, take, drop, get_or, inl, inr, refl, sym, ◌∙◌, subst, arith, length-drop}
+use Rattle.gj_number.proofs.Common.{Exact, IsNumberByte, List, StartsUsual, StartsUsualPair, StartsWithNumber, StartsWithPair, arith, close_bracket}
+use Rattle.gj_number.proofs.Common.{comma, drop, get_or, inl, inr, length, length-drop, refl, subst, sym, take, ℕ, ◌++◌, ◌+◌, ◌-◌, ◌<◌, ◌∙◌, ◌≡◌, ◌≤◌}
 use Rattle.std.proofs.lemmas.List.{take-append-le, drop-append-le, get_or_append_left, length-append}
-use Rattle.gj_number.specs.Bytes.{comma, close_bracket, IsNumberByte}
-use Rattle.gj_number.specs.Exact.{Exact}
-use Rattle.gj_number.specs.Short.{IsOrdinary, StartsUsual, StartsUsualPair, StartsWithNumber, StartsWithPair}
+use Rattle.gj_number.specs.Short.{IsOrdinary}
 
 -- the number that bytes start with, where it ends before their end, is that of the bytes with more after them
 pub number_there : (piece more : List ℕ) (e : Exact) (n : ℕ) → n < length piece → StartsWithNumber (piece ++ more) e n → StartsWithNumber piece e n

@@ -1,13 +1,10 @@
 -- What starts with a usual number or an integer by the text that is written, and some pairs with an integer.
-use Rattle.std.proofs.Common.{◌≡◌, ℕ, ◌<◌, ◌≤◌, ◌++◌, Bool, true, false, List, [], ◌∷◌, length, get_or, codes, inl, inr}
-use Rattle.std.proofs.Common.{refl, sym, subst, arith, length-append}
-use Rattle.std.proofs.Math.Seq.{take-append_seam}
-use Rattle.gj_number.specs.Bytes.{close_bracket, comma, space, IsNumberByte}
+use Rattle.gj_number.proofs.Common.{Bool, Bracket, Comma, IsNatural, IsNumberByte, List, Space, SpellsFraction, SpellsSign, StartsOrdinary}
+use Rattle.gj_number.proofs.Common.{StartsUsual, arith, close_bracket, comma, false, get_or, inl, inr, length, refl, space, subst, sym}
+use Rattle.gj_number.proofs.Common.{take-append_seam, true, ℕ, [], ◌++◌, ◌<◌, ◌∷◌, ◌≡◌, ◌≤◌}
+use Rattle.std.proofs.Common.{codes}
+use Rattle.std.proofs.Common.{length-append}
 use Rattle.gj_number.specs.Cuts.{StartsInteger, StartsUsualCuts}
-use Rattle.gj_number.specs.Denotation.{SpellsFraction, SpellsSign}
-use Rattle.gj_number.specs.Grammar.{IsNatural}
-use Rattle.gj_number.specs.Short.{StartsOrdinary, StartsUsual}
-use Rattle.gj_number.specs.declared.short.cuts.After.TheVariants.{Comma, Bracket, Space}
 use Rattle.gj_number.proofs.Shorts.OrdinaryNumbers.{after_all}
 
 -- a byte that no number has stands after the digits of a number with a point or without

@@ -1,17 +1,16 @@
 -- The lanes from which a cut value is read.
-use Rattle.std.proofs.Common.{zero, suc, ◌≡◌, ℕ, ◌+◌, ◌-◌, ◌*◌, ◌%◌, ◌^◌, ◌<◌, ◌≤◌, ◌||◌, ◌++◌, ◌⊎◌, true, false, List, [], ◌∷◌, length, map}
-use Rattle.std.proofs.Common.{get_or, ltb, cond, replicate, Fits, T, inl, inr}
-use Rattle.std.proofs.Common.{append-nil, refl, sym, ◌∙◌, ap, subst, arith, w8}
+use Rattle.gj_number.proofs.Common.{Each1-chunk, Fits, List, after_point, ap, append-nil, arith, before_point, bit_and, cases_lt, cond, cut_in, false}
+use Rattle.gj_number.proofs.Common.{get_or, in_lanes, inl, inr, length, ltb, map, nat_tests, refl, replicate, rests_in, subst, suc, sym}
+use Rattle.gj_number.proofs.Common.{tops_compared, true, w8, zero, zip2, ℕ, [], ◌%◌, ◌*◌, ◌++◌, ◌+◌, ◌-◌, ◌<◌, ◌^◌, ◌||◌, ◌∙◌, ◌∷◌, ◌≡◌, ◌≤◌, ◌⊎◌}
+use Rattle.std.proofs.Common.{T}
 use mir.Val.{zeroes}
-use lib.Lanes.{zip2, sel_l, fold_l, top, Each1, chunk, products, pair_sums, dots, all_below}
-use lib.Bits.{bit_and, bit_or}
+use lib.Lanes.{sel_l, fold_l, top, Each1, chunk, products, pair_sums, dots, all_below}
+use lib.Bits.{bit_or}
 use Rattle.std.specs.Int.Bits.{and_zero_r}
 use Rattle.std.proofs.lemmas.Nat.{and_mask, le_or_l, le_or_r}
-use Rattle.std.proofs.lemmas.Bool.Decides.{nat_tests}
-use Rattle.std.proofs.lemmas.Bool.{cases_lt}
-use Rattle.std.proofs.lemmas.Simd.{swz_l, SwzOk, SwzOk-from_Each1, Each1-chunk, length-chunk, tops_compared}
+use Rattle.std.proofs.lemmas.Simd.{swz_l, SwzOk, SwzOk-from_Each1, length-chunk}
 use Rattle.gj_number.specs.declared.short.cut_lanes.TheConstants.{PLACED}
-use Rattle.gj_number.specs.Internal.CutLanes.{before_point, after_point, in_lanes, cut_in, rests_in, by_parts}
+use Rattle.gj_number.specs.Internal.CutLanes.{by_parts}
 use Rattle.gj_number.proofs.Shorts.SixteenLanes.{Below, below_at, every_each}
 
 -- ---- where the digits are placed
@@ -239,8 +238,7 @@ both_small (x ∷ xs) (y ∷ ys) len h =
       | inr t ↦ (let l = rw (t.0) at h.0 in let m = t.1 in (omega arith, omega arith))
     ] in
     ((first.0, rest.0), (first.1, rest.1))
-both_small [] (_ ∷ _) len h = absurd (omega arith)
-both_small (_ ∷ _) [] len h = absurd (omega arith)
+both_small other another len h = absurd (omega arith)
 
 pub digits_in_both : (xs ys : List ℕ) → length xs ≡ 16 → length ys ≡ 16 → Each1 (λ x. x < 10) (greater xs ys)
     → Each1 (λ x. x < 10) xs × Each1 (λ x. x < 10) ys
@@ -253,8 +251,7 @@ both_zero (x ∷ xs) (y ∷ ys) zero len e = elim (less_tells x y) [
   | inr t ↦ (let l = rw (t.0) at e in let m = t.1 in (omega arith, omega arith))
 ]
 both_zero (x ∷ xs) (y ∷ ys) (suc k) len e = both_zero xs ys k (omega arith) e
-both_zero [] (_ ∷ _) k len e = absurd (omega arith)
-both_zero (_ ∷ _) [] k len e = absurd (omega arith)
+both_zero other another k len e = absurd (omega arith)
 
 pub rests_in_both : (xs ys : List ℕ) → length xs ≡ 16 → length ys ≡ 16 → Each1 (λ x. x ≡ 0) (rests_in (greater xs ys))
     → Each1 (λ x. x ≡ 0) (rests_in xs) × Each1 (λ x. x ≡ 0) (rests_in ys)
@@ -278,8 +275,7 @@ all_below_ten (x ∷ xs) (y ∷ ys) len h k =
       | inl t ↦ rw (t.0) (b, rest)
       | inr t ↦ rw (t.0) (a, rest)
     ]
-all_below_ten [] (_ ∷ _) len h k = absurd (omega arith)
-all_below_ten (_ ∷ _) [] len h k = absurd (omega arith)
+all_below_ten other another len h k = absurd (omega arith)
 
 -- ---- lanes above nine
 

@@ -1,10 +1,9 @@
 -- What a cut number is.
-use Rattle.std.proofs.Common.{◌≡◌, ℕ, ◌+◌, ◌-◌, ◌*◌, ◌/◌, ◌^◌, ◌<◌, ◌≤◌, true, false, Some, None, refl, sym, ◌∙◌, ap, arith, ltb, nat_le}
-use Rattle.std.proofs.lemmas.Bool.Decides.{nat_tests}
-use Rattle.std.proofs.Math.Nat.{mul_assoc, mul-le-mul_right, pow-le-pow_right, div-eq_of_lt}
-use Rattle.std.proofs.lemmas.Nat.{pow-add}
+use Rattle.gj_number.proofs.Common.{None, Some, ap, arith, false, limited_cut, limited_to, ltb, mul-le-mul_right, mul_assoc, nat_tests, pow-add}
+use Rattle.gj_number.proofs.Common.{pow-le-pow_right, refl, sym, true, ℕ, ◌*◌, ◌+◌, ◌-◌, ◌/◌, ◌<◌, ◌^◌, ◌∙◌, ◌≡◌, ◌≤◌}
+use Rattle.std.proofs.Common.{nat_le}
+use Rattle.std.proofs.Math.Nat.{div-eq_of_lt}
 use Rattle.gj_number.specs.Exact.{cut_limit}
-use Rattle.gj_number.specs.Internal.KeptParts.{limited_cut, limited_to}
 use Rattle.gj_number.proofs.Value.NormalForm.{ten_above_zero}
 
 pub limited_below : (magnitude : ℕ) → magnitude < cut_limit → limited_cut magnitude ≡ Some magnitude

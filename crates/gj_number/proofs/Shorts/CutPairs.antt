@@ -1,25 +1,17 @@
 -- A number as its cut value, from where it stands and its lanes.
-use Rattle.std.proofs.Common.{◌≡◌, ℕ, ◌+◌, ◌-◌, ◌^◌, ◌<◌, ◌≤◌, Bool, true, false, List, [], ◌++◌, length, map, take, drop, get_or, Fits}
-use Rattle.std.proofs.Common.{Some, inl, inr, All, append-nil, refl, sym, ◌∙◌, ap, subst, arith, length-drop, ℤ, w8}
-use mir.Val.{bool_byte}
+use Rattle.gj_number.proofs.Common.{Bool, Bracket, Comma, Fits, IsDigit, IsSpan, IsUsualSpan, List, Other, Some, Space, Span, SpellsOn, SpellsPlain}
+use Rattle.gj_number.proofs.Common.{StartsSigned, StartsWithNumber, after_point, ap, append-nil, arith, before_point, bool_byte, cut_in}
+use Rattle.gj_number.proofs.Common.{cut_magnitude, decimal_point, drop, drop-drop, false, fold-append, get_or, get_or-drop, in_lanes, inl, inr}
+use Rattle.gj_number.proofs.Common.{lane_of, length, length-drop, limited_cut, map, number_of, refl, rests_in, signed, subst, sym, take, take_rest}
+use Rattle.gj_number.proofs.Common.{true, w8, with_digit, zero_digit, ℕ, ℤ, [], ◌++◌, ◌+◌, ◌-◌, ◌<◌, ◌^◌, ◌∙◌, ◌≡◌, ◌≤◌}
+use Rattle.std.proofs.Common.{All}
 use lib.Lanes.{Each1}
-use Rattle.std.proofs.lemmas.List.{drop-drop, get_or-drop, take_rest}
-use Rattle.std.proofs.lemmas.List.Sums.{fold-append}
-use Rattle.gj_number.specs.Bytes.{line_feed, decimal_point, zero_digit, IsDigit}
+use Rattle.gj_number.specs.Bytes.{line_feed}
 use Rattle.gj_number.specs.Cuts.{byte_after}
-use Rattle.gj_number.specs.Exact.{signed, cut_magnitude}
-use Rattle.gj_number.specs.Short.{short_value, StartsWithNumber}
-use Rattle.gj_number.specs.Value.{with_digit, number_of}
-use Rattle.gj_number.specs.Internal.CutLanes.{before_point, after_point, in_lanes, cut_in, rests_in, HasCut, IsSpan, IsUnsignedSpan, IsUsualSpan, IsWhole}
-use Rattle.gj_number.specs.Internal.DigitLanes.{lane_of}
-use Rattle.gj_number.specs.Internal.DigitRuns.{SpellsOn, StartsSigned}
-use Rattle.gj_number.specs.Internal.KeptParts.{limited_cut}
-use Rattle.gj_number.specs.Internal.MovedPoint.{SpellsPlain}
+use Rattle.gj_number.specs.Short.{short_value}
+use Rattle.gj_number.specs.Internal.CutLanes.{HasCut, IsUnsignedSpan, IsWhole}
 use Rattle.gj_number.specs.Internal.NumberMachine.{class_of}
-use Rattle.gj_number.specs.declared.short.cuts.Span.{Span}
 use Rattle.gj_number.specs.declared.short.cuts.After.{After}
-use Rattle.gj_number.specs.declared.short.cuts.After.TheVariants.{Comma, Bracket, Space}
-use Rattle.gj_number.specs.declared.state.Class.TheVariants.{Other}
 use Rattle.gj_number.proofs.Shorts.NumberPairs.{comma_other, bracket_other, space_other}
 use Rattle.gj_number.proofs.Shorts.CutPlaces.{natural_digits, fraction_digits, lanes_small, whole, whole_small, cut_is, precise_found}
 use Rattle.gj_number.proofs.Shorts.NumberPrefixes.{sign_length, sign_at, one_of, point_plain, whole_plain}

@@ -1,23 +1,18 @@
 -- The cut value of a number from the lanes of its digits.
-use Rattle.std.proofs.Common.{zero, suc, ◌≡◌, ◌↔◌, ℕ, ◌+◌, ◌-◌, ◌*◌, ◌/◌, ◌^◌, ◌<◌, ◌≤◌, ◌++◌, Bool, true, false, IsTrue, List, [], ◌∷◌, length, map}
-use Rattle.std.proofs.Common.{take, drop, get_or, replicate, All, fold, Fits, Some, refl, inl, inr, sym, ◌∙◌, ap, subst, arith, length-append, length-drop, w8}
+use Rattle.gj_number.proofs.Common.{All-append, All-from_recursion, AllByRecursion, Bool, Each1-chunk, Fits, IsDigit, IsTrue, List, Some, after_point}
+use Rattle.gj_number.proofs.Common.{ap, arith, before_point, cases_lt, cut_in, cut_magnitude, drop, drop-take, false, fold-append, get_or}
+use Rattle.gj_number.proofs.Common.{get_or-drop, get_or-take, in_lanes, inl, inr, lane_of, length, length-drop, length-map, length-take}
+use Rattle.gj_number.proofs.Common.{length-take-le, limited_cut, map, number_of, places_of, pow-suc, recursion_from_All, refl, replicate, rests_in}
+use Rattle.gj_number.proofs.Common.{subst, suc, sym, take, take-append-drop, take-map, take-take, true, w8, with_digit, with_value, zero, ℕ, [], ◌*◌}
+use Rattle.gj_number.proofs.Common.{◌++◌, ◌+◌, ◌-◌, ◌/◌, ◌<◌, ◌^◌, ◌↔◌, ◌∙◌, ◌∷◌, ◌≡◌, ◌≤◌}
+use Rattle.std.proofs.Common.{All, fold, length-append}
 use lib.Lanes.{Each1}
-use Rattle.std.specs.List.{AllByRecursion}
-use Rattle.std.proofs.Math.Nat.{pow-suc}
-use Rattle.std.proofs.lemmas.Bool.{cases_lt}
 use Rattle.std.proofs.lemmas.Nat.{div-mul-add}
-use Rattle.std.proofs.lemmas.List.{length-map, length-take, length-take-le, length-replicate, take_all, take-take, take-append-drop, take-map}
-use Rattle.std.proofs.lemmas.List.{take-replicate, drop-map, drop-take, drop_all, get_or-take, get_or-drop}
-use Rattle.std.proofs.lemmas.List.Elements.{All-append, All-drop, All-from_get_or, All-from_recursion, recursion_from_All}
-use Rattle.std.proofs.lemmas.List.Sums.{fold-append}
-use Rattle.std.proofs.lemmas.Simd.{Each1-chunk, Each1-replicate, chunk-fits}
-use Rattle.gj_number.specs.Bytes.{IsDigit}
-use Rattle.gj_number.specs.Exact.{cut_magnitude, places_of}
+use Rattle.std.proofs.lemmas.List.{length-replicate, take_all}
+use Rattle.std.proofs.lemmas.List.{take-replicate, drop-map, drop_all}
+use Rattle.std.proofs.lemmas.List.Elements.{All-drop, All-from_get_or}
+use Rattle.std.proofs.lemmas.Simd.{Each1-replicate, chunk-fits}
 use Rattle.gj_number.specs.Short.{short_value}
-use Rattle.gj_number.specs.Value.{with_digit, number_of}
-use Rattle.gj_number.specs.Internal.CutLanes.{before_point, after_point, in_lanes, cut_in, rests_in}
-use Rattle.gj_number.specs.Internal.DigitLanes.{lane_of, with_value}
-use Rattle.gj_number.specs.Internal.KeptParts.{limited_cut}
 use Rattle.gj_number.proofs.Literals.DigitBounds.{scaled_below}
 use Rattle.gj_number.proofs.Value.NormalForm.{number_bounded}
 use Rattle.gj_number.proofs.Shorts.CutLanes.{cut_below}

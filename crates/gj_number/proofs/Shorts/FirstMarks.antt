@@ -1,19 +1,17 @@
 -- The first marks of a piece, by the bits of its bytes.
-use Rattle.std.proofs.Common.{zero, suc, ◌≡◌, ℕ, ◌+◌, ◌-◌, ◌*◌, ◌%◌, ◌^◌, ◌<◌, ◌≤◌, ◌++◌, Bool, true, false, List, [], ◌∷◌, length, map, take, drop}
-use Rattle.std.proofs.Common.{get_or, IsTrue, length-append, replicate, cond, refl, ◌||◌, eqb, inl, inr, sym, ◌∙◌, ap, subst, arith, length-drop, w64}
-use lib.Bits.{bit_and, bit_or}
-use lib.Lanes.{mask_l, top, zip2}
-use Rattle.std.proofs.Math.Seq.{take-add}
-use Rattle.std.proofs.lemmas.List.{length-map, length-replicate, length-take-le, map-append}
+use Rattle.gj_number.proofs.Common.{Bool, IsFirstMark, IsTrue, List, ap, arith, bit_and, cases_lt, cond, count_trailing_zeros, decimal_point, drop}
+use Rattle.gj_number.proofs.Common.{end_of, false, get_or, inl, inr, is_mark_by, length, length-drop, length-map, length-take-le, map, map-append}
+use Rattle.gj_number.proofs.Common.{mask_l, mul_assoc, number_marks, point_of, pow-add, pow-suc, refl, replicate, subst, suc, sym, take, take-add}
+use Rattle.gj_number.proofs.Common.{true, w64, zero, zip2, ℕ, [], ◌%◌, ◌*◌, ◌++◌, ◌+◌, ◌-◌, ◌<◌, ◌^◌, ◌||◌, ◌∙◌, ◌∷◌, ◌≡◌, ◌≤◌}
+use Rattle.std.proofs.Common.{length-append, eqb}
+use lib.Bits.{bit_or}
+use lib.Lanes.{top}
+use Rattle.std.proofs.lemmas.List.{length-replicate}
 use Rattle.std.proofs.lemmas.Simd.{mask_l-lt}
 use Rattle.std.specs.Int.{bit_at}
-use lib.Count.{count_trailing_zeros}
-use Rattle.std.proofs.Math.Nat.{pow-suc, mul_assoc}
-use Rattle.std.proofs.lemmas.Bool.{cases_lt}
-use Rattle.std.proofs.lemmas.Nat.{or_comm, or_shifted, and_block, and_le_l, and_le_r, pow-add, pow_pos}
+use Rattle.std.proofs.lemmas.Nat.{or_comm, or_shifted, and_block, and_le_l, and_le_r, pow_pos}
 use Rattle.std.proofs.lemmas.Nat.Bits.{bit_at_and, bit_at_lowest, bit_at-zero, bit_at_cat_low, bit_at_cat_high, bit_at-trailing_zeros, same_from_bits}
-use Rattle.gj_number.specs.Internal.CutLanes.{end_of, is_mark_by, number_marks, point_of, ArePairMarks, AreNumberMarks, HasMarks, IsFirstMark}
-use Rattle.gj_number.specs.Bytes.{decimal_point}
+use Rattle.gj_number.specs.Internal.CutLanes.{ArePairMarks, AreNumberMarks, HasMarks}
 
 -- ---- the lowest bit of a number
 

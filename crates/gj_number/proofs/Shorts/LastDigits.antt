@@ -1,12 +1,9 @@
 -- The last bytes of two numbers, by the greater of each two lanes.
-use Rattle.std.proofs.Common.{zero, suc, ◌≡◌, ℕ, ◌+◌, ◌-◌, ◌<◌, ◌≤◌, List, [], ◌∷◌, length, map, take, drop, get_or, Fits}
-use Rattle.std.proofs.Common.{inl, inr, refl, sym, ◌∙◌, ap, subst, arith, length-drop, w8}
-use lib.Bits.{bit_and}
-use lib.Lanes.{Each1, zip2}
+use Rattle.gj_number.proofs.Common.{Fits, IsDigit, List, ap, arith, bit_and, drop, get_or, get_or-drop, get_or-map, get_or-take, inl, inr, lane_of}
+use Rattle.gj_number.proofs.Common.{length, length-drop, length-map, length-take-le, map, refl, subst, suc, sym, take, take_rest, w8, zero, zip2, ℕ}
+use Rattle.gj_number.proofs.Common.{[], ◌+◌, ◌-◌, ◌<◌, ◌∙◌, ◌∷◌, ◌≡◌, ◌≤◌}
+use lib.Lanes.{Each1}
 use Rattle.std.proofs.lemmas.Nat.{and_mask}
-use Rattle.std.proofs.lemmas.List.{get_or-drop, get_or-map, get_or-take, length-map, length-take-le, take_rest}
-use Rattle.gj_number.specs.Bytes.{IsDigit}
-use Rattle.gj_number.specs.Internal.DigitLanes.{lane_of}
 use Rattle.gj_number.proofs.Shorts.CutLanes.{greater, less_tells}
 
 abbrev pub three_lanes : List ℕ
@@ -21,8 +18,7 @@ three_small : (xs : List ℕ) → length xs ≡ 16 → Each1 (Fits w8) xs → Ea
 three_small (a ∷ b ∷ c ∷ xs) len fits h zero l = kept_small a fits.0.fits h.0
 three_small (a ∷ b ∷ c ∷ xs) len fits h (suc zero) l = kept_small b fits.1.0.fits h.1.0
 three_small (a ∷ b ∷ c ∷ xs) len fits h (suc (suc zero)) l = kept_small c fits.1.1.0.fits h.1.1.0
-three_small (a ∷ b ∷ c ∷ xs) len fits h (suc (suc (suc k))) l = absurd (omega arith)
-three_small _ len fits h k l = absurd (omega arith)
+three_small other len fits h another l = absurd (omega arith)
 
 both_below : (xs ys : List ℕ) (k : ℕ) → length xs ≡ length ys → get_or (greater xs ys) k 0 < 10 → (get_or xs k 0 < 10) × (get_or ys k 0 < 10)
 both_below [] [] k len h = (omega arith, omega arith)
@@ -31,8 +27,7 @@ both_below (x ∷ xs) (y ∷ ys) zero len h = elim (less_tells x y) [
   | inr t ↦ (let l = rw (t.0) at h in let m = t.1 in (omega arith, omega arith))
 ]
 both_below (x ∷ xs) (y ∷ ys) (suc k) len h = both_below xs ys k (omega arith) h
-both_below [] (_ ∷ _) k len h = absurd (omega arith)
-both_below (_ ∷ _) [] k len h = absurd (omega arith)
+both_below other another k len h = absurd (omega arith)
 
 digit_of_lane : (b : ℕ) → b < 256 → lane_of b < 10 → IsDigit b
 digit_of_lane b fits h = (omega arith, omega arith)
@@ -73,16 +68,14 @@ module _ (piece : List ℕ) (fits : (k : ℕ) → Fits w8 (get_or piece k 0)) (e
 greater_long : (xs ys : List ℕ) → length xs ≡ length ys → length (greater xs ys) ≡ length xs
 greater_long [] [] len = refl
 greater_long (x ∷ xs) (y ∷ ys) len = let rest = greater_long xs ys (omega arith) in omega arith
-greater_long [] (_ ∷ _) len = absurd (omega arith)
-greater_long (_ ∷ _) [] len = absurd (omega arith)
+greater_long other another len = absurd (omega arith)
 
 greater_fits : (xs ys : List ℕ) → length xs ≡ length ys → Each1 (Fits w8) xs → Each1 (Fits w8) ys → Each1 (Fits w8) (greater xs ys)
 greater_fits [] [] len h k = tt
 greater_fits (x ∷ xs) (y ∷ ys) len h k =
     let rest = greater_fits xs ys (omega arith) h.1 k.1 in
     elim (less_tells x y) [ inl t ↦ rw (t.0) (k.0, rest) | inr t ↦ rw (t.0) (h.0, rest) ]
-greater_fits [] (_ ∷ _) len h k = absurd (omega arith)
-greater_fits (_ ∷ _) [] len h k = absurd (omega arith)
+greater_fits other another len h k = absurd (omega arith)
 
 pub both_small : (xs ys : List ℕ) → length xs ≡ 16 → length ys ≡ 16 → Each1 (Fits w8) xs → Each1 (Fits w8) ys
     → Each1 (λ x. x < 10) (zip2 (λ a b. bit_and a b) (greater xs ys) three_lanes) → (k : ℕ) → k < 3 → (get_or xs k 0 < 10) × (get_or ys k 0 < 10)

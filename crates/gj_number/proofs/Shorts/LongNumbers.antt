@@ -1,23 +1,13 @@
 -- A number of more digits than sixteen bytes have, whose digits are read in two parts.
-use Rattle.std.proofs.Common.{suc, ◌≡◌, ◌≢◌, ℕ, ◌+◌, ◌-◌, ◌*◌, ◌%◌, ◌^◌, ◌<◌, ◌≤◌, Bool, inl, inr, List, [], ◌++◌, length, take, drop, get_or, All}
-use Rattle.std.proofs.Common.{refl, sym, ◌∙◌, ap, subst, arith, append-nil, length-append, length-drop, ℤ, pos, ◌+ℤ◌, ◌-ℤ◌, unsigned_abs, Some}
-use Rattle.std.proofs.Math.Nat.{pow-suc, pow-le-pow_right, mul-le-mul_right, le-mul_of_pos_right}
-use Rattle.std.proofs.lemmas.Nat.{pow-add}
-use Rattle.std.proofs.lemmas.Bool.{cases_lt}
-use Rattle.std.proofs.lemmas.Int.{ints}
-use Rattle.std.proofs.lemmas.List.{take_more, length-take, get_or-drop, drop-drop}
-use Rattle.std.proofs.lemmas.List.Elements.{recursion_from_All, All-append}
-use Rattle.std.proofs.lemmas.List.Sums.{fold-append}
-use Rattle.gj_number.specs.Bytes.{decimal_point, zero_digit, IsDigit}
-use Rattle.gj_number.specs.Grammar.{BeginsNumber}
-use Rattle.gj_number.specs.Exact.{Exact}
-use Rattle.gj_number.specs.Value.{with_digit, number_of}
-use Rattle.gj_number.specs.Denotation.{Parts, Spells, SpellsSign, whole_of}
+use Rattle.gj_number.proofs.Common.{All-append, BeginsNumber, Bool, Exact, IsDigit, List, Other, Parts, Some, Spells, SpellsOn, SpellsPlain}
+use Rattle.gj_number.proofs.Common.{SpellsSign, SpellsUnsigned, StartsWithNumber, ap, append-nil, arith, cases_lt, decimal_point, drop, drop-drop}
+use Rattle.gj_number.proofs.Common.{fold-append, get_or, get_or-drop, inl, inr, ints, le-mul_of_pos_right, length, length-drop, length-take}
+use Rattle.gj_number.proofs.Common.{mul-le-mul_right, number_of, pow-add, pow-le-pow_right, pow-suc, recursion_from_All, refl, subst, suc, sym, take}
+use Rattle.gj_number.proofs.Common.{take_more, unsigned_abs, whole_of, with_digit, zero_digit, ℕ, ℤ, [], ◌%◌, ◌*◌, ◌++◌, ◌+ℤ◌, ◌+◌, ◌-ℤ◌, ◌-◌, ◌<◌}
+use Rattle.gj_number.proofs.Common.{◌^◌, ◌∙◌, ◌≡◌, ◌≢◌, ◌≤◌}
+use Rattle.std.proofs.Common.{All}
+use Rattle.std.proofs.Common.{length-append, pos}
 use Rattle.gj_number.specs.Internal.NumberMachine.{class_of}
-use Rattle.gj_number.specs.declared.state.Class.TheVariants.{Other}
-use Rattle.gj_number.specs.Short.{StartsWithNumber}
-use Rattle.gj_number.specs.Internal.DigitRuns.{SpellsOn, SpellsUnsigned}
-use Rattle.gj_number.specs.Internal.MovedPoint.{SpellsPlain}
 use Rattle.gj_number.proofs.Literals.DigitBounds.{scaled_below}
 use Rattle.gj_number.proofs.Literals.LiteralBytes.{begins_none}
 use Rattle.gj_number.proofs.Grammar.PartScans.{parts_reach}

@@ -1,14 +1,9 @@
 -- Two numbers with a comma between them.
-use Rattle.std.proofs.Common.{◌≡◌, ℕ, ◌+◌, ◌-◌, ◌^◌, ◌<◌, ◌≤◌, ◌==◌, ◌⊎◌, Bool, true, false, List, length, drop, take, get_or, inl, inr, refl, sym, ap, ◌∙◌}
-use Rattle.std.proofs.Common.{subst, arith, length-drop}
-use mir.Val.{bool_byte}
-use Rattle.std.proofs.lemmas.Bool.Decides.{nat_tests}
-use Rattle.std.proofs.lemmas.List.{get_or-drop, take_rest}
-use Rattle.gj_number.specs.Bytes.{comma, space, close_bracket}
-use Rattle.gj_number.specs.Internal.MovedPoint.{SpellsPlain}
+use Rattle.gj_number.proofs.Common.{Bool, List, Other, SpellsPlain, StartsWithNumber, StartsWithPair, ap, arith, bool_byte, close_bracket, comma}
+use Rattle.gj_number.proofs.Common.{drop, false, get_or, get_or-drop, inl, inr, length, length-drop, nat_tests, refl, space, subst, sym, take}
+use Rattle.gj_number.proofs.Common.{take_rest, true, ℕ, ◌+◌, ◌-◌, ◌<◌, ◌==◌, ◌^◌, ◌∙◌, ◌≡◌, ◌≤◌, ◌⊎◌}
 use Rattle.gj_number.specs.Internal.NumberMachine.{class_of}
-use Rattle.gj_number.specs.declared.state.Class.TheVariants.{Other}
-use Rattle.gj_number.specs.Short.{short_value, StartsWithNumber, StartsWithPair}
+use Rattle.gj_number.specs.Short.{short_value}
 use Rattle.gj_number.proofs.Shorts.WrittenExponents.{plain_front}
 
 pub comma_other : class_of comma ≡ Other

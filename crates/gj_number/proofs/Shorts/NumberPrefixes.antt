@@ -1,20 +1,11 @@
 -- The number at the start of a piece: its digits, its parts and its end.
-use Rattle.std.proofs.Common.{zero, suc, ◌≡◌, ℕ, ◌+◌, ◌-◌, ◌*◌, ◌%◌, ◌^◌, ◌<◌, ◌≤◌, Bool, true, false, ◌==◌, ◌⊎◌, List, [], ◌∷◌, ◌++◌, length, take, drop}
-use Rattle.std.proofs.Common.{get_or, All, fold, inl, inr, refl, sym, ◌∙◌, ap, subst, arith, append_assoc, append-nil, length-append, length-drop}
-use Rattle.std.proofs.Math.Nat.{pow-suc, mul-le-mul_right, le-mul_of_pos_right}
-use Rattle.std.proofs.Math.Numerals.{add-one}
-use Rattle.std.proofs.Math.Seq.{take-add}
-use mir.Val.{bool_byte}
-use Rattle.std.proofs.lemmas.Bool.Decides.{eqb_tells, nat_tests}
-use Rattle.std.proofs.lemmas.List.{take_more, length-take, length-take-le, get_or-drop, drop-drop, take_rest}
-use Rattle.std.proofs.lemmas.List.Elements.{recursion_from_All, All-append}
-use Rattle.std.proofs.lemmas.List.Sums.{fold-append}
-use Rattle.gj_number.specs.Bytes.{decimal_point, minus_sign, zero_digit, IsDigit}
-use Rattle.gj_number.specs.Grammar.{IsNatural, IsDigits}
-use Rattle.gj_number.specs.Value.{with_digit, number_of}
-use Rattle.gj_number.specs.Denotation.{SpellsSign}
-use Rattle.gj_number.specs.Internal.MovedPoint.{SpellsPlain}
-use Rattle.gj_number.specs.Internal.DigitRuns.{SpellsOn, SpellsUnsigned}
+use Rattle.gj_number.proofs.Common.{All-append, Bool, IsDigit, IsDigits, IsNatural, List, SpellsOn, SpellsPlain, SpellsSign, SpellsUnsigned, add-one}
+use Rattle.gj_number.proofs.Common.{ap, append-nil, append_assoc, arith, bool_byte, decimal_point, drop, drop-drop, eqb_tells, false, fold-append}
+use Rattle.gj_number.proofs.Common.{get_or, get_or-drop, inl, inr, le-mul_of_pos_right, length, length-drop, length-take, length-take-le, minus_sign}
+use Rattle.gj_number.proofs.Common.{mul-le-mul_right, nat_tests, number_of, pow-suc, recursion_from_All, refl, subst, suc, sym, take, take-add}
+use Rattle.gj_number.proofs.Common.{take_more, take_rest, true, with_digit, zero, zero_digit, ℕ, [], ◌%◌, ◌*◌, ◌++◌, ◌+◌, ◌-◌, ◌<◌, ◌==◌, ◌^◌, ◌∙◌}
+use Rattle.gj_number.proofs.Common.{◌∷◌, ◌≡◌, ◌≤◌, ◌⊎◌}
+use Rattle.std.proofs.Common.{All, fold, length-append}
 use Rattle.gj_number.proofs.Literals.DigitBounds.{scaled_below}
 use Rattle.gj_number.proofs.Value.NormalForm.{ten_above_zero, number_bounded}
 

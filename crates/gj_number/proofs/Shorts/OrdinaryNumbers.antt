@@ -1,16 +1,13 @@
 -- How an ordinary number lies at the start of a piece: its runs of digits, and what stands after each.
-use Rattle.std.proofs.Common.{suc, ◌≡◌, ℕ, ◌+◌, ◌-◌, ◌<◌, ◌≤◌, ◌⊎◌, Bool, true, false, ◌==◌, List, [], ◌∷◌, ◌++◌, length, take, drop, get_or, All, inl, inr}
-use Rattle.std.proofs.Common.{refl, sym, ◌∙◌, ap, subst, arith, append_assoc, length-append}
-use Rattle.std.proofs.Math.Seq.{drop-append_seam, take-append_seam, drop-cons}
-use Rattle.std.proofs.lemmas.Bool.Decides.{nat_tests}
-use Rattle.std.proofs.lemmas.List.{get_or-append-add, take-append-drop, drop-drop, get_or-drop, length-take-le, take_rest}
-use Rattle.std.proofs.lemmas.List.Elements.{All-from_recursion}
-use mir.Val.{bool_byte}
-use Rattle.gj_number.specs.Bytes.{minus_sign, decimal_point, zero_digit, IsDigit, IsNumberByte}
-use Rattle.gj_number.specs.Grammar.{IsNatural, IsDigits}
-use Rattle.gj_number.specs.Denotation.{SpellsSign, SpellsFraction}
-use Rattle.gj_number.specs.Short.{StartsOrdinary, StartsUsual}
-use Rattle.gj_number.specs.Internal.DigitRuns.{IsRun, IsPointed, StartsSigned}
+use Rattle.gj_number.proofs.Common.{All-from_recursion, Bool, IsDigit, IsDigits, IsNatural, IsNumberByte, IsPointed, IsRun, List, SpellsFraction}
+use Rattle.gj_number.proofs.Common.{SpellsSign, StartsOrdinary, StartsSigned, StartsUsual, ap, append_assoc, arith, bool_byte, decimal_point, drop}
+use Rattle.gj_number.proofs.Common.{drop-cons, drop-drop, false, get_or, get_or-drop, inl, inr, length, length-take-le, minus_sign, nat_tests, refl}
+use Rattle.gj_number.proofs.Common.{subst, suc, sym, take, take-append-drop, take-append_seam, take_rest, true, zero_digit, ℕ, [], ◌++◌, ◌+◌, ◌-◌}
+use Rattle.gj_number.proofs.Common.{◌<◌, ◌==◌, ◌∙◌, ◌∷◌, ◌≡◌, ◌≤◌, ◌⊎◌}
+use Rattle.std.proofs.Common.{All}
+use Rattle.std.proofs.Common.{length-append}
+use Rattle.std.proofs.Math.Seq.{drop-append_seam}
+use Rattle.std.proofs.lemmas.List.{get_or-append-add}
 use Rattle.gj_number.proofs.Grammar.FoundParts.{natural_digits, all_digits}
 
 -- the digits before the point from `first` on, those after it, and the byte after the number

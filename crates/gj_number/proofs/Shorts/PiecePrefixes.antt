@@ -1,6 +1,6 @@
 -- Fronts of a piece, as lists.
-use Rattle.std.proofs.Common.{◌≡◌, ℕ, ◌+◌, ◌-◌, ◌<◌, ◌≤◌, List, [], ◌∷◌, take, drop, get_or, length, refl, ap, arith, length-drop}
-use Rattle.std.proofs.lemmas.List.{take-take, length-take-le, drop-drop, take_rest}
+use Rattle.gj_number.proofs.Common.{List, ap, arith, drop, drop-drop, get_or, length, length-drop, length-take-le, refl, take, take-take, take_rest}
+use Rattle.gj_number.proofs.Common.{ℕ, [], ◌+◌, ◌-◌, ◌<◌, ◌∷◌, ◌≡◌, ◌≤◌}
 
 -- the first element alone
 pub first_is : (piece : List ℕ) → 0 < length piece → get_or piece 0 0 ∷ [] ≡ take 1 piece

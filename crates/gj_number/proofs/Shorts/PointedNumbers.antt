@@ -1,18 +1,14 @@
 -- A number with a point is found.
-use Rattle.std.proofs.Common.{◌≡◌, ◌++◌, ◌∷◌, [], fold, not, replicate, ℕ, ◌+◌, ◌-◌, ◌/◌, ◌^◌, ◌<◌, ◌≤◌, ◌⊎◌, ◌==◌, Bool, true, false, inl, inr, List, length}
-use Rattle.std.proofs.Common.{map, take, drop, get_or, leb, All, Fits, refl, sym, ap, ◌∙◌, subst, arith, length-drop, w8}
-use lib.Lanes.{Each1, mask_l}
-use lib.Count.{count_trailing_zeros}
-use Rattle.std.proofs.lemmas.List.{get_or-drop, drop-append-le, length-append, take_rest}
-use Rattle.std.proofs.lemmas.Bool.{cases_lt}
+use Rattle.gj_number.proofs.Common.{Bool, Fits, IsDigit, IsPointed, List, SpellsUnsigned, StartsSigned, StartsUsual, ap, arith, bool_byte, cases_lt}
+use Rattle.gj_number.proofs.Common.{count_trailing_zeros, decimal_point, drop, false, get_or, get_or-drop, inl, inr, lane_of, leading, leb, length}
+use Rattle.gj_number.proofs.Common.{length-drop, map, mask_l, nat_tests, not, refl, replicate, space, subst, sym, take, take_rest, true, w8}
+use Rattle.gj_number.proofs.Common.{with_value, zero_digit, ℕ, [], ◌++◌, ◌+◌, ◌-◌, ◌/◌, ◌<◌, ◌==◌, ◌^◌, ◌∙◌, ◌∷◌, ◌≡◌, ◌≤◌, ◌⊎◌}
+use Rattle.std.proofs.Common.{fold}
+use Rattle.std.proofs.Common.{All}
+use lib.Lanes.{Each1}
+use Rattle.std.proofs.lemmas.List.{drop-append-le, length-append}
 use Rattle.std.proofs.lemmas.List.Sums.{prefix_len-le-length}
 use Rattle.std.proofs.lemmas.Simd.{trailing_mask_l}
-use mir.Val.{bool_byte}
-use Rattle.std.proofs.lemmas.Bool.Decides.{nat_tests}
-use Rattle.gj_number.specs.Bytes.{space, zero_digit, decimal_point, IsDigit}
-use Rattle.gj_number.specs.Short.{StartsUsual}
-use Rattle.gj_number.specs.Internal.DigitLanes.{lane_of, with_value, leading}
-use Rattle.gj_number.specs.Internal.DigitRuns.{IsPointed, StartsSigned, SpellsUnsigned}
 use Rattle.gj_number.proofs.Shorts.RunEnds.{digit_at, run_found}
 use Rattle.gj_number.proofs.Shorts.OrdinaryNumbers.{laid, laid_length, natural_allowed, pointed}
 use Rattle.gj_number.proofs.Shorts.SixteenLanes.{lanes_long, leading_le, lane_ends, lanes_end, first_spell, mask_after, leading_ended, ended_some, next_small}

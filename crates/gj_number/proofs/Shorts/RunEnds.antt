@@ -1,11 +1,8 @@
 -- A run of digits is found by its end.
-use Rattle.std.proofs.Common.{◌≡◌, ℕ, ◌+◌, ◌-◌, ◌∙◌, ap, ◌<◌, ◌≤◌, List, [], ◌∷◌, length, take, drop, get_or, All, fold, inl, inr, subst, arith, length-drop}
-use Rattle.std.proofs.lemmas.Bool.{cases_lt}
-use Rattle.std.proofs.lemmas.List.{get_or-take, get_or-drop, drop-take, length-take-le, take_rest}
+use Rattle.gj_number.proofs.Common.{IsDigit, IsRun, List, ap, arith, cases_lt, drop, drop-take, get_or, get_or-drop, get_or-take, inl, inr, length}
+use Rattle.gj_number.proofs.Common.{length-drop, length-take-le, subst, take, take_rest, with_digit, ℕ, [], ◌+◌, ◌-◌, ◌<◌, ◌∙◌, ◌∷◌, ◌≡◌, ◌≤◌}
+use Rattle.std.proofs.Common.{All, fold}
 use Rattle.std.proofs.lemmas.List.Elements.{All-get_or, All-drop}
-use Rattle.gj_number.specs.Bytes.{IsDigit}
-use Rattle.gj_number.specs.Internal.DigitRuns.{IsRun}
-use Rattle.gj_number.specs.Value.{with_digit}
 
 pub digit_at : (xs : List ℕ) (n i : ℕ) → i < n → n ≤ length xs → All IsDigit (take n xs) → IsDigit (get_or xs i 0)
 digit_at xs n i l w h =

@@ -1,17 +1,17 @@
 -- The decimal of a short number, and what is read off it.
-use Rattle.std.specs.Prelude.{int_le, neg_ℤ, ◌&&◌, nat_le, option_map}
-use Rattle.std.proofs.Common.{zero, suc, ◌≡◌, ◌≢◌, ℕ, ◌+◌, ◌-◌, ◌*◌, ◌/◌, ◌%◌, ◌^◌, ◌<◌, ◌≤◌, ◌↔◌, Bool, true, false, not, ltb, nat_eq, IsTrue, inl, inr, refl}
-use Rattle.std.proofs.Common.{sym, ◌∙◌, ap, subst, arith, ℤ, pos, negsuc, ◌+ℤ◌, ◌-ℤ◌, unsigned_abs, Some, None, if◌then◌else◌}
-use Rattle.std.proofs.Math.Nat.{le-mul_of_pos_right, eq_of_mul-eq-mul_right, pow-suc, div-one, zero-div, mul_assoc, mul-div_cancel, mul-div-mul_right}
-use Rattle.std.proofs.lemmas.Nat.{pow-add}
-use Rattle.std.proofs.lemmas.Bool.{cases_lt}
-use Rattle.std.proofs.lemmas.Bool.Decides.{eqb_tells, nat_tests}
-use Rattle.std.proofs.lemmas.Int.{ints}
+use Rattle.gj_number.proofs.Common.{Bool, Exact, IsNormal, IsTrue, None, Parts, Some, ap, arith, cases_lt, cut_magnitude, cut_of, cut_within}
+use Rattle.gj_number.proofs.Common.{eqb_tells, false, if◌then◌else◌, inl, inr, ints, le-mul_of_pos_right, limited_cut, limited_to, ltb, mul_assoc}
+use Rattle.gj_number.proofs.Common.{nat_tests, negsuc, not, option_map, places_of, pow-add, pow-suc, refl, scale_of, signed, stripped, subst, suc}
+use Rattle.gj_number.proofs.Common.{sym, tens_in, true, unsigned_abs, whole_of, zero, zero_exact, ℕ, ℤ, ◌%◌, ◌*◌, ◌+ℤ◌, ◌+◌, ◌-ℤ◌, ◌-◌, ◌/◌, ◌<◌, ◌^◌}
+use Rattle.gj_number.proofs.Common.{◌↔◌, ◌∙◌, ◌≡◌, ◌≢◌, ◌≤◌}
+use Rattle.std.specs.Prelude.{int_le, neg_ℤ, ◌&&◌, nat_le}
+use Rattle.std.proofs.Common.{nat_eq}
+use Rattle.std.proofs.Common.{pos}
+use Rattle.std.proofs.Math.Nat.{eq_of_mul-eq-mul_right, div-one, zero-div, mul-div_cancel, mul-div-mul_right}
 use Rattle.std.specs.Bool.{beq}
-use Rattle.gj_number.specs.Exact.{Exact, zero_exact, cut_magnitude, places_of, IsNormal, SameValue, signed, cut_limit, cut_of, cut_within}
-use Rattle.gj_number.specs.Internal.KeptParts.{limited_cut, limited_to}
-use Rattle.gj_number.specs.Value.{held_value, within_limits, stripped, tens_in}
-use Rattle.gj_number.specs.Denotation.{Parts, whole_of, scale_of, IsDecimalOf}
+use Rattle.gj_number.specs.Exact.{SameValue, cut_limit}
+use Rattle.gj_number.specs.Value.{held_value, within_limits}
+use Rattle.gj_number.specs.Denotation.{IsDecimalOf}
 use Rattle.gj_number.specs.Short.{short_value}
 use Rattle.gj_number.proofs.Shorts.CutNumbers.{limited_below, limited_past}
 use Rattle.gj_number.proofs.Value.OneDenotation.{same_exact}

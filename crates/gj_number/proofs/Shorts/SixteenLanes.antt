@@ -1,31 +1,29 @@
 -- Sixteen lanes.
-use Rattle.std.proofs.Common.{min, All, append-nil, ◌/◌, ◌⊎◌, cond, length-drop, zero, suc, ◌≡◌, ℕ, ◌+◌, ◌-◌, ◌*◌, ◌%◌, ◌^◌, ◌<◌, ◌≤◌, ◌++◌, Bool, List, []}
-use Rattle.std.proofs.Common.{◌∷◌, length, map, take, drop, get_or, replicate, fold, Fits, leb, ltb, T, true, false, not, ◌&&◌, ◌||◌, inl, inr, refl, sym, ◌∙◌}
-use Rattle.std.proofs.Common.{ap, subst, arith, w8}
+use Rattle.gj_number.proofs.Common.{All-from_recursion, AllByRecursion, Bool, Each1-chunk, Fits, IsDigit, IsRun, List, SpellsOn, SpellsUnsigned, ap}
+use Rattle.gj_number.proofs.Common.{append-nil, arith, cases_lt, cond, count_trailing_zeros, decimal_point, drop, drop-take, false, get_or}
+use Rattle.gj_number.proofs.Common.{get_or-drop, get_or-map, get_or-take, inl, inr, lane_of, leading, leb, length, length-drop, length-map}
+use Rattle.gj_number.proofs.Common.{length-take-le, ltb, map, map-append, mask_l, min, not, pow-suc, refl, replicate, subst, suc, sym, take, take-map}
+use Rattle.gj_number.proofs.Common.{take-take, take_rest, true, w8, with_digit, with_value, zero, zip2, ℕ, [], ◌%◌, ◌*◌, ◌++◌, ◌+◌, ◌-◌, ◌/◌, ◌<◌}
+use Rattle.gj_number.proofs.Common.{◌^◌, ◌||◌, ◌∙◌, ◌∷◌, ◌≡◌, ◌≤◌, ◌⊎◌}
+use Rattle.std.proofs.Common.{All}
+use Rattle.std.proofs.Common.{fold, T, ◌&&◌}
 use mir.Val.{zeroes}
 use Rattle.gj_number.specs.declared.lanes.TheConstants.{PLACES, OTHERS, POINTED}
-use lib.Lanes.{zip2, Each1, chunk, number_l, digits_l, mask_l}
-use lib.Count.{count_trailing_zeros}
-use Rattle.std.specs.List.{AllByRecursion}
+use lib.Lanes.{Each1, chunk, number_l, digits_l}
 use Rattle.std.proofs.Math.Numerals.{one-add}
 use Rattle.std.proofs.lemmas.Bool.Decides.{leb_tells}
-use Rattle.std.proofs.Math.Nat.{div-one, zero-div, pow-suc, div-div-eq-div-mul}
+use Rattle.std.proofs.Math.Nat.{div-one, zero-div, div-div-eq-div-mul}
 use Rattle.std.proofs.Math.Seq.{take-append-add}
-use Rattle.std.proofs.lemmas.List.{take-map, take-take, length-take-le, length-map, get_or-map, get_or-take, get_or-drop, drop-map, drop-take}
-use Rattle.std.proofs.lemmas.List.{map-append, take_rest}
+use Rattle.std.proofs.lemmas.List.{drop-map}
 use Rattle.std.proofs.lemmas.List.{take-append-le}
-use Rattle.std.proofs.lemmas.List.Elements.{All-from_recursion, All-nil}
+use Rattle.std.proofs.lemmas.List.Elements.{All-nil}
 use Rattle.std.proofs.lemmas.List.Sums.{prefix_len-le-length, prefix_len_stops}
 use Rattle.std.proofs.lemmas.Simd.{zip2_splat, leading_from_mask_l, trailing_mask_l, chunk-fits, Each1-replicate, swz_l, SwzOk, SwzOk-from_Each1}
-use Rattle.std.proofs.lemmas.Simd.{Each1-chunk, length-chunk}
-use Rattle.std.proofs.lemmas.Bool.{cases_lt}
-use Rattle.gj_number.specs.Bytes.{decimal_point, IsDigit}
-use Rattle.gj_number.specs.Internal.DigitRuns.{IsRun, SpellsOn, SpellsUnsigned}
-use Rattle.gj_number.specs.Value.{with_digit}
+use Rattle.std.proofs.lemmas.Simd.{length-chunk}
 use Rattle.gj_number.proofs.Shorts.NumberPrefixes.{digit_byte}
 use Rattle.gj_number.proofs.Shorts.RunEnds.{digit_at, run_found}
 use Rattle.gj_number.proofs.Literals.RunsOfDigits.{parts_digits}
-use Rattle.gj_number.specs.Internal.DigitLanes.{lane_of, with_value, by_twos, by_both, by_fours, by_eights, leading}
+use Rattle.gj_number.specs.Internal.DigitLanes.{by_twos, by_both, by_fours, by_eights}
 
 -- ---- four digits, by words of two
 
@@ -45,9 +43,7 @@ twos_are zero [] len all = refl
 twos_are (suc n) (a ∷ b ∷ digits) len all =
     let rest = number_l 256 digits in
     (λ i. two a b rest all.0 all.1.0 i ∷ twos_in n (past_two a b rest all.0 all.1.0 i)) ∙ ap (λ xs. (a * 10 + b) ∷ xs) (twos_are n digits (omega arith) all.1.1)
-twos_are zero (_ ∷ _) len all = absurd (omega arith)
-twos_are (suc n) [] len all = absurd (omega arith)
-twos_are (suc n) (_ ∷ []) len all = absurd (omega arith)
+twos_are other another len all = absurd (omega arith)
 
 pub twos_small : (digits : List ℕ) → Each1 (λ x. x < 10) digits → Each1 (λ x. x < 100) (by_twos digits)
 twos_small [] all = tt
@@ -70,9 +66,7 @@ both_is (suc n) (a ∷ b ∷ numbers) len all =
     let rest = number_l 65536 numbers in
     (λ i. both a b rest all.0 all.1.0 i ∷ both_in n (past_both a b rest all.0 all.1.0 i))
     ∙ ap (λ xs. (a * 100 + b) ∷ xs) (both_is n numbers (omega arith) all.1.1)
-both_is zero (_ ∷ _) len all = absurd (omega arith)
-both_is (suc n) [] len all = absurd (omega arith)
-both_is (suc n) (_ ∷ []) len all = absurd (omega arith)
+both_is other another len all = absurd (omega arith)
 
 number_small : (numbers : List ℕ) → Each1 (λ x. x < 100) numbers → number_l 65536 numbers < 65536 ^ length numbers
 number_small [] all = omega arith
@@ -97,10 +91,7 @@ fours_are [] n len = refl
 fours_are (a ∷ b ∷ c ∷ d ∷ digits) (suc n) len =
     let e : (a * 10 + b) * 100 + (c * 10 + d) ≡ ((a * 10 + b) * 10 + c) * 10 + d = omega arith in
     (λ i. e i ∷ fours_are digits n (omega arith) i)
-fours_are (_ ∷ _) zero len = absurd (omega arith)
-fours_are (_ ∷ []) (suc n) len = absurd (omega arith)
-fours_are (_ ∷ _ ∷ []) (suc n) len = absurd (omega arith)
-fours_are (_ ∷ _ ∷ _ ∷ []) (suc n) len = absurd (omega arith)
+fours_are other another len = absurd (omega arith)
 
 -- ---- eight digits, by words of four
 
@@ -128,9 +119,7 @@ eights_is (suc n) (a ∷ b ∷ numbers) len all =
     let rest = number_l 4294967296 numbers in
     (λ i. eight a b rest all.0 all.1.0 i ∷ eights_in n (past_eight a b rest all.0 all.1.0 i))
     ∙ ap (λ xs. (a * 100000000 + b) ∷ xs) (eights_is n numbers (omega arith) all.1.1)
-eights_is zero (_ ∷ _) len all = absurd (omega arith)
-eights_is (suc n) [] len all = absurd (omega arith)
-eights_is (suc n) (_ ∷ []) len all = absurd (omega arith)
+eights_is other another len all = absurd (omega arith)
 
 words_small : (numbers : List ℕ) → Each1 (λ x. x < 10 ^ 8) numbers → number_l 4294967296 numbers < 4294967296 ^ length numbers
 words_small [] all = omega arith

@@ -1,5 +1,5 @@
 -- A table of powers of ten.
-use Rattle.std.proofs.Common.{zero, suc, ◌≡◌, ℕ, ◌+◌, ◌^◌, ◌<◌, List, [], ◌∷◌, get_or, ap, arith}
+use Rattle.gj_number.proofs.Common.{List, ap, arith, get_or, suc, zero, ℕ, [], ◌+◌, ◌<◌, ◌^◌, ◌∷◌, ◌≡◌}
 
 -- so many powers of ten, from this one on
 abbrev pub powers_from : ℕ → ℕ → List ℕ

@@ -1,18 +1,13 @@
 -- A number without a sign is found whole, up to its exponent.
-use Rattle.std.proofs.Common.{suc, ◌≡◌, ℕ, ◌+◌, ◌-◌, ◌/◌, ◌^◌, ◌<◌, ◌≤◌, ◌⊎◌, inl, inr, List, [], ◌∷◌, ◌++◌, length, map, take, drop, get_or, leb, All, Fits}
-use Rattle.std.proofs.Common.{refl, sym, ap, ◌∙◌, subst, arith, append-nil, append_assoc, length-append, length-drop, w8}
-use lib.Lanes.{mask_l}
-use lib.Count.{count_trailing_zeros}
-use Rattle.std.proofs.Math.Seq.{drop-append_seam, drop-cons}
-use Rattle.std.proofs.lemmas.Bool.{cases_lt}
-use Rattle.std.proofs.lemmas.List.{get_or-drop, take-append-drop, drop-drop, length-take-le}
-use Rattle.std.proofs.lemmas.List.Elements.{All-from_recursion}
+use Rattle.gj_number.proofs.Common.{All-from_recursion, Fits, IsDigit, IsFirstDigit, IsFraction, IsNatural, IsRun, List, ap, append-nil, append_assoc}
+use Rattle.gj_number.proofs.Common.{arith, cases_lt, count_trailing_zeros, decimal_point, drop, drop-cons, drop-drop, get_or, get_or-drop, inl, inr}
+use Rattle.gj_number.proofs.Common.{lane_of, leading, leb, length, length-drop, length-take-le, map, mask_l, refl, subst, suc, sym, take}
+use Rattle.gj_number.proofs.Common.{take-append-drop, w8, ℕ, [], ◌++◌, ◌+◌, ◌-◌, ◌/◌, ◌<◌, ◌^◌, ◌∙◌, ◌∷◌, ◌≡◌, ◌≤◌, ◌⊎◌}
+use Rattle.std.proofs.Common.{All}
+use Rattle.std.proofs.Common.{length-append}
+use Rattle.std.proofs.Math.Seq.{drop-append_seam}
 use Rattle.std.proofs.lemmas.Simd.{leading_from_mask_l}
-use Rattle.gj_number.specs.Bytes.{decimal_point, IsDigit, IsFirstDigit}
-use Rattle.gj_number.specs.Grammar.{IsNatural, IsFraction}
 use Rattle.gj_number.specs.Short.{StartsUnsigned}
-use Rattle.gj_number.specs.Internal.DigitLanes.{lane_of, leading}
-use Rattle.gj_number.specs.Internal.DigitRuns.{IsRun}
 use Rattle.gj_number.proofs.Grammar.FoundParts.{natural_digits, all_digits}
 use Rattle.gj_number.proofs.Shorts.OrdinaryNumbers.{after_all, run_of, some_digits, point_no_digit}
 use Rattle.gj_number.proofs.Shorts.RunEnds.{digit_at, run_found}

@@ -1,25 +1,18 @@
 -- Where two usual numbers or integers have their marks, and that they are found.
-use Rattle.std.proofs.Common.{zero, suc, ◌≡◌, ℕ, ◌+◌, ◌-◌, ◌%◌, ◌<◌, ◌≤◌, ◌==◌, ◌++◌, ◌⊎◌, Bool, true, false, not, IsTrue, List, [], ◌∷◌}
-use Rattle.std.proofs.Common.{length, map, take, drop, get_or}
-use Rattle.std.proofs.Common.{replicate, refl, inl, inr, sym, ◌∙◌, ap, subst, arith, append_assoc, length-drop, length-append}
-use mir.Val.{bool_byte}
-use Rattle.std.specs.List.{AllByRecursion}
-use Rattle.std.proofs.Math.Seq.{drop-cons}
-use Rattle.std.proofs.lemmas.Bool.Decides.{nat_tests}
+use Rattle.gj_number.proofs.Common.{AllByRecursion, Bool, Bracket, Comma, IsDigit, IsFirstMark, IsPointed, IsSpan, IsTrue, IsUsualSpan, List, Space}
+use Rattle.gj_number.proofs.Common.{Span, SpellsSign, StartsOrdinary, StartsUsual, ap, append_assoc, arith, bool_byte, close_bracket, comma}
+use Rattle.gj_number.proofs.Common.{decimal_point, drop, drop-cons, drop-drop, end_of, false, get_or, get_or-drop, get_or-take, inl, inr, is_mark_by}
+use Rattle.gj_number.proofs.Common.{length, length-drop, length-take-le, map, map-append, minus_sign, nat_tests, not, number_marks, point_of, refl}
+use Rattle.gj_number.proofs.Common.{replicate, space, subst, suc, sym, take, take-append-drop, take-map, true, zero, zero_digit, ℕ, [], ◌%◌, ◌++◌}
+use Rattle.gj_number.proofs.Common.{◌+◌, ◌-◌, ◌<◌, ◌==◌, ◌∙◌, ◌∷◌, ◌≡◌, ◌≤◌, ◌⊎◌}
+use Rattle.std.proofs.Common.{length-append}
 use Rattle.std.proofs.lemmas.List.Elements.{All-get_or}
-use Rattle.std.proofs.lemmas.List.{drop-drop, get_or-drop, get_or-take, length-take-le}
-use Rattle.std.proofs.lemmas.List.{map-append, replicate-append-replicate, take-append-drop, take-map}
-use Rattle.gj_number.specs.Bytes.{comma, minus_sign, decimal_point, space, close_bracket, zero_digit, IsDigit}
-use Rattle.gj_number.specs.Denotation.{SpellsSign}
-use Rattle.gj_number.specs.Short.{StartsOrdinary, StartsUsual}
+use Rattle.std.proofs.lemmas.List.{replicate-append-replicate}
 use Rattle.gj_number.specs.Cuts.{StartsEither, StartsUsualCuts, byte_after, before_comma, second_after}
-use Rattle.gj_number.specs.Internal.CutLanes.{end_of, is_mark, is_mark_by, number_marks, point_of, ArePairMarks, HasMarks}
-use Rattle.gj_number.specs.Internal.CutLanes.{IsCounted, IsFirstMark, IsMarked, IsMarkedInteger, IsMarkedSpan, IsSpan, IsUsualSpan}
-use Rattle.gj_number.specs.Internal.DigitRuns.{IsPointed}
+use Rattle.gj_number.specs.Internal.CutLanes.{is_mark, ArePairMarks, HasMarks}
+use Rattle.gj_number.specs.Internal.CutLanes.{IsCounted, IsMarked, IsMarkedInteger, IsMarkedSpan}
 use Rattle.gj_number.specs.declared.short.cuts.After.{After}
-use Rattle.gj_number.specs.declared.short.cuts.After.TheVariants.{Comma, Bracket, Space}
 use Rattle.gj_number.specs.declared.short.cuts.PairForm.{PairForm}
-use Rattle.gj_number.specs.declared.short.cuts.Span.{Span}
 use Rattle.gj_number.proofs.Grammar.FoundParts.{natural_digits, all_digits}
 use Rattle.gj_number.proofs.Shorts.NumberPrefixes.{sign_length}
 use Rattle.gj_number.proofs.Shorts.OrdinaryNumbers.{first_digit, integer_length, laid, laid_length, no_fraction, pointed, pointed_after, sign_size, IsLaid}
@@ -116,8 +109,7 @@ ends_unmarked Space (x ∷ (y ∷ xs)) room first second =
 
 few_ends : (after : After) → before_comma after ≤ 2
 few_ends Comma = omega arith
-few_ends Bracket = omega arith
-few_ends Space = omega arith
+few_ends other = omega arith
 
 -- ---- one number
 

@@ -1,13 +1,10 @@
 -- Where a usual number or an integer has its marks, if only its own are looked for, and that it is found.
-use Rattle.std.proofs.Common.{suc, ◌≡◌, ℕ, ◌+◌, ◌-◌, ◌<◌, ◌≤◌, Bool, true, false, not, IsTrue, List, map, take, drop}
-use Rattle.std.proofs.Common.{get_or, sym, ◌∙◌, ap, subst, arith}
-use Rattle.std.proofs.lemmas.Bool.Decides.{nat_tests}
-use Rattle.std.proofs.lemmas.List.{get_or-drop, take-map}
-use Rattle.gj_number.specs.Bytes.{comma, line_feed, minus_sign}
+use Rattle.gj_number.proofs.Common.{Bool, IsFirstMark, IsSpan, IsTrue, IsUsualSpan, List, Span, StartsSigned, ap, arith, comma, drop, end_of, false}
+use Rattle.gj_number.proofs.Common.{get_or, get_or-drop, is_mark_by, map, minus_sign, nat_tests, not, point_of, subst, suc, sym, take, take-map, true}
+use Rattle.gj_number.proofs.Common.{ℕ, ◌+◌, ◌-◌, ◌<◌, ◌∙◌, ◌≡◌, ◌≤◌}
+use Rattle.gj_number.specs.Bytes.{line_feed}
 use Rattle.gj_number.specs.Cuts.{StartsEither, StartsUsualSpread}
-use Rattle.gj_number.specs.Internal.CutLanes.{end_of, is_mark_by, point_of, AreNumberMarks, IsCounted, IsFirstMark, IsMarked, IsSpan, IsUsualSpan}
-use Rattle.gj_number.specs.Internal.DigitRuns.{StartsSigned}
-use Rattle.gj_number.specs.declared.short.cuts.Span.{Span}
+use Rattle.gj_number.specs.Internal.CutLanes.{AreNumberMarks, IsCounted, IsMarked}
 use Rattle.gj_number.proofs.Shorts.NumberPrefixes.{sign_length}
 use Rattle.gj_number.proofs.Shorts.UsualMarks.{either_of, negative, front, after, integer_is, integers_may, length_is, marks_are, mark_there}
 use Rattle.gj_number.proofs.Shorts.UsualMarks.{span_at, take_marks, usual_span, IsEither}

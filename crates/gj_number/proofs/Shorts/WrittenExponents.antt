@@ -1,19 +1,11 @@
 -- The number that a piece starts with, with an exponent or none.
-use Rattle.std.proofs.Common.{zero, suc, ◌≡◌, ℕ, ◌+◌, ◌*◌, ◌^◌, ◌<◌, ◌≤◌, Bool, inl, inr, List, [], ◌∷◌, ◌++◌, length, take, drop, get_or}
-use Rattle.std.proofs.Common.{refl, sym, ◌∙◌, ap, subst, arith, append_assoc, append-nil, ℤ, pos, ◌-ℤ◌, unsigned_abs}
-use Rattle.std.proofs.Math.Seq.{take-add, drop-cons}
-use Rattle.std.proofs.lemmas.Int.{ints}
-use Rattle.std.proofs.lemmas.List.{take_more, length-take-le}
-use Rattle.gj_number.specs.Bytes.{IsExponentLetter}
-use Rattle.gj_number.specs.Grammar.{BeginsNumber}
-use Rattle.gj_number.specs.Exact.{signed}
-use Rattle.gj_number.specs.Value.{number_of}
-use Rattle.gj_number.specs.Denotation.{Parts, Spells, SpellsExponentSign, whole_of, scale_of}
+use Rattle.gj_number.proofs.Common.{BeginsNumber, Bool, IsExponentLetter, List, Other, Parts, Spells, SpellsExponentSign, SpellsOn, SpellsPlain}
+use Rattle.gj_number.proofs.Common.{StartsWithNumber, ap, append-nil, append_assoc, arith, drop, drop-cons, get_or, inl, inr, ints, length}
+use Rattle.gj_number.proofs.Common.{length-take-le, number_of, refl, scale_of, signed, subst, suc, sym, take, take-add, take_more, unsigned_abs}
+use Rattle.gj_number.proofs.Common.{whole_of, zero, ℕ, ℤ, [], ◌*◌, ◌++◌, ◌+◌, ◌-ℤ◌, ◌<◌, ◌^◌, ◌∙◌, ◌∷◌, ◌≡◌, ◌≤◌}
+use Rattle.std.proofs.Common.{pos}
 use Rattle.gj_number.specs.Internal.NumberMachine.{class_of}
-use Rattle.gj_number.specs.declared.state.Class.TheVariants.{Other}
-use Rattle.gj_number.specs.Short.{short_value, StartsWithNumber}
-use Rattle.gj_number.specs.Internal.DigitRuns.{SpellsOn}
-use Rattle.gj_number.specs.Internal.MovedPoint.{SpellsPlain}
+use Rattle.gj_number.specs.Short.{short_value}
 use Rattle.gj_number.proofs.Literals.DigitBounds.{scaled_below}
 use Rattle.gj_number.proofs.Grammar.PartScans.{parts_reach}
 use Rattle.gj_number.proofs.Grammar.StateMoves.{other_ends}

@@ -1,7 +1,8 @@
 -- What some numbers denote, by computing.
-use Rattle.std.proofs.Common.{◌≡◌, ℕ, ◌-◌, ◌^◌, ◌++◌, Bool, true, false, ℤ, pos, negsuc, Option, Some, None, refl, replicate, codes}
-use Rattle.gj_number.specs.Bytes.{zero_digit, nine_digit}
-use Rattle.gj_number.specs.Exact.{Exact, zero_exact, places_of, cut_of}
+use Rattle.gj_number.proofs.Common.{Bool, Exact, None, Option, Some, cut_of, false, negsuc, places_of, refl, replicate, true, zero_digit, zero_exact}
+use Rattle.gj_number.proofs.Common.{ℕ, ℤ, ◌++◌, ◌-◌, ◌^◌, ◌≡◌}
+use Rattle.std.proofs.Common.{pos, codes}
+use Rattle.gj_number.specs.Bytes.{nine_digit}
 use Rattle.gj_number.specs.Value.{value_of, held_value, within_limits}
 
 abbrev held : Bool → ℕ → ℤ → Option Exact

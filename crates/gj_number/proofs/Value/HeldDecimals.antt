@@ -1,9 +1,11 @@
 -- The decimal of the kept digits is that of the whole number.
-use Rattle.std.proofs.Common.{◌≡◌, ◌≢◌, ℕ, ◌%◌, ◌^◌, ◌<◌, ◌≤◌, min, ◌⊎◌, inl, inr, Bool, Some, None, sym, subst, arith, ℤ, pos, ◌+ℤ◌, ◌-ℤ◌, unsigned_abs}
+use Rattle.gj_number.proofs.Common.{Bool, HasDigits, IsKept, None, Some, arith, inl, inr, min, signed, subst, sym, unsigned_abs, zero_exact, ℕ, ℤ}
+use Rattle.gj_number.proofs.Common.{◌%◌, ◌+ℤ◌, ◌-ℤ◌, ◌<◌, ◌^◌, ◌≡◌, ◌≢◌, ◌≤◌, ◌⊎◌}
+use Rattle.std.proofs.Common.{pos}
 use Rattle.std.proofs.lemmas.Bool.Decides.{leb_tells}
-use Rattle.gj_number.specs.Exact.{IsWithinLimits, zero_exact, signed, power_limit}
+use Rattle.gj_number.specs.Exact.{IsWithinLimits, power_limit}
 use Rattle.gj_number.specs.Value.{held_value}
-use Rattle.gj_number.specs.Internal.KeptParts.{limited_power, HasDigits, IsKept}
+use Rattle.gj_number.specs.Internal.KeptParts.{limited_power}
 use Rattle.gj_number.proofs.Value.NormalForm.{held_value-zero}
 use Rattle.gj_number.proofs.Value.SameDecimals.{unsigned_abs-signed}
 use Rattle.gj_number.proofs.Value.HeldLimits.{held_some, held_no_power, held_no_exponent, held_not_far, few_digits, exact_of}

@@ -1,12 +1,10 @@
 -- Where a decimal is within the limits of a held one, and where the kept digits are.
-use Rattle.std.proofs.Common.{◌≡◌, ℕ, ◌+◌, ◌^◌, ◌<◌, ◌≤◌, ◌⊎◌, inl, inr, Bool, true, false, ◌&&◌, nat_lt, nat_le, if◌then◌else◌, Some, None, refl, ◌∙◌, ap}
-use Rattle.std.proofs.Common.{arith, ℤ, pos, negsuc, ◌+ℤ◌, ◌-ℤ◌, unsigned_abs}
-use Rattle.std.proofs.lemmas.Bool.Decides.{nat_tests}
-use Rattle.std.proofs.lemmas.Int.{ints}
-use Rattle.std.proofs.Math.Nat.{pow-le-pow_right}
-use Rattle.gj_number.specs.Exact.{Exact, digits_limit, power_limit}
+use Rattle.gj_number.proofs.Common.{Bool, Exact, HasDigits, IsFar, None, Some, ap, arith, false, if◌then◌else◌, inl, inr, ints, nat_tests, negsuc}
+use Rattle.gj_number.proofs.Common.{pow-le-pow_right, refl, true, unsigned_abs, ℕ, ℤ, ◌+ℤ◌, ◌+◌, ◌-ℤ◌, ◌<◌, ◌^◌, ◌∙◌, ◌≡◌, ◌≤◌, ◌⊎◌}
+use Rattle.std.proofs.Common.{◌&&◌, nat_lt, nat_le}
+use Rattle.std.proofs.Common.{pos}
+use Rattle.gj_number.specs.Exact.{digits_limit, power_limit}
 use Rattle.gj_number.specs.Value.{exponent_limit, within_limits, held_value}
-use Rattle.gj_number.specs.Internal.KeptParts.{IsFar, HasDigits}
 use Rattle.gj_number.proofs.Value.NormalForm.{held_value-normal}
 
 pub record IsWithin (exponent : ℤ) (e : Exact) : Type 0 where
@@ -48,16 +46,12 @@ power_is exponent pending places fraction tens e = omega (arith, ints)
 too_high : (exponent : ℤ) (fraction tens : ℕ) → unsigned_abs exponent ≤ 1000 → fraction + 1401 ≤ tens → (power : ℤ)
     → power ≡ exponent -ℤ pos fraction +ℤ pos tens → unsigned_abs power ≤ 400 → ⊥
 too_high (pos x) fraction tens h far (pos p) e k = omega (arith, ints)
-too_high (pos x) fraction tens h far (negsuc p) e k = omega (arith, ints)
-too_high (negsuc x) fraction tens h far (pos p) e k = omega (arith, ints)
-too_high (negsuc x) fraction tens h far (negsuc p) e k = omega (arith, ints)
+too_high other fraction tens h far another e k = omega (arith, ints)
 
 too_low : (exponent : ℤ) (fraction tens : ℕ) → unsigned_abs exponent ≤ 1000 → tens + 1401 ≤ fraction → (power : ℤ)
     → power ≡ exponent -ℤ pos fraction +ℤ pos tens → unsigned_abs power ≤ 400 → ⊥
 too_low (pos x) fraction tens h far (pos p) e k = omega (arith, ints)
-too_low (pos x) fraction tens h far (negsuc p) e k = omega (arith, ints)
-too_low (negsuc x) fraction tens h far (pos p) e k = omega (arith, ints)
-too_low (negsuc x) fraction tens h far (negsuc p) e k = omega (arith, ints)
+too_low other fraction tens h far another e k = omega (arith, ints)
 
 module _ (negative : Bool) (most kept count pending places whole fraction : ℕ) (exponent : ℤ) (small : whole < 10 ^ most) where
   value_is : HasDigits kept count pending places whole fraction

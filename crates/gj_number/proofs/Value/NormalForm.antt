@@ -1,12 +1,11 @@
 -- Each number above zero is in one way digits that ten does not divide times a power of ten.
-use Rattle.std.proofs.Common.{zero, suc, ◌≡◌, ◌≢◌, ℕ, ◌+◌, ◌*◌, ◌/◌, ◌%◌, ◌^◌, ◌<◌, ◌≤◌, Bool, refl, sym, ◌∙◌, ap, arith, inl, inr, Some, List, [], ◌∷◌, length}
-use Rattle.std.proofs.Common.{ℤ, pos, ◌+ℤ◌, ◌-ℤ◌}
-use Rattle.std.proofs.lemmas.Bool.Decides.{eqb_tells}
-use Rattle.std.proofs.Math.Nat.{pow-suc, one-le-pow, one-le-mul, mul-le-mul_right}
-use Rattle.std.specs.List.{AllByRecursion, fold}
-use Rattle.gj_number.specs.Bytes.{IsDigit}
-use Rattle.gj_number.specs.Exact.{zero_exact}
-use Rattle.gj_number.specs.Value.{with_digit, number_of, stripped, tens_in, held_value, within_limits}
+use Rattle.gj_number.proofs.Common.{AllByRecursion, Bool, IsDigit, List, Some, ap, arith, eqb_tells, inl, inr, length, mul-le-mul_right, number_of}
+use Rattle.gj_number.proofs.Common.{pow-suc, refl, stripped, suc, sym, tens_in, with_digit, zero, zero_exact, ℕ, ℤ, [], ◌%◌, ◌*◌, ◌+ℤ◌, ◌+◌, ◌-ℤ◌}
+use Rattle.gj_number.proofs.Common.{◌/◌, ◌<◌, ◌^◌, ◌∙◌, ◌∷◌, ◌≡◌, ◌≢◌, ◌≤◌}
+use Rattle.std.proofs.Common.{pos}
+use Rattle.std.proofs.Math.Nat.{one-le-pow, one-le-mul}
+use Rattle.std.specs.List.{fold}
+use Rattle.gj_number.specs.Value.{held_value, within_limits}
 
 -- ---- one normal form
 

@@ -1,11 +1,10 @@
 -- Which decimal a literal denotes: that there is one and no other, and where the function gives it.
-use Rattle.std.proofs.Common.{◌≡◌, ◌≢◌, ℕ, ◌*◌, ◌%◌, ◌^◌, ◌≤◌, ◌⊎◌, inl, inr, Bool, ◌↔◌, Some, None, List, ◌++◌, length, refl, sym, ◌∙◌, ap, subst, arith, ℤ}
-use Rattle.std.proofs.Common.{pos, ◌+ℤ◌, unsigned_abs}
-use Rattle.std.proofs.lemmas.Bool.Decides.{eqb_tells}
-use Rattle.gj_number.specs.Grammar.{IsNumber}
-use Rattle.gj_number.specs.Exact.{Exact, zero_exact, IsNormal}
-use Rattle.gj_number.specs.Value.{exponent_limit, within_limits, value_of, stripped, tens_in}
-use Rattle.gj_number.specs.Denotation.{Parts, Spells, whole_of, scale_of, IsDecimalOf, Denotes, IsHeld}
+use Rattle.gj_number.proofs.Common.{Bool, Exact, IsNormal, IsNumber, List, None, Parts, Some, Spells, ap, arith, eqb_tells, inl, inr, length, refl}
+use Rattle.gj_number.proofs.Common.{scale_of, stripped, subst, sym, tens_in, unsigned_abs, whole_of, zero_exact, ℕ, ℤ, ◌%◌, ◌*◌, ◌++◌, ◌+ℤ◌, ◌^◌, ◌↔◌}
+use Rattle.gj_number.proofs.Common.{◌∙◌, ◌≡◌, ◌≢◌, ◌≤◌, ◌⊎◌}
+use Rattle.std.proofs.Common.{pos}
+use Rattle.gj_number.specs.Value.{exponent_limit, within_limits, value_of}
+use Rattle.gj_number.specs.Denotation.{IsDecimalOf, Denotes, IsHeld}
 use Rattle.gj_number.proofs.Grammar.SpelledParts.{parts_of}
 use Rattle.gj_number.proofs.Grammar.FoundParts.{found, value_is, parts_digits}
 use Rattle.gj_number.proofs.Value.HeldLimits.{within}

@@ -1,11 +1,12 @@
 -- Decimals in normal form are the same number exactly where they are one.
-use Rattle.std.proofs.Common.{zero, suc, ◌≡◌, ◌≢◌, ℕ, ◌*◌, ◌%◌, ◌^◌, ◌<◌, inl, inr, Bool, true, false, ◌==◌, ◌&&◌, Decides, ◌↔◌, refl, sym, ◌∙◌, ap, subst}
-use Rattle.std.proofs.Common.{arith, pos, ◌+ℤ◌, unsigned_abs}
+use Rattle.gj_number.proofs.Common.{Bool, Exact, IsNormal, ap, arith, eqb_tells, false, inl, inr, ints, refl, signed, subst, suc, sym, true}
+use Rattle.gj_number.proofs.Common.{unsigned_abs, zero, ℕ, ◌%◌, ◌*◌, ◌+ℤ◌, ◌<◌, ◌==◌, ◌^◌, ◌↔◌, ◌∙◌, ◌≡◌, ◌≢◌}
+use Rattle.std.proofs.Common.{◌&&◌, Decides}
+use Rattle.std.proofs.Common.{pos}
 use Rattle.std.specs.Bool.{beq}
 use Rattle.std.specs.Ordering.{int_eq}
-use Rattle.std.proofs.lemmas.Int.{ints}
-use Rattle.std.proofs.lemmas.Bool.Decides.{eqb_tells, Decides-eqb, Decides-int_eq, Decides-and}
-use Rattle.gj_number.specs.Exact.{Exact, IsNormal, IsWithinLimits, SameValue, same_parts, signed}
+use Rattle.std.proofs.lemmas.Bool.Decides.{Decides-eqb, Decides-int_eq, Decides-and}
+use Rattle.gj_number.specs.Exact.{IsWithinLimits, SameValue, same_parts}
 use Rattle.gj_number.proofs.Value.NormalForm.{one_normal, normal_above_zero}
 use Rattle.gj_number.proofs.Value.OneDenotation.{same_exact}
 

@@ -1,12 +1,9 @@
 -- Numbers that are not held, whatever digits follow and with whatever exponent.
-use Rattle.std.proofs.Common.{zero, suc, ◌≡◌, ◌≢◌, ℕ, ◌+◌, ◌-◌, ◌*◌, ◌%◌, ◌^◌, ◌<◌, ◌≤◌, ◌⊎◌, inl, inr, List, [], ◌∷◌, length, fold, All, arith}
-use Rattle.std.specs.List.{AllByRecursion}
-use Rattle.std.proofs.lemmas.List.Elements.{recursion_from_All}
-use Rattle.std.proofs.Math.Nat.{pow-suc, mul-le-mul_left, mul-le-mul_right, pow-le-pow_right}
-use Rattle.std.proofs.Math.Numerals.{add-one}
-use Rattle.gj_number.specs.Bytes.{zero_digit, IsDigit}
-use Rattle.gj_number.specs.Internal.KeptParts.{IsFar, IsKept}
-use Rattle.gj_number.specs.Value.{with_digit}
+use Rattle.gj_number.proofs.Common.{AllByRecursion, IsDigit, IsFar, IsKept, List, add-one, arith, inl, inr, length, mul-le-mul_right}
+use Rattle.gj_number.proofs.Common.{pow-le-pow_right, pow-suc, recursion_from_All, suc, with_digit, zero, zero_digit, ℕ, [], ◌%◌, ◌*◌, ◌+◌, ◌-◌, ◌<◌}
+use Rattle.gj_number.proofs.Common.{◌^◌, ◌∷◌, ◌≡◌, ◌≢◌, ◌≤◌, ◌⊎◌}
+use Rattle.std.proofs.Common.{fold, All}
+use Rattle.std.proofs.Math.Nat.{mul-le-mul_left}
 use Rattle.gj_number.proofs.Value.NormalForm.{ten_above_zero}
 
 -- a number that ends in no zero is its own digits

@@ -1,46 +1,28 @@
 -- What the first events of a text show of it, and what the rules keep of them.
-use Rattle.std.proofs.Common.{◌≡◌, ℕ, zero, suc, ◌+◌, ◌≤◌, Bool, true, false, ◌||◌, if◌then◌else◌, List, [], ◌∷◌, ◌++◌, map, inl, inr, Option, Some, None}
-use Rattle.std.proofs.Common.{is_some, refl, sym, ap, subst, ◌∙◌}
+use Rattle.gj_rules.proofs.Common.{Bool, Coordinates, Done, Event, False, Fault, Features, Findings, Frame, FramedRules, G1, G2, Geometries, Geometry}
+use Rattle.gj_rules.proofs.Common.{IsText, List, MemberRules, MemberSlots, Members, Names, Null, Properties, Role, Slot, State, Text, Told, Tree}
+use Rattle.gj_rules.proofs.Common.{True, TypeValue, Warnings, What, Word, ap, array, asked_fault, by, constant, core_of, depth, event_of, events_by}
+use Rattle.gj_rules.proofs.Common.{false, fault_at, faults, forbidden_by, if◌then◌else◌, inl, inr, is_allowed, is_among, is_known, is_lost, is_some}
+use Rattle.gj_rules.proofs.Common.{least, lesser, levels_within, map, mark_told, marked_kept, members_told, mentions, missing, number, object, plain}
+use Rattle.gj_rules.proofs.Common.{refl, rules_of, run, start, step, string, subst, suc, sym, text_faults, told, true, zero, [], ◌++◌, ◌+◌, ◌||◌, ◌∙◌}
+use Rattle.gj_rules.proofs.Common.{◌∷◌, ◌≤◌}
+use Rattle.std.proofs.Common.{◌≡◌, ℕ, Option, Some, None}
 use Rattle.std.specs.List.{list_any}
 use Rattle.std.proofs.lemmas.Bool.{or_left, or_right, or_cases}
-use Rattle.gj_json.specs.declared.constant.Constant.TheVariants.{Null, True, False}
-use Rattle.gj_json.specs.declared.event.Event.{Event}
-use Rattle.gj_json.specs.declared.event.What.{What}
 use Rattle.gj_json.specs.declared.event.What.TheVariants as W
 use Rattle.gj_json.specs.declared.names.Known.{Known}
-use Rattle.gj_json.specs.declared.names.Known.TheVariants.{Coordinates, Geometries, Geometry, Properties, Features, Bbox}
-use Rattle.gj_json.specs.declared.names.Word.{Word}
+use Rattle.gj_json.specs.declared.names.Known.TheVariants.{Bbox}
 use Rattle.gj_json.specs.Events as E
-use Rattle.gj_json.specs.Events.{events_by, by}
 use Rattle.gj_json.specs.Names.{word_of}
 use Rattle.gj_number.specs.Value.{value_of}
-use Rattle.gj_json.specs.Text.{IsText}
-use Rattle.gj_json.specs.Tree.{Tree, constant, number, string, array, object, Members, Text, depth}
-use Rattle.gj_coords.specs.declared.fault.Fault.{Fault}
-use Rattle.gj_coords.specs.declared.fault.Rule.TheVariants.{G1, G2, G3}
-use Rattle.gj_coords.specs.declared.warnings.Warnings.{Warnings}
-use Rattle.gj_coords.specs.Fault.{lesser, least, fault_at}
-use Rattle.gj_rules.specs.Levels.{levels_within}
-use Rattle.gj_rules.specs.Internal.FrameMeaning.{Findings, Frame, MemberSlots}
-use Rattle.gj_rules.specs.declared.role.Role.{Role}
-use Rattle.gj_rules.specs.declared.mode.Mode.TheVariants.{Names, Done}
-use Rattle.gj_rules.specs.declared.rules.FramedRules.{FramedRules}
-use Rattle.gj_rules.specs.declared.member_slots.Slot.{Slot}
-use Rattle.gj_rules.specs.declared.member_slots.TypeValue.{TypeValue}
+use Rattle.gj_coords.specs.declared.fault.Rule.TheVariants.{G3}
 use Rattle.gj_rules.specs.Doomed.{names, first_type, repeats, type_fails, members_fail, value_fails, is_doomed}
-use Rattle.gj_rules.specs.Faults.{faults, text_faults}
 use Rattle.gj_rules.specs.Internal.FrameCalls as F
-use Rattle.gj_rules.specs.Internal.RulesState.{core_of}
-use Rattle.gj_rules.specs.declared.member_slots.member_rules.MemberRules.{MemberRules}
-use Rattle.gj_rules.specs.Internal.MemberRules.{is_among, rules_of, without_due, missing, asked_fault}
-use Rattle.gj_rules.specs.Internal.LostObjects.{fails_by, fails_as, type_lost, is_lost, core_lost}
-use Rattle.gj_rules.specs.Members.{is_known, mentions, forbidden_by}
-use Rattle.gj_rules.specs.Role.{is_allowed}
+use Rattle.gj_rules.specs.Internal.MemberRules.{without_due}
+use Rattle.gj_rules.specs.Internal.LostObjects.{fails_by, fails_as, type_lost, core_lost}
 use Rattle.gj_rules.specs.Rules.{StandsFor}
 use Rattle.gj_rules.specs.Internal.OpenMembers as S
-use Rattle.gj_rules.specs.Internal.EventSteps.{State, step, run, start, skip}
-use Rattle.gj_rules.specs.Internal.TextKept.{marked_kept}
-use Rattle.gj_rules.specs.Internal.LabelledEvents.{Told, plain, event_of, told, members_told, mark_told}
+use Rattle.gj_rules.specs.Internal.EventSteps.{skip}
 use Rattle.gj_rules.proofs.Objects.ClosedFrames.{all_closed}
 use Rattle.gj_rules.proofs.Texts.FramesInUse.{front_text}
 use Rattle.gj_rules.proofs.Objects.GrowingFaults.{Keeps, lesser_first, lesser_second, not_due, members_keep}

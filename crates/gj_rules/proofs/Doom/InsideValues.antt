@@ -1,35 +1,24 @@
 -- While the events of a value come, the text's object shows no other names, and what fails in it goes on to fail.
-use Rattle.std.proofs.Common.{◌≡◌, ◌<◌, ℕ, zero, suc, ◌+◌, List, [], ◌∷◌, ◌++◌, map, reverse, length, get_or, take, Option, Some, refl, sym, ap, subst, ◌∙◌}
-use Rattle.std.proofs.Common.{arith}
+use Rattle.gj_rules.proofs.Common.{Coordinates, Event, False, Fault, Features, Findings, Frame, G1, Geometries, Geometry, List, MemberSlots, Members}
+use Rattle.gj_rules.proofs.Common.{Mode, Names, Null, Role, State, Told, Tree, True, Warnings, all_faults, all_kept, ap, arith, array, blank}
+use Rattle.gj_rules.proofs.Common.{constant, element, elements_told, end_of_array, end_of_object, event_of, fault_at, faults, frame_in, get_or, least}
+use Rattle.gj_rules.proofs.Common.{least-append, length, map, member, member_of, members_told, mode_behind, number, object, plain, refl, reverse, run}
+use Rattle.gj_rules.proofs.Common.{settled, step, string, subst, suc, sym, take, taken_any, taken_in, told, value_events, zero, [], ◌++◌, ◌+◌, ◌<◌}
+use Rattle.gj_rules.proofs.Common.{◌∙◌, ◌∷◌}
+use Rattle.std.proofs.Common.{◌≡◌, ℕ, Option, Some}
 use Rattle.std.proofs.Math.Seq.{take-suc}
 use Rattle.std.proofs.lemmas.List.{reverse-append}
-use Rattle.gj_json.specs.declared.constant.Constant.TheVariants.{Null, True, False}
-use Rattle.gj_json.specs.declared.event.Event.{Event}
 use Rattle.gj_json.specs.declared.names.Known.{Known}
-use Rattle.gj_json.specs.declared.names.Known.TheVariants.{Coordinates, Geometries, Geometry, Features, Bbox}
+use Rattle.gj_json.specs.declared.names.Known.TheVariants.{Bbox}
 use Rattle.gj_json.specs.declared.event.What.TheVariants as What
-use Rattle.gj_json.specs.Events.{value_events}
 use Rattle.gj_json.specs.Names.{known_of}
 use Rattle.gj_json.specs.Tree as Tree
-use Rattle.gj_json.specs.Tree.{Tree, constant, number, string, array, object, end_of_array, element, Members, end_of_object, member}
-use Rattle.gj_coords.specs.declared.fault.Fault.{Fault}
-use Rattle.gj_coords.specs.declared.fault.Rule.TheVariants.{G1}
-use Rattle.gj_coords.specs.declared.warnings.Warnings.{Warnings}
-use Rattle.gj_coords.specs.Fault.{least, fault_at}
-use Rattle.gj_coords.specs.Internal.LeastLaws.{least-append}
-use Rattle.gj_rules.specs.Internal.FrameMeaning.{Findings, Frame, MemberSlots}
-use Rattle.gj_rules.specs.declared.role.Role.{Role}
-use Rattle.gj_rules.specs.declared.mode.Mode.{Mode}
-use Rattle.gj_rules.specs.declared.mode.Mode.TheVariants.{Names, Elements}
-use Rattle.gj_rules.specs.Faults.{faults, all_faults}
-use Rattle.gj_rules.specs.Internal.FrameCalls.{blank, named, due_after, joined, taken_in, taken_any, settled, filled, member_taken, members_taken}
+use Rattle.gj_rules.specs.declared.mode.Mode.TheVariants.{Elements}
+use Rattle.gj_rules.specs.Internal.FrameCalls.{named, due_after, joined, filled, member_taken, members_taken}
 use Rattle.gj_rules.specs.Internal.RulesState.{no_frame}
 use Rattle.gj_rules.specs.Internal.LostObjects.{root_of}
-use Rattle.gj_rules.specs.Internal.FrameReading.{frame_in}
 use Rattle.gj_rules.specs.declared.frame.Frame as D
-use Rattle.gj_rules.specs.Internal.EventSteps.{State, step, run, member_of, mode_behind}
-use Rattle.gj_rules.specs.Internal.TextKept.{kept, all_kept}
-use Rattle.gj_rules.specs.Internal.LabelledEvents.{Told, plain, event_of, told, elements_told, members_told}
+use Rattle.gj_rules.specs.Internal.TextKept.{kept}
 use Rattle.gj_rules.proofs.Objects.ClosedFrames.{all_closed}
 use Rattle.gj_rules.proofs.Objects.GrowingFaults.{Grows, grows_same, grows_twice, grows_joined}
 use Rattle.gj_rules.proofs.Texts.ValuesByEvents.{st, feeding, due_st, behind, behind_idle, mode_listed, known_list, IsListed, IsFed, some_told, up, down}

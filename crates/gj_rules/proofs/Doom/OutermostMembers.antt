@@ -1,23 +1,17 @@
 -- What stands directly in the text's object, of the events of its members.
-use Rattle.std.proofs.Common.{◌≡◌, ℕ, zero, suc, ◌+◌, Bool, true, false, List, [], ◌∷◌, ◌++◌, map, Option, Some, None, refl, sym, ap, ◌∙◌, append_assoc}
+use Rattle.gj_rules.proofs.Common.{Bool, Event, False, List, Members, Null, Told, Tree, True, TypeName, What, Word, ap, append_assoc, array, constant}
+use Rattle.gj_rules.proofs.Common.{element, elements_told, end_of_array, end_of_object, event_of, false, levels_behind, map, map-append, member}
+use Rattle.gj_rules.proofs.Common.{members_told, number, object, plain, refl, same, string, suc, sym, told, true, type_of, zero, [], ◌++◌, ◌+◌, ◌∙◌}
+use Rattle.gj_rules.proofs.Common.{◌∷◌}
+use Rattle.std.proofs.Common.{◌≡◌, ℕ, Option, Some, None}
 use Rattle.std.proofs.Common.{append-nil}
-use Rattle.std.proofs.lemmas.List.{map-append}
-use Rattle.gj_json.specs.declared.constant.Constant.TheVariants.{Null, True, False}
-use Rattle.gj_json.specs.declared.event.Event.{Event}
 use Rattle.gj_json.specs.declared.names.Known.{Known}
-use Rattle.gj_json.specs.declared.names.Known.TheVariants.{TypeName}
-use Rattle.gj_json.specs.declared.names.Word.{Word}
-use Rattle.gj_json.specs.declared.event.What.{What}
 use Rattle.gj_json.specs.declared.event.What.TheVariants as W
 use Rattle.gj_json.specs.Events.{what_of}
 use Rattle.gj_json.specs.Names.{word_of}
 use Rattle.gj_json.specs.Tree as Tree
-use Rattle.gj_json.specs.Tree.{Tree, constant, number, string, array, object, end_of_array, element, Members, end_of_object, member}
 use Rattle.gj_number.specs.Value.{value_of}
-use Rattle.gj_json.specs.Ignored.{levels_behind}
 use Rattle.gj_rules.specs.Doomed.{outermost, at_level, names, first_type, type_named}
-use Rattle.gj_rules.specs.Members.{same, type_of}
-use Rattle.gj_rules.specs.Internal.LabelledEvents.{Told, plain, event_of, told, elements_told, members_told}
 use Rattle.gj_rules.proofs.Texts.ValuesByEvents.{up, down}
 
 abbrev pub whats : List Told → List What
@@ -121,30 +115,15 @@ own_part v x done rest e =
 
 pub names_value : (v : Tree) (xs : List What) → names (first_what v ∷ xs) ≡ names xs
 names_value (constant Null place) xs = refl
-names_value (constant True place) xs = refl
-names_value (constant False place) xs = refl
-names_value (number place literal end) xs = refl
-names_value (string place content end) xs = refl
-names_value (array place es close) xs = refl
-names_value (object place ms close) xs = refl
+names_value other xs = refl
 
 type_value_is : (v : Tree) → type_named (first_what v) ≡ type_of v
 type_value_is (constant Null place) = refl
-type_value_is (constant True place) = refl
-type_value_is (constant False place) = refl
-type_value_is (number place literal end) = refl
-type_value_is (string place content end) = refl
-type_value_is (array place es close) = refl
-type_value_is (object place ms close) = refl
+type_value_is other = refl
 
 type_after_value : (v : Tree) (xs : List What) → first_type (first_what v ∷ xs) ≡ first_type xs
 type_after_value (constant Null place) xs = refl
-type_after_value (constant True place) xs = refl
-type_after_value (constant False place) xs = refl
-type_after_value (number place literal end) xs = refl
-type_after_value (string place content end) xs = refl
-type_after_value (array place es close) xs = refl
-type_after_value (object place ms close) xs = refl
+type_after_value other xs = refl
 
 -- the word of the first, where there is one
 abbrev pub or_word : Option Word → Option Word → Option Word

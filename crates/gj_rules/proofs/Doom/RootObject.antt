@@ -1,33 +1,17 @@
 -- What the text's object has shown after some events of its members, and what comes of it at its end.
-use Rattle.std.proofs.Common.{◌≡◌, ℕ, ◌+◌, Bool, true, false, ◌&&◌, ◌||◌, if◌then◌else◌, List, [], ◌∷◌, ◌++◌, ◌⊎◌, inl, inr, Option, Some, None, is_some, refl}
-use Rattle.std.proofs.Common.{sym, ap, subst, ◌∙◌, append_assoc}
+use Rattle.gj_rules.proofs.Common.{Bool, Coordinates, False, Fault, Findings, First, Frame, List, MemberSlots, Members, Names, Null, Other, Role}
+use Rattle.gj_rules.proofs.Common.{Shapes, Slot, State, Told, Tree, True, TypeName, TypeValue, What, Word, ap, append_assoc, array, asked, constant}
+use Rattle.gj_rules.proofs.Common.{due_known, end_of_object, false, if◌then◌else◌, inl, inr, is_known, is_lost, is_some, judge, least, lesser, member}
+use Rattle.gj_rules.proofs.Common.{members_told, mentions, no_shapes, number, object, place_of, plain, refl, run, same, shapes_of, slot_of, step}
+use Rattle.gj_rules.proofs.Common.{string, subst, sym, told, true, type_of, uses, [], ◌&&◌, ◌++◌, ◌+◌, ◌||◌, ◌∙◌, ◌∷◌, ◌⊎◌}
+use Rattle.std.proofs.Common.{◌≡◌, ℕ, Option, Some, None}
 use Rattle.std.proofs.Math.Bool.{or_assoc}
-use Rattle.gj_json.specs.declared.event.What.{What}
 use Rattle.gj_json.specs.declared.event.What.TheVariants as W
 use Rattle.gj_json.specs.declared.names.Known.{Known}
-use Rattle.gj_json.specs.declared.names.Known.TheVariants.{TypeName, Coordinates, Other}
-use Rattle.gj_json.specs.declared.names.Word.{Word}
 use Rattle.gj_json.specs.Names.{known_of}
-use Rattle.gj_json.specs.Tree.{Tree, constant, number, string, array, object, Members, end_of_object, member}
-use Rattle.gj_coords.specs.declared.fault.Fault.{Fault}
-use Rattle.gj_coords.specs.Fault.{lesser, least}
-use Rattle.gj_rules.specs.Internal.FrameMeaning.{Findings, Frame, Shapes, MemberSlots}
-use Rattle.gj_rules.specs.declared.role.Role.{Role}
-use Rattle.gj_rules.specs.declared.mode.Mode.TheVariants.{Names}
-use Rattle.gj_rules.specs.declared.member_slots.Slot.{Slot}
-use Rattle.gj_rules.specs.declared.member_slots.TypeValue.{TypeValue}
-use Rattle.gj_coords.specs.Items.{place_of}
 use Rattle.gj_rules.specs.Doomed.{names, first_type, repeats}
-use Rattle.gj_rules.specs.Faults.{First}
-use Rattle.gj_rules.specs.Internal.OpenMembers.{judge}
 use Rattle.gj_rules.specs.Internal.FrameCalls as F
-use Rattle.gj_rules.specs.Internal.LostObjects.{is_lost}
-use Rattle.gj_rules.specs.Members.{is_known, same, mentions, type_of}
-use Rattle.gj_rules.specs.Internal.OpenMembers.{slot_of, uses, named, due_known, due_after, filled, member_taken, members_taken, type_set}
-use Rattle.gj_rules.specs.Internal.EventSteps.{State, step, run}
-use Rattle.gj_rules.specs.Internal.Summaries.{no_shapes, shapes_of, asked}
-use Rattle.gj_rules.specs.Internal.LabelledEvents.{Told, plain, told, members_told}
-use Rattle.gj_json.specs.declared.constant.Constant.TheVariants.{Null, True, False}
+use Rattle.gj_rules.specs.Internal.OpenMembers.{named, due_after, filled, member_taken, members_taken, type_set}
 use Rattle.gj_rules.proofs.Objects.GrowingFaults.{Keeps, lesser_first, Worse, worse_twice, worse_named, lost_worse, type_same, Grows}
 use Rattle.gj_rules.proofs.Objects.GrowingFaults.{grows_same, grows_joined, grows_shapes}
 use Rattle.gj_rules.proofs.Texts.ValuesByEvents.{st, due_st}
@@ -166,8 +150,7 @@ again_is None true true place = refl
 again_is None true false place = refl
 again_is None false m place = refl
 again_is (Some x) true true place = lesser_first (Some x) (least (again true true place ++ [])) refl
-again_is (Some x) true false place = refl
-again_is (Some x) false m place = refl
+again_is (Some x) other another place = refl
 
 repeated_one : (before : List Known) (name : List ℕ) (place end : ℕ) (v : Tree) (f : MemberSlots) → Mentions before f
     → is_some (member_taken place (known_of name) v f).repeated ≡ (is_some f.repeated || (is_known (known_of name) && mentions before (known_of name)))
@@ -194,8 +177,7 @@ or_words (Some word) b c = refl
 
 mentions_first : (b m r : Bool) → ((if b then true else m) || r) ≡ (m || (if b then true else r))
 mentions_first true true r = refl
-mentions_first true false r = refl
-mentions_first false m r = refl
+mentions_first other another r = refl
 
 -- after a whole member
 here_more : (before : List Known) (name : List ℕ) (place end : ℕ) (v : Tree) (f g : MemberSlots) (shown : List What) → Shows before f

@@ -1,16 +1,11 @@
 -- What the definitions say of some texts, by computing.
-use Rattle.std.proofs.Common.{◌≡◌, ℕ, Option, Some, None, refl, codes}
-use Rattle.gj_json.specs.declared.constant.Constant.TheVariants.{Null}
+use Rattle.gj_rules.proofs.Common.{Fault, Null, Rule, Tree, array, codes, constant, element, end_of_array, end_of_object, fault_at, faults, judged_in}
+use Rattle.gj_rules.proofs.Common.{least, member, number, object, refl, string}
+use Rattle.std.proofs.Common.{◌≡◌, ℕ, Option, Some, None}
 use Rattle.gj_json.specs.Names.{known_of, word_of}
-use Rattle.gj_json.specs.Tree.{Tree, constant, number, string, array, object, end_of_array, element, end_of_object, member}
 use Rattle.gj_number.specs.Value.{value_of, held_value, within_limits}
-use Rattle.gj_coords.specs.declared.fault.Fault.{Fault}
-use Rattle.gj_coords.specs.declared.fault.Rule.{Rule}
-use Rattle.gj_coords.specs.Fault.{fault_at, least}
 use Rattle.gj_rules.specs.declared.role.Role.TheVariants as Role
 use Rattle.gj_json.specs.Open.{open_in}
-use Rattle.gj_rules.specs.Faults.{faults}
-use Rattle.gj_rules.specs.Judged.{judged_in}
 
 -- the least fault of a text with this value
 abbrev least_of : Tree → Option Fault

@@ -1,13 +1,9 @@
 -- What the definitions find in the features of some texts, by computing.
-use Rattle.std.proofs.Common.{◌≡◌, [], ◌∷◌, false, Some, None, refl, codes}
-use Rattle.gj_json.specs.declared.constant.Constant.TheVariants.{Null}
+use Rattle.gj_rules.proofs.Common.{G1, G2, Null, Text, W9, array, codes, constant, element, end_of_array, end_of_object, false, fault_at}
+use Rattle.gj_rules.proofs.Common.{feature_findings, findings_by, member, number, object, refl, string, warning_at, [], ◌∷◌}
+use Rattle.std.proofs.Common.{◌≡◌, Some, None}
 use Rattle.gj_json.specs.Names.{known_of, word_of}
-use Rattle.gj_json.specs.Tree.{constant, number, string, array, object, end_of_array, element, end_of_object, member, Text}
-use Rattle.gj_coords.specs.declared.fault.Rule.TheVariants.{G1, G2, G7}
-use Rattle.gj_coords.specs.declared.kind.Kind.TheVariants.{W9}
-use Rattle.gj_coords.specs.Fault.{fault_at}
-use Rattle.gj_coords.specs.Warnings.{warning_at}
-use Rattle.gj_rules.specs.FeatureFindings.{feature_findings, findings_by}
+use Rattle.gj_coords.specs.declared.fault.Rule.TheVariants.{G7}
 
 -- {"type":"FeatureCollection","features":[]}
 no_features : feature_findings (record {

@@ -1,8 +1,7 @@
 -- How the definitions cut some inputs into records, by computing.
-use Rattle.std.proofs.Common.{◌≡◌, [], ◌∷◌, refl}
-use Rattle.gj_rules.specs.declared.records.framing.Framing.TheVariants.{Sequence, Lines}
-use Rattle.gj_rules.specs.declared.records.framing.RecordEnd.TheVariants.{Separator, Input, Limit}
-use Rattle.gj_rules.specs.Records.{part_at, entry_at, parts_from, entries_of}
+use Rattle.gj_rules.proofs.Common.{Input, Limit, Lines, Separator, entries_of, entry_at, part_at, parts_from, refl, [], ◌∷◌}
+use Rattle.std.proofs.Common.{◌≡◌}
+use Rattle.gj_rules.specs.declared.records.framing.Framing.TheVariants.{Sequence}
 
 -- 'a', LF, LF, ' ', LF, 'b': the last line has no LF
 lines_parts : parts_from Lines Input 0 (97 ∷ 10 ∷ 10 ∷ 32 ∷ 10 ∷ 98 ∷ [])

@@ -1,12 +1,10 @@
 -- What the definitions say is likely wrong in use in some texts, by computing.
-use Rattle.std.proofs.Common.{◌≡◌, [], ◌∷◌, true, false, refl, codes}
-use Rattle.gj_json.specs.declared.constant.Constant.TheVariants.{Null}
+use Rattle.gj_rules.proofs.Common.{Null, W1, W7, W9, array, codes, constant, element, end_of_array, end_of_object, false, member, number, object}
+use Rattle.gj_rules.proofs.Common.{refl, string, text_warnings, true, warning_at, [], ◌∷◌}
+use Rattle.std.proofs.Common.{◌≡◌}
 use Rattle.gj_json.specs.Names.{known_of, word_of}
-use Rattle.gj_json.specs.Tree.{constant, number, string, array, object, end_of_array, element, end_of_object, member}
 use Rattle.gj_number.specs.Value.{value_of, held_value, within_limits}
-use Rattle.gj_coords.specs.declared.kind.Kind.TheVariants.{W1, W2, W6, W7, W9}
-use Rattle.gj_coords.specs.Warnings.{warning_at}
-use Rattle.gj_rules.specs.TextWarnings.{text_warnings}
+use Rattle.gj_coords.specs.declared.kind.Kind.TheVariants.{W2, W6}
 
 -- {"crs":1,"crs":2,"type":"Point","coordinates":[1,2]}
 crs_twice : text_warnings (record {

@@ -1,22 +1,15 @@
 -- What is found in a FeatureCollection is what is found in it without its features, and in these.
-use Rattle.std.proofs.Common.{◌≡◌, ℕ, ◌+◌, nat_le, Bool, true, false, List, [], ◌∷◌, ◌++◌, Option, Some, None, refl, sym, ap, ◌∙◌, append_assoc}
-use Rattle.std.specs.List.{flat_map, AllByRecursion}
-use Rattle.gj_json.specs.declared.names.Known.TheVariants.{Coordinates, Geometries, Geometry, Properties, Features, Bbox}
-use Rattle.gj_json.specs.Tree.{Tree, constant, number, string, array, object, Members, Text}
-use Rattle.gj_coords.specs.declared.fault.Fault.{Fault}
-use Rattle.gj_coords.specs.declared.fault.Rule.TheVariants.{G8}
-use Rattle.gj_coords.specs.declared.kind.Kind.TheVariants.{W1}
-use Rattle.gj_coords.specs.Fault.{lesser, least}
-use Rattle.gj_coords.specs.Internal.LeastLaws.{least-append}
-use Rattle.gj_coords.specs.CoordinateWarnings.{warned_if}
-use Rattle.gj_coords.specs.Warnings.{Warning}
-use Rattle.gj_rules.specs.declared.member_slots.TypeValue.{TypeValue}
-use Rattle.gj_rules.specs.declared.role.Role.{Role}
-use Rattle.gj_rules.specs.Members.{first_type, repeated}
-use Rattle.gj_rules.specs.Faults.{faults, first, forbidden, optional, due, text_faults}
-use Rattle.gj_rules.specs.TextWarnings.{warnings, crs_warnings, first_value, first_warnings, text_warnings}
-use Rattle.gj_rules.specs.FeatureFindings.{FeatureFinding, finding_of, unless_broken, elements_if, features_of, findings_from, feature_findings, complete_at}
-use Rattle.gj_rules.specs.FeatureFindings.{complete_in, findings_by, members_emptied, without_features, own_faults, own_warnings, names_collection}
+use Rattle.gj_rules.proofs.Common.{AllByRecursion, Bool, Coordinates, Fault, Features, G8, Geometries, Geometry, List, Members, Properties, Role}
+use Rattle.gj_rules.proofs.Common.{Text, Tree, TypeValue, W1, Warning, ap, append_assoc, array, complete_at, complete_in, constant, crs_warnings}
+use Rattle.gj_rules.proofs.Common.{elements_if, false, faults, feature_findings, features_of, findings_by, findings_from, first, first_value}
+use Rattle.gj_rules.proofs.Common.{first_warnings, flat_map, least, least-append, lesser, nat_le, number, object, refl, repeated, string, sym}
+use Rattle.gj_rules.proofs.Common.{text_faults, text_warnings, true, warned_if, warnings, [], ◌++◌, ◌+◌, ◌∙◌, ◌∷◌}
+use Rattle.std.proofs.Common.{◌≡◌, ℕ, Option, Some, None}
+use Rattle.gj_json.specs.declared.names.Known.TheVariants.{Bbox}
+use Rattle.gj_rules.specs.Members.{first_type}
+use Rattle.gj_rules.specs.Faults.{forbidden, optional, due}
+use Rattle.gj_rules.specs.FeatureFindings.{FeatureFinding, finding_of, unless_broken}
+use Rattle.gj_rules.specs.FeatureFindings.{members_emptied, without_features, own_faults, own_warnings, names_collection}
 use Rattle.gj_rules.specs.FeatureFindings.{IsCollection, least_found, warnings_found}
 use Rattle.gj_rules.proofs.Features.OwnText.{own_first, own_type, own_repeated, own_crs, own_box, due_each, features_each}
 use Rattle.gj_coords.proofs.Readers.LeastOfSome.{least_none}
@@ -103,10 +96,7 @@ by_features (object place ms close) h =
     root_faults place close ms (first_type ms) refl h
     ∙ (own_collected place ms
     ∙ ap (λ xs. xs ++ of_features (elements_if (first_value Features ms))) (sym (root_faults place close (members_emptied ms) (first_type ms) (own_type ms) h)))
-by_features (array place es close) h = absurd h
-by_features (constant which place) h = absurd h
-by_features (number place literal end) h = absurd h
-by_features (string place content end) h = absurd h
+by_features other h = absurd h
 
 warned_by_features : (v : Tree) → IsCollection v
     → warnings Role.Root v ≡ warnings Role.Root (without_features v) ++ flat_map (λ v. warnings Role.Feature v) (features_of v)
@@ -122,10 +112,7 @@ warned_by_features (object place ms close) h =
         rw (own_crs ms, own_box ms, features_each ms)
         (goes_on [] (crs_warnings ms) (first_warnings Bbox ms) (first_warnings Features (members_emptied ms))
         (flat_map (λ v. warnings Role.Feature v) (elements_if (first_value Features ms))))
-warned_by_features (array place es close) h = absurd h
-warned_by_features (constant which place) h = absurd h
-warned_by_features (number place literal end) h = absurd h
-warned_by_features (string place content end) h = absurd h
+warned_by_features other h = absurd h
 
 -- ---- the laws
 

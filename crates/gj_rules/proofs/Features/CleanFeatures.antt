@@ -1,14 +1,11 @@
 -- The events that most features have: an object that opens and closes, in which nothing is found, and an `id`.
-use Rattle.std.proofs.Common.{◌≡◌, ◌<◌, ℕ, zero, suc, Bool, true, [], ◌∷◌, refl, ◌∙◌, ap, arith}
+use Rattle.gj_rules.proofs.Common.{Bool, FeatureCount, Findings, Frame, Stage, What, ap, arith, count_at, list_step, refl, settled, suc, tells_at}
+use Rattle.gj_rules.proofs.Common.{true, zero, [], ◌<◌, ◌∙◌, ◌∷◌}
+use Rattle.std.proofs.Common.{◌≡◌, ℕ}
 use Rattle.gj_json.specs.declared.names.Known.{Known}
-use Rattle.gj_json.specs.declared.event.What.{What}
-use Rattle.gj_rules.specs.declared.feature_count.FeatureCount.{FeatureCount}
-use Rattle.gj_rules.specs.declared.feature_count.Stage.{Stage}
 use Rattle.gj_rules.specs.CleanFeature.{feature_of}
-use Rattle.gj_rules.specs.Internal.FeatureSteps.{count_at, list_step, element_step, tells_at, stage_tells, element_tells, feature_found, began, stage_step}
+use Rattle.gj_rules.specs.Internal.FeatureSteps.{element_step, stage_tells, element_tells, feature_found, began, stage_step}
 use Rattle.gj_rules.specs.Internal.FeatureSteps.{is_scalar}
-use Rattle.gj_rules.specs.Internal.FrameCalls.{settled}
-use Rattle.gj_rules.specs.Internal.FrameMeaning.{Findings, Frame}
 use Rattle.gj_rules.specs.Internal.Summaries.{none_found}
 
 pub opens : (c : FeatureCount) (place : ℕ) (starts : Bool) → c.inner ≡ 0 → c.stage ≡ Stage.List
@@ -33,9 +30,7 @@ named_untold zero name place top c = stages c.stage
   where
     stages : (stage : Stage) → stage_tells stage (What.Name name) place top c ≡ []
     stages Stage.Outside = refl
-    stages Stage.Root = refl
-    stages Stage.List = refl
-    stages Stage.Element = refl
+    stages other = refl
 named_untold (suc n) name place top c = refl
 
 pub named_within : (n : ℕ) (name : Known) (place : ℕ) (starts : Bool) (c : FeatureCount) → c.inner ≡ n → 0 < n → c ≡ count_at n (What.Name name) place starts c

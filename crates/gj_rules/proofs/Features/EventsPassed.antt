@@ -1,31 +1,22 @@
 -- Events that matter to no feature.
-use Rattle.std.proofs.Common.{◌≡◌, ℕ, zero, suc, ◌+◌, ◌-◌, ◌<◌, ◌≤◌, ◌^◌, nat_le, Bool, true, false, List, [], ◌∷◌, ◌++◌, map, length, Option, refl, sym, ap}
-use Rattle.std.proofs.Common.{subst, ◌∙◌, arith, append_assoc, append-nil}
-use Rattle.std.proofs.lemmas.Bool.Decides.{nat_tests}
+use Rattle.gj_rules.proofs.Common.{Bool, Coordinates, Event, FeatureCount, FeaturesAre, Flat, Frame, Geometry, Id, List, Numbered, Properties, Stage}
+use Rattle.gj_rules.proofs.Common.{State, Told, TypeName, What, Word, ap, append_assoc, arith, count_at, event_of, false, flat_events, flats_events}
+use Rattle.gj_rules.proofs.Common.{heard, length, levels_behind, list_step, located_events, map, nat_le, nat_tests, no_count, number_event}
+use Rattle.gj_rules.proofs.Common.{numbers_of, refl, run, start, starts_at, subst, suc, sym, tells_at, text_told, true, zero, [], ◌++◌, ◌+◌, ◌-◌, ◌<◌}
+use Rattle.gj_rules.proofs.Common.{◌^◌, ◌∙◌, ◌∷◌, ◌≤◌}
+use Rattle.std.proofs.Common.{◌≡◌, ℕ, Option}
+use Rattle.std.proofs.Common.{append-nil}
 use Rattle.std.proofs.lemmas.List.{length-append}
-use Rattle.gj_json.specs.declared.event.Event.{Event}
-use Rattle.gj_json.specs.declared.event.What.{What}
-use Rattle.gj_json.specs.declared.names.Known.TheVariants.{Id, TypeName, Geometry, Coordinates, Properties}
-use Rattle.gj_json.specs.declared.names.Word.{Word}
-use Rattle.gj_json.specs.declared.flat.Flat.{Flat}
-use Rattle.gj_json.specs.declared.flat.Numbered.{Numbered}
-use Rattle.gj_json.specs.Flat.{number_event, numbers_of, flat_events}
-use Rattle.gj_json.specs.CutPosition.{flats_events}
 use Rattle.gj_json.specs.declared.head.LatePoint.{LatePoint}
 use Rattle.gj_json.specs.declared.head.Located.{Located}
 use Rattle.gj_json.specs.declared.head.Opened.{Opened}
 use Rattle.gj_json.specs.declared.head.Typed.{Typed}
-use Rattle.gj_json.specs.Head.{typed_events, located_events, opened_events, point_events, late_point_events}
-use Rattle.gj_json.specs.Ignored.{levels_behind, Leaves}
+use Rattle.gj_json.specs.Head.{typed_events, opened_events, point_events, late_point_events}
+use Rattle.gj_json.specs.Ignored.{Leaves}
 use Rattle.gj_rules.specs.declared.feature.Feature.{Feature}
-use Rattle.gj_rules.specs.declared.feature_count.FeatureCount.{FeatureCount}
-use Rattle.gj_rules.specs.declared.feature_count.Stage.{Stage}
-use Rattle.gj_rules.specs.Internal.FrameMeaning.{Frame}
-use Rattle.gj_rules.specs.Internal.EventSteps.{State, run, start}
-use Rattle.gj_rules.specs.Internal.LabelledEvents.{Told, event_of, text_told}
-use Rattle.gj_rules.specs.Internal.FeatureSteps.{heard, count, counted, count_at, inner_step, tells, tells_at, features_in, no_count, concerned}
-use Rattle.gj_rules.specs.Internal.FeatureSteps.{ignored_of, starts_at, list_step}
-use Rattle.gj_rules.specs.Internal.FeatureSteps.{FeaturesAre, no_level}
+use Rattle.gj_rules.specs.Internal.FeatureSteps.{count, counted, inner_step, tells, features_in, concerned}
+use Rattle.gj_rules.specs.Internal.FeatureSteps.{ignored_of}
+use Rattle.gj_rules.specs.Internal.FeatureSteps.{no_level}
 use Rattle.gj_rules.proofs.Features.CleanFeatures.{opens, opens_untold}
 use Rattle.gj_rules.proofs.Features.FeaturesSoFar.{small, count-last, heard-last}
 use Rattle.gj_rules.proofs.Texts.OneEventMore.{last_told}
@@ -145,10 +136,7 @@ quiet_events Says (event ∷ inner) c events more (suc levels) left e l h =
   where
     behind : (what : What) (more levels : ℕ) → levels_behind what (suc (more + levels)) ≡ more + levels_behind what (suc levels)
     behind What.OpenObject more levels = omega arith
-    behind What.OpenArray more levels = omega arith
-    behind What.CloseObject more levels = omega arith
-    behind What.CloseArray more levels = omega arith
-    behind _ more levels = omega arith
+    behind other more levels = omega arith
 
 -- ---- an array of numbers
 

@@ -1,35 +1,22 @@
 -- The events of a text report what is found in its features, each with the last event of the feature.
-use Rattle.std.proofs.Common.{◌≡◌, ℕ, suc, ◌+◌, ◌≤◌, Bool, true, false, if◌then◌else◌, List, [], ◌∷◌, ◌++◌, Option, Some, None, refl, sym, ap, subst, ◌∙◌}
-use Rattle.std.proofs.Common.{arith, append_assoc, append-nil}
-use Rattle.gj_json.specs.declared.constant.Constant.TheVariants.{Null, True, False}
+use Rattle.gj_rules.proofs.Common.{Bool, Due, False, FeatureCount, Features, Findings, Frame, Geometry, Id, List, MOST_FRAMES, Members, Names, Null}
+use Rattle.gj_rules.proofs.Common.{Role, Slot, Stage, State, Text, Told, Tree, True, Warnings, ap, append_assoc, arith, array, blank, complete_at}
+use Rattle.gj_rules.proofs.Common.{constant, depth, element, elements_if, elements_of, elements_told, end_of_array, end_of_object, false, faults}
+use Rattle.gj_rules.proofs.Common.{features_of, first_value, heard, if◌then◌else◌, is_known, items, judge, least, mark_told, marked_kept, member}
+use Rattle.gj_rules.proofs.Common.{members_told, most_levels, no_count, number, object, place_of, plain, refl, run, same, settled, slot_of, start}
+use Rattle.gj_rules.proofs.Common.{starts_at, step, string, subst, suc, sym, taken_any, text_told, told, true, uses, [], ◌++◌, ◌+◌, ◌∙◌, ◌∷◌, ◌≤◌}
+use Rattle.std.proofs.Common.{◌≡◌, ℕ, Option, Some, None}
+use Rattle.std.proofs.Common.{append-nil}
 use Rattle.gj_json.specs.declared.event.What.TheVariants as What
 use Rattle.gj_json.specs.declared.names.Known.{Known}
-use Rattle.gj_json.specs.declared.names.Known.TheVariants.{Geometry, Features, Id}
 use Rattle.gj_json.specs.Names.{known_of}
 use Rattle.gj_json.specs.Tree as Tree
-use Rattle.gj_json.specs.Tree.{Tree, constant, number, string, array, object, end_of_array, element, Members, end_of_object, member, Text, depth}
 use Rattle.gj_json.specs.Tree.{elements_depth, members_depth}
-use Rattle.gj_coords.specs.declared.warnings.Warnings.{Warnings}
-use Rattle.gj_coords.specs.Fault.{least}
-use Rattle.gj_coords.specs.Items.{place_of, items, elements_of}
-use Rattle.gj_rules.specs.Levels.{most_levels}
-use Rattle.gj_rules.specs.declared.feature_count.FeatureCount.{FeatureCount}
-use Rattle.gj_rules.specs.declared.feature_count.Stage.{Stage}
-use Rattle.gj_rules.specs.declared.member_slots.Slot.{Slot}
-use Rattle.gj_rules.specs.declared.mode.Mode.TheVariants.{Names, Due, Elements}
-use Rattle.gj_rules.specs.declared.role.Role.{Role}
-use Rattle.gj_rules.specs.declared.rules.TheConstants.{MOST_FRAMES}
-use Rattle.gj_rules.specs.Faults.{faults}
-use Rattle.gj_rules.specs.FeatureFindings.{place_if, elements_if, features_of, complete_at}
-use Rattle.gj_rules.specs.Members.{same, is_known}
-use Rattle.gj_rules.specs.TextWarnings.{first_value}
-use Rattle.gj_rules.specs.Internal.FrameMeaning.{Findings, Frame}
-use Rattle.gj_rules.specs.Internal.FrameCalls.{blank, named, due_after, taken_any, settled, filled, member_taken, members_taken}
-use Rattle.gj_rules.specs.Internal.OpenMembers.{slot_of, uses, judge}
-use Rattle.gj_rules.specs.Internal.TextKept.{marked_kept, kept}
-use Rattle.gj_rules.specs.Internal.EventSteps.{State, step, run, start}
-use Rattle.gj_rules.specs.Internal.LabelledEvents.{Told, plain, told, elements_told, members_told, mark_told, text_told}
-use Rattle.gj_rules.specs.Internal.FeatureSteps.{TimedFeature, heard, seen, named_by, starts_at, feature_of, feature_found, timed_from, no_count}
+use Rattle.gj_rules.specs.declared.mode.Mode.TheVariants.{Elements}
+use Rattle.gj_rules.specs.FeatureFindings.{place_if}
+use Rattle.gj_rules.specs.Internal.FrameCalls.{named, due_after, filled, member_taken, members_taken}
+use Rattle.gj_rules.specs.Internal.TextKept.{kept}
+use Rattle.gj_rules.specs.Internal.FeatureSteps.{TimedFeature, seen, named_by, feature_of, feature_found, timed_from}
 use Rattle.gj_rules.proofs.Features.OwnText.{is_features}
 use Rattle.gj_rules.proofs.Objects.AllMembers.{member_object, named_object}
 use Rattle.gj_rules.proofs.Objects.ClosedFrames.{all_closed}
@@ -126,8 +113,7 @@ no_more_id (Some place) = refl
 one_more_id : (k : Known) (d : Option ℕ) (v : Tree) (o : Option Tree)
     → id_from (seen (named_by k d false) (place_of v) d) o ≡ id_from d (if same Id k then Some v else o)
 one_more_id Id (Some place) v o = refl
-one_more_id Id None v o = refl
-one_more_id _ d v o = refl
+one_more_id other another v o = refl
 
 members_seen : (ms : Members) (rest : List Told) (s : State) (i p : ℕ) (d : Option ℕ)
     → heard (members_told ms ++ rest) s (at_stage Stage.Element i p d false) ≡ heard rest (run (members_told ms) s)

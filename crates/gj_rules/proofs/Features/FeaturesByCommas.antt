@@ -1,20 +1,18 @@
 -- A comma stands between two features of a text: in a run of its bytes at most one more is complete than it has commas.
-use Rattle.std.proofs.Common.{◌≡◌, ℕ, zero, suc, ◌+◌, ◌-◌, ◌<◌, ◌≤◌, nat_le, Bool, true, false, cond, if◌then◌else◌, List, [], ◌∷◌, ◌++◌, length, take}
-use Rattle.std.proofs.Common.{append_assoc, Option, Some, refl, ap, sym, subst, ◌∙◌, arith}
-use Rattle.std.proofs.lemmas.Bool.Decides.{nat_tests}
-use Rattle.std.proofs.lemmas.List.{length-append, take-append-le, take_all}
+use Rattle.gj_rules.proofs.Common.{Bool, Features, IsText, List, Members, Spells, SpellsElements, SpellsMembers, SpellsMoreElements}
+use Rattle.gj_rules.proofs.Common.{SpellsMoreMembers, Text, Tree, ap, append_assoc, arith, array, complete_at, complete_in, constant, element}
+use Rattle.gj_rules.proofs.Common.{elements_if, elements_of, end_of_array, end_of_object, false, features_of, findings_by, first_value, if◌then◌else◌}
+use Rattle.gj_rules.proofs.Common.{items, length, member, nat_le, nat_tests, number, object, refl, same, string, subst, suc, sym, take, take_all}
+use Rattle.gj_rules.proofs.Common.{true, zero, [], ◌++◌, ◌+◌, ◌-◌, ◌<◌, ◌∙◌, ◌∷◌, ◌≤◌}
+use Rattle.std.proofs.Common.{◌≡◌, ℕ, cond}
+use Rattle.std.proofs.Common.{Option, Some}
+use Rattle.std.proofs.lemmas.List.{length-append, take-append-le}
 use Rattle.std.proofs.lemmas.List.Sums.{sum_by-cons, sum_by-append}
 use Rattle.gj_json.specs.Bytes.{comma}
-use Rattle.gj_json.specs.declared.names.Known.TheVariants.{Features}
-use Rattle.gj_json.specs.Grammar.{Then, White, Spells, SpellsElements, SpellsMoreElements, SpellsMembers, SpellsMoreMembers}
+use Rattle.gj_json.specs.Grammar.{Then, White}
 use Rattle.gj_json.specs.Names.{known_of}
-use Rattle.gj_json.specs.Text.{IsText}
 use Rattle.gj_json.specs.Tree as Tree
-use Rattle.gj_json.specs.Tree.{Tree, constant, number, string, array, object, end_of_array, element, Members, end_of_object, member, Text}
-use Rattle.gj_coords.specs.Items.{items, elements_of}
-use Rattle.gj_rules.specs.FeatureFindings.{complete_at, complete_in, elements_if, features_of, findings_by, is_comma, commas}
-use Rattle.gj_rules.specs.Members.{same}
-use Rattle.gj_rules.specs.TextWarnings.{first_value}
+use Rattle.gj_rules.specs.FeatureFindings.{is_comma, commas}
 use Rattle.gj_rules.proofs.Features.FeaturesInTime.{complete_within, as_many}
 
 -- ---- how many commas stand in the first bytes
@@ -150,10 +148,7 @@ spaced_elements m q (element v more) close n bytes l h =
 spaced_in_value : (m q : ℕ) (v : Tree) (n : ℕ) (bytes : List ℕ) → m ≤ q → Spells v n bytes → Spaced m q n bytes (elements_of v)
 spaced_in_value m q (array place es close) n bytes l h =
     spaced_rest m q (items es) h.1 l (spaced_rest m q (items es) h.1.after l (spaced_elements m q es close _ _ l h.1.after.after))
-spaced_in_value m q (constant which place) n bytes l h = none_spaced m q n bytes l
-spaced_in_value m q (number place literal end) n bytes l h = none_spaced m q n bytes l
-spaced_in_value m q (string place content end) n bytes l h = none_spaced m q n bytes l
-spaced_in_value m q (object place ms close) n bytes l h = none_spaced m q n bytes l
+spaced_in_value m q other n bytes l h = none_spaced m q n bytes l
 
 spaced_if : (m q n : ℕ) (bytes : List ℕ) (b : Bool) (v : Tree) (o : Option Tree) → Spaced m q n bytes (elements_of v) → Spaced m q n bytes (elements_if o)
     → Spaced m q n bytes (elements_if (if b then Some v else o))
@@ -199,10 +194,7 @@ spaced_features : (m q : ℕ) (v : Tree) (n : ℕ) (bytes : List ℕ) → m ≤ 
 spaced_features m q (object place ms close) n bytes l h =
     let found = elements_if (first_value Features ms) in
     spaced_rest m q found h.1 l (spaced_rest m q found h.1.after l (spaced_members m q ms close _ _ l h.1.after.after))
-spaced_features m q (constant which place) n bytes l h = none_spaced m q n bytes l
-spaced_features m q (number place literal end) n bytes l h = none_spaced m q n bytes l
-spaced_features m q (string place content end) n bytes l h = none_spaced m q n bytes l
-spaced_features m q (array place es close) n bytes l h = none_spaced m q n bytes l
+spaced_features m q other n bytes l h = none_spaced m q n bytes l
 
 spaced_text : (text : Text) (bytes : List ℕ) (m q : ℕ) → IsText text bytes → m ≤ q → Spaced m q 0 bytes (features_of text.value)
 spaced_text text bytes m q t l =

@@ -1,16 +1,13 @@
 -- At most one feature of a text is complete with each of its bytes.
-use Rattle.std.proofs.Common.{◌≡◌, ℕ, suc, ◌+◌, ◌-◌, ◌<◌, ◌≤◌, nat_le, Bool, true, false, if◌then◌else◌, List, [], ◌∷◌, length, Option, Some, refl, ap, arith}
-use Rattle.std.proofs.lemmas.Bool.Decides.{nat_tests}
-use Rattle.gj_json.specs.declared.names.Known.TheVariants.{Features}
-use Rattle.gj_json.specs.Grammar.{letters_of, Spells, SpellsElements, SpellsMoreElements, SpellsMembers, SpellsMoreMembers}
+use Rattle.gj_rules.proofs.Common.{Bool, Features, IsText, List, Members, Spells, SpellsElements, SpellsMembers, SpellsMoreElements}
+use Rattle.gj_rules.proofs.Common.{SpellsMoreMembers, Text, Tree, ap, arith, array, complete_at, complete_in, constant, element, elements_if}
+use Rattle.gj_rules.proofs.Common.{elements_of, end_of_array, end_of_object, false, features_of, findings_by, findings_from, first_value}
+use Rattle.gj_rules.proofs.Common.{if◌then◌else◌, items, length, member, nat_le, nat_tests, number, object, refl, same, string, suc, true, [], ◌+◌}
+use Rattle.gj_rules.proofs.Common.{◌-◌, ◌<◌, ◌∷◌, ◌≤◌}
+use Rattle.std.proofs.Common.{◌≡◌, ℕ, Option, Some}
+use Rattle.gj_json.specs.Grammar.{letters_of}
 use Rattle.gj_json.specs.Names.{known_of}
-use Rattle.gj_json.specs.Text.{IsText}
 use Rattle.gj_json.specs.Tree as Tree
-use Rattle.gj_json.specs.Tree.{Tree, constant, number, string, array, object, end_of_array, element, Members, end_of_object, member, Text}
-use Rattle.gj_coords.specs.Items.{items, elements_of}
-use Rattle.gj_rules.specs.FeatureFindings.{complete_at, complete_in, elements_if, features_of, findings_from, findings_by}
-use Rattle.gj_rules.specs.Members.{same}
-use Rattle.gj_rules.specs.TextWarnings.{first_value}
 use Rattle.gj_rules.proofs.Texts.EventOrder.{then_length, ends_at, quoted_ends, closed_at}
 use Rattle.gj_json.proofs.Events.EventTimes.{constant_long}
 
@@ -104,10 +101,7 @@ rising_elements (element v more) close n bytes h =
 
 rising_value : (v : Tree) (n : ℕ) (bytes : List ℕ) → Spells v n bytes → Rising 0 (elements_of v)
 rising_value (array place es close) n bytes h = rising_from 0 _ (items es) (omega arith) (rising_elements es close _ _ h.1.after.after)
-rising_value (constant which place) n bytes h = tt
-rising_value (number place literal end) n bytes h = tt
-rising_value (string place content end) n bytes h = tt
-rising_value (object place ms close) n bytes h = tt
+rising_value other n bytes h = tt
 
 rising_first : (b : Bool) (v : Tree) (o : Option Tree) → Rising 0 (elements_of v) → Rising 0 (elements_if o) → Rising 0 (elements_if (if b then Some v else o))
 rising_first true v o h k = h
@@ -129,10 +123,7 @@ rising_members (member place name end v more) close n bytes h =
 
 rising_features : (v : Tree) (n : ℕ) (bytes : List ℕ) → Spells v n bytes → Rising 0 (features_of v)
 rising_features (object place ms close) n bytes h = rising_members ms close _ _ h.1.after.after
-rising_features (constant which place) n bytes h = tt
-rising_features (number place literal end) n bytes h = tt
-rising_features (string place content end) n bytes h = tt
-rising_features (array place es close) n bytes h = tt
+rising_features other n bytes h = tt
 
 -- ---- how many are complete
 

@@ -1,31 +1,18 @@
 -- What is reported of features says what is found in them.
-use Rattle.std.proofs.Common.{◌≡◌, ℕ, suc, ◌+◌, ◌<◌, ◌^◌, nat_le, Bool, true, false, if◌then◌else◌, List, [], ◌∷◌, ◌++◌, length, length-append, Option, Some}
-use Rattle.std.proofs.Common.{None, refl, sym, arith}
-use Rattle.std.proofs.lemmas.List.{length-map}
-use Rattle.std.specs.List.{AllByRecursion}
+use Rattle.gj_rules.proofs.Common.{AllByRecursion, Bool, Fault, Features, List, Members, Role, Simple, Text, Tree, Warning, Warnings, all_events}
+use Rattle.gj_rules.proofs.Common.{arith, array, complete_at, complete_in, constant, coordinates_kept, coordinates_warnings, element, elements_events}
+use Rattle.gj_rules.proofs.Common.{elements_if, elements_of, end_of_array, end_of_object, events, false, faults, feature_findings, features_by}
+use Rattle.gj_rules.proofs.Common.{features_from, features_of, findings_by, findings_from, first_value, if◌then◌else◌, items, least, length}
+use Rattle.gj_rules.proofs.Common.{length-map, mark_events, member, members_events, nat_le, number, object, refl, same, string, suc, sym, text_events}
+use Rattle.gj_rules.proofs.Common.{timed, true, value_events, warnings, warnings_of, warnings_of_none, [], ◌++◌, ◌+◌, ◌<◌, ◌^◌, ◌∷◌}
+use Rattle.std.proofs.Common.{◌≡◌, ℕ, length-append, Option, Some}
+use Rattle.std.proofs.Common.{None}
 use Rattle.gj_json.specs.declared.event.What.TheVariants as What
-use Rattle.gj_json.specs.declared.names.Known.TheVariants.{Features}
-use Rattle.gj_json.specs.Events.{timed, events, elements_events, members_events, mark_events, text_events, all_events, value_events}
 use Rattle.gj_json.specs.Names.{known_of}
 use Rattle.gj_json.specs.Tree as Tree
-use Rattle.gj_json.specs.Tree.{Tree, constant, number, string, array, object, end_of_array, element, Members, end_of_object, member, Text}
-use Rattle.gj_coords.specs.declared.fault.Fault.{Fault}
-use Rattle.gj_coords.specs.declared.simple.Simple.{Simple}
-use Rattle.gj_coords.specs.declared.warnings.Warnings.{Warnings}
-use Rattle.gj_coords.specs.CoordinateWarnings.{coordinates_warnings}
-use Rattle.gj_coords.specs.Fault.{least}
-use Rattle.gj_coords.specs.Internal.CoordinatesKept.{coordinates_kept}
-use Rattle.gj_coords.specs.Internal.KeptWarnings.{warnings_of}
-use Rattle.gj_coords.specs.Internal.WarningLaws.{warnings_of_none}
-use Rattle.gj_coords.specs.Items.{items, elements_of}
-use Rattle.gj_coords.specs.Warnings.{Warning}
-use Rattle.gj_rules.specs.declared.role.Role.{Role}
-use Rattle.gj_rules.specs.Faults.{faults}
-use Rattle.gj_rules.specs.FeatureFindings.{unless_broken, elements_if, features_of, findings_from, findings_by, feature_findings, complete_at, complete_in}
+use Rattle.gj_rules.specs.FeatureFindings.{unless_broken}
 use Rattle.gj_rules.specs.FeaturesTold.{SayFindings}
-use Rattle.gj_rules.specs.Internal.FeatureSteps.{kept_unless, features_from, features_by}
-use Rattle.gj_rules.specs.Members.{same}
-use Rattle.gj_rules.specs.TextWarnings.{first_value, warnings}
+use Rattle.gj_rules.specs.Internal.FeatureSteps.{kept_unless}
 use Rattle.gj_rules.proofs.Objects.WarningsKept.{value_is}
 
 -- ---- each feature of a text has no more events than the text
@@ -41,10 +28,7 @@ few_elements (element v more) h =
 
 few_in : (v : Tree) → length (events v) < 2 ^ 64 → AllFew (elements_of v)
 few_in (array place es close) h = few_elements es (omega (arith, h, length-append (elements_events es) (timed (close + 1) close What.CloseArray ∷ [])))
-few_in (constant which place) h = tt
-few_in (number place literal end) h = tt
-few_in (string place content end) h = tt
-few_in (object place ms close) h = tt
+few_in other h = tt
 
 few_members : (ms : Members) → length (members_events ms) < 2 ^ 64 → AllFew (elements_if (first_value Features ms))
 few_members end_of_object h = tt
@@ -59,10 +43,7 @@ few_members (member place name end v more) h =
 
 few_features : (v : Tree) → length (events v) < 2 ^ 64 → AllFew (features_of v)
 few_features (object place ms close) h = few_members ms (omega (arith, h, length-append (members_events ms) (timed (close + 1) close What.CloseObject ∷ [])))
-few_features (constant which place) h = tt
-few_features (number place literal end) h = tt
-few_features (string place content end) h = tt
-few_features (array place es close) h = tt
+few_features other h = tt
 
 few_complete : (n : ℕ) (vs : List Tree) → AllFew vs → AllFew (complete_in n vs)
 few_complete n [] h = tt

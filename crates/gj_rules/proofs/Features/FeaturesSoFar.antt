@@ -1,30 +1,17 @@
 -- What the events in the first bytes of a text report of its features, and what one event more reports.
-use Rattle.std.proofs.Common.{◌≡◌, ℕ, zero, suc, ◌+◌, ◌<◌, ◌≤◌, ◌^◌, nat_le, Bool, true, false, List, [], ◌∷◌, ◌++◌, map, length, Option, inl, inr, refl, sym}
-use Rattle.std.proofs.Common.{ap, subst, ◌∙◌, arith, append_assoc, append-nil}
-use Rattle.std.proofs.lemmas.Bool.{cases_lt}
-use Rattle.std.proofs.lemmas.Bool.Decides.{nat_tests}
-use Rattle.std.proofs.lemmas.List.{map-append, length-append, length-map}
-use Rattle.std.specs.List.{AllByRecursion}
-use Rattle.std.specs.Option.{option_to_list}
-use Rattle.gj_json.specs.declared.event.Event.{Event}
-use Rattle.gj_json.specs.declared.event.What.{What}
+use Rattle.gj_rules.proofs.Common.{AllByRecursion, Bool, Core, Event, FeatureCount, FeaturesAre, FramedRules, IsText, List, MOST_FRAMES, Stage, Stand}
+use Rattle.gj_rules.proofs.Common.{State, Text, Told, Tree, What, all_events, ap, append_assoc, arith, at_of, by, cases_lt, complete_at, complete_in}
+use Rattle.gj_rules.proofs.Common.{core_of, count_at, depth, event_of, events_by, false, features_by, features_from, features_of, heard, inl, inr}
+use Rattle.gj_rules.proofs.Common.{length, length-map, list_step, map, map-append, most_levels, nat_le, nat_tests, no_count, option_to_list, refl}
+use Rattle.gj_rules.proofs.Common.{run, start, starts_at, step, subst, suc, sym, tells_at, text_told, true, zero, [], ◌++◌, ◌+◌, ◌<◌, ◌^◌, ◌∙◌, ◌∷◌}
+use Rattle.gj_rules.proofs.Common.{◌≤◌}
+use Rattle.std.proofs.Common.{◌≡◌, ℕ, Option}
+use Rattle.std.proofs.Common.{append-nil}
+use Rattle.std.proofs.lemmas.List.{length-append}
 use Rattle.gj_json.specs.Events as E
-use Rattle.gj_json.specs.Events.{all_events, events_by, by}
-use Rattle.gj_json.specs.Text.{IsText}
-use Rattle.gj_json.specs.Tree.{Tree, Text, depth}
-use Rattle.gj_rules.specs.Levels.{most_levels}
 use Rattle.gj_rules.specs.declared.feature.Feature.{Feature}
-use Rattle.gj_rules.specs.declared.feature_count.FeatureCount.{FeatureCount}
-use Rattle.gj_rules.specs.declared.feature_count.Stage.{Stage}
-use Rattle.gj_rules.specs.declared.rules.FramedRules.{FramedRules}
-use Rattle.gj_rules.specs.declared.rules.TheConstants.{MOST_FRAMES}
-use Rattle.gj_rules.specs.FeatureFindings.{complete_at, complete_in, features_of}
-use Rattle.gj_rules.specs.Internal.RulesState.{core_of}
-use Rattle.gj_rules.specs.Internal.EventSteps.{Core, State, step, run, start}
-use Rattle.gj_rules.specs.Internal.LabelledEvents.{Told, event_of, at_of, text_told}
-use Rattle.gj_rules.specs.Internal.FeatureSteps.{TimedFeature, heard, count, counted, count_at, stage_step, outside_step, root_step, list_step, element_step}
-use Rattle.gj_rules.specs.Internal.FeatureSteps.{inner_step, tells, tells_at, timed_at, timed_from, feature_of, features_from, features_by, features_in}
-use Rattle.gj_rules.specs.Internal.FeatureSteps.{no_count, starts_at, FeaturesAre, Stand}
+use Rattle.gj_rules.specs.Internal.FeatureSteps.{TimedFeature, count, counted, stage_step, outside_step, root_step, element_step}
+use Rattle.gj_rules.specs.Internal.FeatureSteps.{inner_step, tells, timed_at, timed_from, feature_of, features_in}
 use Rattle.gj_rules.proofs.Features.FeatureEvents.{text_heard}
 use Rattle.gj_rules.proofs.Texts.EventOrder.{Late, InOrder, late_after, by_late, by_in_time, in_order, InTime}
 use Rattle.gj_rules.proofs.Texts.OneEventMore.{last_told, none_told}
@@ -151,10 +138,7 @@ Grows c d = (d.inner ≤ c.inner + 1) × (d.index ≤ c.index + 1)
 
 inner_grows : (what : What) (k : ℕ) → inner_step what k ≤ suc k + 1
 inner_grows What.OpenObject k = omega arith
-inner_grows What.OpenArray k = omega arith
-inner_grows What.CloseObject k = omega arith
-inner_grows What.CloseArray k = omega arith
-inner_grows _ k = omega arith
+inner_grows other k = omega arith
 
 outside_grows : (what : What) (c : FeatureCount) → Grows c (outside_step what c)
 outside_grows What.OpenArray c = (omega arith, omega arith)
@@ -162,8 +146,7 @@ outside_grows _ c = (omega arith, omega arith)
 
 root_grows : (what : What) (b : Bool) (c : FeatureCount) → Grows c (root_step what b c)
 root_grows What.OpenArray true c = (omega arith, omega arith)
-root_grows What.OpenArray false c = (omega arith, omega arith)
-root_grows _ b c = (omega arith, omega arith)
+root_grows other another c = (omega arith, omega arith)
 
 list_grows : (what : What) (place : ℕ) (c : FeatureCount) → Grows c (list_step what place c)
 list_grows What.OpenObject place c = (omega arith, omega arith)

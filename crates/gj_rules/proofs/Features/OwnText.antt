@@ -1,18 +1,16 @@
 -- A text without its features has the members of the text, but for the elements of `features`.
-use Rattle.std.proofs.Common.{◌≡◌, ℕ, Bool, true, false, List, ◌∷◌, ◌++◌, refl, ap, ◌∙◌}
-use Rattle.std.specs.List.{flat_map}
+use Rattle.gj_rules.proofs.Common.{Bool, Features, G8, List, Members, Role, Tree, TypeName, all_faults, ap, array, constant, crs_warnings, element}
+use Rattle.gj_rules.proofs.Common.{elements_if, elements_of, end_of_array, end_of_object, false, faults, first, first_value, first_warnings, flat_map}
+use Rattle.gj_rules.proofs.Common.{items, member, number, object, refl, repeated, same, string, true, warnings, ◌++◌, ◌∙◌, ◌∷◌}
+use Rattle.std.proofs.Common.{◌≡◌, ℕ}
 use Rattle.gj_json.specs.declared.names.Known.{Known}
-use Rattle.gj_json.specs.declared.names.Known.TheVariants.{TypeName, Features, Bbox}
+use Rattle.gj_json.specs.declared.names.Known.TheVariants.{Bbox}
 use Rattle.gj_json.specs.Names.{known_of}
 use Rattle.gj_json.specs.Tree as Tree
-use Rattle.gj_json.specs.Tree.{Tree, constant, number, string, array, object, end_of_array, element, Members, end_of_object, member}
-use Rattle.gj_coords.specs.declared.fault.Rule.TheVariants.{G8}
-use Rattle.gj_coords.specs.Items.{items, elements_of}
-use Rattle.gj_rules.specs.declared.role.Role.{Role}
-use Rattle.gj_rules.specs.Members.{same, first_type, repeated}
-use Rattle.gj_rules.specs.Faults.{faults, listed, all_faults, first, due}
-use Rattle.gj_rules.specs.TextWarnings.{crs_warnings, first_value, first_warnings, list_warnings, all_warnings, warnings}
-use Rattle.gj_rules.specs.FeatureFindings.{elements_if, emptied, members_emptied}
+use Rattle.gj_rules.specs.Members.{first_type}
+use Rattle.gj_rules.specs.Faults.{listed, due}
+use Rattle.gj_rules.specs.TextWarnings.{list_warnings, all_warnings}
+use Rattle.gj_rules.specs.FeatureFindings.{emptied, members_emptied}
 
 pub is_features : (k : Known) → same Features k ≡ true → k ≡ Features
 is_features Features e = refl
@@ -84,17 +82,11 @@ warnings_each (element v more) = ap (λ xs. warnings Role.Feature v ++ xs) (warn
 
 listed_each : (v : Tree) → listed Role.Feature v ≡ listed Role.Feature (emptied v) ++ flat_map (λ v. faults Role.Feature v) (elements_of v)
 listed_each (array place es close) = faults_each es
-listed_each (constant which place) = refl
-listed_each (number place literal end) = refl
-listed_each (string place content end) = refl
-listed_each (object place ms close) = refl
+listed_each other = refl
 
 warned_each : (v : Tree) → list_warnings Role.Feature v ≡ list_warnings Role.Feature (emptied v) ++ flat_map (λ v. warnings Role.Feature v) (elements_of v)
 warned_each (array place es close) = warnings_each es
-warned_each (constant which place) = refl
-warned_each (number place literal end) = refl
-warned_each (string place content end) = refl
-warned_each (object place ms close) = refl
+warned_each other = refl
 
 pub due_each : (place : ℕ) (ms : Members)
     → due place G8 (first Features ms) ≡ due place G8 (first Features (members_emptied ms)) ++ flat_map (λ v. faults Role.Feature v)

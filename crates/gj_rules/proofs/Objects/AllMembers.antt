@@ -1,25 +1,15 @@
 -- What all members do to what an object has shown.
-use Rattle.std.proofs.Common.{◌≡◌, ℕ, Bool, true, false, ◌&&◌, if◌then◌else◌, List, [], ◌∷◌, Option, Some, None, is_some, refl, sym, ap, subst, ◌∙◌}
+use Rattle.gj_rules.proofs.Common.{Bool, Coordinates, Fault, First, List, MemberSlots, Members, Role, Shapes, Slot, Tree, TypeName, TypeValue, ap}
+use Rattle.gj_rules.proofs.Common.{asked, due_known, end_of_object, false, first, if◌then◌else◌, is_known, is_some, joined_to, judge, least}
+use Rattle.gj_rules.proofs.Common.{least-append, lesser, lesser-none, lesser_assoc, member, mentions, named_known, one, place_of, refl, repeated}
+use Rattle.gj_rules.proofs.Common.{same, shapes_of, slot_of, subst, sym, true, type_of, uses, [], ◌&&◌, ◌∙◌, ◌∷◌}
+use Rattle.std.proofs.Common.{◌≡◌, ℕ, Option, Some, None}
 use Rattle.gj_json.specs.declared.names.Known.{Known}
-use Rattle.gj_json.specs.declared.names.Known.TheVariants.{TypeName, Coordinates}
-use Rattle.gj_coords.specs.declared.fault.Fault.{Fault}
-use Rattle.gj_rules.specs.declared.role.Role.{Role}
-use Rattle.gj_rules.specs.declared.member_slots.Slot.{Slot}
-use Rattle.gj_rules.specs.declared.member_slots.TypeValue.{TypeValue}
-use Rattle.gj_rules.specs.Internal.FrameMeaning.{MemberSlots}
-use Rattle.gj_coords.specs.Fault.{lesser, least}
-use Rattle.gj_rules.specs.Internal.OpenMembers.{slot_of, joined_to, uses, named, named_known, due_known, due_after}
-use Rattle.gj_rules.specs.Internal.FrameMeaning.{Shapes}
-use Rattle.gj_rules.specs.Internal.Summaries.{shapes_of, asked}
-use Rattle.gj_json.specs.Tree.{Tree, Members, end_of_object, member}
-use Rattle.gj_rules.specs.Faults.{First, first}
-use Rattle.gj_rules.specs.Internal.OpenMembers.{judge}
-use Rattle.gj_coords.specs.Items.{place_of}
+use Rattle.gj_rules.specs.Internal.OpenMembers.{named, due_after}
 use Rattle.gj_coords.specs.declared.fault.Rule.TheVariants.{G10}
-use Rattle.gj_rules.specs.Members.{is_known, same, type_of, first_type, repeated, mentions, one}
+use Rattle.gj_rules.specs.Members.{first_type}
 use Rattle.gj_json.specs.Names.{known_of}
 use Rattle.gj_rules.specs.Internal.OpenMembers.{filled, member_taken, members_taken}
-use Rattle.gj_coords.specs.Internal.LeastLaws.{lesser-none, lesser_assoc, least-append}
 use Rattle.gj_rules.proofs.Objects.AskedShapes.{TypeStays, asked_twice}
 use Rattle.gj_rules.proofs.Objects.OneMember.{due_other, slot-other, slot-own, or_slot, slot_from}
 use Rattle.gj_rules.proofs.Objects.MemberSlots.{same_is}
@@ -46,8 +36,7 @@ filled_object m v f = joined_object m (least (judge m v)) (slot_of m f) f
 
 pub named_object : (m : Known) (place : ℕ) (f : MemberSlots) (k : Bool) (o : Option Slot) → IsSameObject f (if k then named_known m place o f else f)
 named_object m place f true (Some slot) = record { place = refl; role = refl }
-named_object m place f true None = record { place = refl; role = refl }
-named_object m place f false o = record { place = refl; role = refl }
+named_object m place f other another = record { place = refl; role = refl }
 
 pub member_object : (m : Known) (place : ℕ) (v : Tree) (f : MemberSlots) → IsSameObject f (member_taken place m v f)
 member_object m place v f =
@@ -106,8 +95,7 @@ filled_type m v f e = ap (λ (g : MemberSlots). g.type_value) (joined_slots m (l
 
 pub named_type : (m : Known) (place : ℕ) (f : MemberSlots) (k : Bool) (o : Option Slot) → (if k then named_known m place o f else f).type_value ≡ f.type_value
 named_type m place f true (Some slot) = refl
-named_type m place f true None = refl
-named_type m place f false o = refl
+named_type m place f other another = refl
 
 type_other : (m : Known) (place : ℕ) (v : Tree) (f : MemberSlots) → same TypeName m ≡ false → (member_taken place m v f).type_value ≡ f.type_value
 type_other m place v f e = filled_type (due_after m f) v (named m place f) (due_other TypeName m (is_known m) (uses f.role m) (slot_of m f) f.role refl refl e)
@@ -191,8 +179,7 @@ filled_shapes m v f e = ap (λ (g : MemberSlots). g.shapes) (joined_slots m (lea
 
 pub named_shapes : (m : Known) (place : ℕ) (f : MemberSlots) (k : Bool) (o : Option Slot) → (if k then named_known m place o f else f).shapes ≡ f.shapes
 named_shapes m place f true (Some slot) = refl
-named_shapes m place f true None = refl
-named_shapes m place f false o = refl
+named_shapes m place f other another = refl
 
 shapes_other : (m : Known) (place : ℕ) (v : Tree) (f : MemberSlots) → same Coordinates m ≡ false → (member_taken place m v f).shapes ≡ f.shapes
 shapes_other m place v f e =
@@ -267,8 +254,7 @@ again known before place = if known && before then one place G10 else []
 named_repeated : (m : Known) (place : ℕ) (f : MemberSlots) (k : Bool) (o : Option Slot)
     → (if k then named_known m place o f else f).repeated ≡ lesser f.repeated (least (again k (is_some o) place))
 named_repeated m place f true (Some slot) = refl
-named_repeated m place f true None = sym (lesser-none f.repeated)
-named_repeated m place f false o = sym (lesser-none f.repeated)
+named_repeated m place f other another = sym (lesser-none f.repeated)
 
 -- the names of the slots that are set
 pub record Mentions (before : List Known) (f : MemberSlots) : Type 0 where

@@ -1,19 +1,10 @@
 -- What an object asks for of what is found in its coordinates, by its type.
+use Rattle.gj_rules.proofs.Common.{Findings, Shapes, Simple, Tree, TypeValue, Warnings, Word, alike, ap, asked, asked_as, coordinates_faults}
+use Rattle.gj_rules.proofs.Common.{joined_none_last, least, no_shapes, refl, shape_for, shapes_of, simple_of, subst, sym, warned_for, ◌∙◌}
 use Rattle.std.specs.Prelude.{◌≡◌, Option, Some, None}
-use Rattle.std.proofs.Common.{refl, ap, subst, sym, ◌∙◌}
-use Rattle.gj_json.specs.declared.names.Word.{Word}
-use Rattle.gj_json.specs.Tree.{Tree}
-use Rattle.gj_coords.specs.declared.simple.Simple.{Simple}
-use Rattle.gj_coords.specs.declared.warnings.Warnings.{Warnings}
-use Rattle.gj_coords.specs.Fault.{least}
-use Rattle.gj_coords.specs.Shape.{coordinates_faults}
 use Rattle.gj_coords.specs.Internal.KeptWarnings.{no_warnings, joined}
-use Rattle.gj_coords.specs.Internal.WarningLaws.{joined_none_last}
 use Rattle.gj_coords.proofs.Lists.KeptOfShortValues.{line_kept}
-use Rattle.gj_rules.specs.declared.member_slots.TypeValue.{TypeValue}
-use Rattle.gj_rules.specs.Internal.FrameMeaning.{Findings, Shapes}
-use Rattle.gj_rules.specs.Internal.Summaries.{no_shapes, shape_for, warned_for, found_as, shapes_of, shape_found, alike, asked_as, asked}
-use Rattle.gj_rules.specs.Members.{simple_of}
+use Rattle.gj_rules.specs.Internal.Summaries.{found_as, shape_found}
 
 -- ---- none is kept: there is no fault for any type, and no warning
 
@@ -41,8 +32,7 @@ one_warned _ found = refl
 pub found_is : (simple : Simple) (value : Tree) → shape_found simple (shapes_of value) ≡ found_as simple value
 found_is Simple.LineString value =
     ap (λ (w : Warnings). record { fault = least (coordinates_faults Simple.LineString value); warned = w }) (line_kept value)
-found_is Simple.Point value = refl
-found_is _ value = refl
+found_is other value = refl
 
 pub asked_is : (simple : Simple) (value : Tree) → asked_as (Some simple) (shapes_of value) ≡ alike (found_as simple value)
 asked_is simple value = ap alike (found_is simple value)

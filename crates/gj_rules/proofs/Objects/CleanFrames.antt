@@ -1,27 +1,22 @@
 -- An object in which nothing is found changes nothing around it.
-use Rattle.std.proofs.Common.{◌≡◌, ◌<◌, ℕ, zero, suc, ◌-◌, List, [], ◌∷◌, map, reverse, length, get_or, take, Bool, true, false, if◌then◌else◌, Option, Some}
-use Rattle.std.proofs.Common.{None, refl, sym, ap, ◌∙◌, arith}
+use Rattle.gj_rules.proofs.Common.{Bool, Core, Features, Frame, Geometries, Geometry, List, MemberSlots, MemberWarnings, Role, Simple, TypeValue}
+use Rattle.gj_rules.proofs.Common.{Warnings, Word, ap, arith, false, frame_in, gathered, get_or, if◌then◌else◌, is_allowed, joined_none_last, length}
+use Rattle.gj_rules.proofs.Common.{map, member_of, mode_behind, refl, reverse, settled, suc, sym, take, taken_in, true, warned_for, zero, [], ◌-◌}
+use Rattle.gj_rules.proofs.Common.{◌<◌, ◌∙◌, ◌∷◌}
+use Rattle.std.proofs.Common.{◌≡◌, ℕ, Option, Some}
+use Rattle.std.proofs.Common.{None}
 use Rattle.std.proofs.Math.Seq.{take-suc}
 use Rattle.std.proofs.lemmas.List.{reverse-append}
 use Rattle.gj_json.specs.declared.names.Known.{Known}
-use Rattle.gj_json.specs.declared.names.Known.TheVariants.{Geometries, Geometry, Features, Bbox}
-use Rattle.gj_json.specs.declared.names.Word.{Word}
-use Rattle.gj_coords.specs.declared.simple.Simple.{Simple}
-use Rattle.gj_coords.specs.declared.warnings.Warnings.{Warnings}
+use Rattle.gj_json.specs.declared.names.Known.TheVariants.{Bbox}
 use Rattle.gj_coords.specs.Internal.KeptWarnings.{no_warnings, joined}
-use Rattle.gj_coords.specs.Internal.WarningLaws.{joined_none_last}
 use Rattle.gj_rules.specs.declared.frame.Frame as D
-use Rattle.gj_rules.specs.declared.role.Role.{Role}
-use Rattle.gj_rules.specs.declared.member_slots.TypeValue.{TypeValue}
-use Rattle.gj_rules.specs.Internal.FrameCalls.{collected, warned_as, warned_by, settled, is_collection, is_nested, taken_in}
-use Rattle.gj_rules.specs.Internal.EventSteps.{Core, member_of, mode_behind, popped}
-use Rattle.gj_rules.specs.Internal.FrameReading.{frame_in}
+use Rattle.gj_rules.specs.Internal.FrameCalls.{collected, warned_as, warned_by, is_collection, is_nested}
+use Rattle.gj_rules.specs.Internal.EventSteps.{popped}
 use Rattle.gj_rules.specs.Internal.RulesState.{no_frame}
-use Rattle.gj_rules.specs.Internal.FrameMeaning.{Frame, MemberWarnings, MemberSlots}
-use Rattle.gj_rules.specs.Internal.GatheredWarnings.{none_gathered, gathered}
+use Rattle.gj_rules.specs.Internal.GatheredWarnings.{none_gathered}
 use Rattle.gj_rules.specs.Internal.OpenMembers as S
-use Rattle.gj_rules.specs.Internal.Summaries.{none_found, warned_for}
-use Rattle.gj_rules.specs.Role.{is_allowed}
+use Rattle.gj_rules.specs.Internal.Summaries.{none_found}
 use Rattle.gj_rules.proofs.Objects.MemberSlots.{joined-none}
 
 -- ---- nothing is found where a few looks show it

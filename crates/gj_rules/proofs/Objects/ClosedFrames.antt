@@ -1,29 +1,17 @@
 -- At its close a frame reports what is found in its object.
-use Rattle.std.proofs.Common.{◌≡◌, ℕ, Bool, true, false, if◌then◌else◌, Option, Some, None, refl, sym, ap, ◌∙◌}
+use Rattle.gj_rules.proofs.Common.{Bool, Coordinates, Features, Findings, First, Frame, Geometries, Geometry, MemberSlots, Members, Role, Shapes}
+use Rattle.gj_rules.proofs.Common.{Simple, Tree, TypeValue, W7, Warnings, Word, added, and_kept, ap, asked, asked_as, blank, crs_warnings}
+use Rattle.gj_rules.proofs.Common.{end_of_object, false, faults, first, first_kept, first_value, if◌then◌else◌, is_allowed, joined_none_first, least}
+use Rattle.gj_rules.proofs.Common.{member, no_shapes, object, or_none, refl, same, settled, simple_of, sym, true, warned_for, warnings_of, ◌∙◌}
+use Rattle.std.proofs.Common.{◌≡◌, ℕ, Option, Some, None}
 use Rattle.gj_json.specs.declared.names.Known.{Known}
-use Rattle.gj_json.specs.declared.names.Known.TheVariants.{Coordinates, Geometries, Geometry, Features, Bbox}
-use Rattle.gj_json.specs.declared.names.Word.{Word}
+use Rattle.gj_json.specs.declared.names.Known.TheVariants.{Bbox}
 use Rattle.gj_json.specs.Names.{known_of}
-use Rattle.gj_json.specs.Tree.{Tree, Members, end_of_object, member, object}
-use Rattle.gj_coords.specs.declared.kind.Kind.TheVariants.{W7}
-use Rattle.gj_coords.specs.declared.simple.Simple.{Simple}
-use Rattle.gj_coords.specs.declared.warnings.Warnings.{Warnings}
-use Rattle.gj_coords.specs.Fault.{least}
-use Rattle.gj_coords.specs.Internal.KeptWarnings.{no_warnings, warnings_of, joined, added}
-use Rattle.gj_coords.specs.Internal.WarningLaws.{joined_none_first}
-use Rattle.gj_rules.specs.Internal.FrameMeaning.{Findings}
-use Rattle.gj_rules.specs.Internal.FrameMeaning.{Frame, Shapes, MemberSlots}
-use Rattle.gj_rules.specs.declared.role.Role.{Role}
-use Rattle.gj_rules.specs.declared.member_slots.TypeValue.{TypeValue}
-use Rattle.gj_rules.specs.Faults.{First, faults, first}
-use Rattle.gj_rules.specs.Internal.FrameCalls.{blank, warned_as, warned_by, settled, members_taken}
-use Rattle.gj_rules.specs.Members.{same, first_type}
-use Rattle.gj_rules.specs.Role.{is_allowed}
+use Rattle.gj_coords.specs.Internal.KeptWarnings.{no_warnings, joined}
+use Rattle.gj_rules.specs.Internal.FrameCalls.{warned_as, warned_by, members_taken}
+use Rattle.gj_rules.specs.Members.{first_type}
 use Rattle.gj_rules.specs.Internal.OpenMembers as S
-use Rattle.gj_rules.specs.Internal.Summaries.{no_shapes, warned_for, asked_as, asked}
-use Rattle.gj_rules.specs.Members.{simple_of}
-use Rattle.gj_rules.specs.Internal.TextKept.{or_none, and_kept, simple_kept, typed_kept, by_type_kept, kept, first_kept}
-use Rattle.gj_rules.specs.TextWarnings.{crs_warnings, first_value}
+use Rattle.gj_rules.specs.Internal.TextKept.{simple_kept, typed_kept, by_type_kept, kept}
 use Rattle.gj_rules.proofs.Objects.GatheredMembers.{gathered_from, gathered_after, own_after}
 use Rattle.gj_rules.proofs.Objects.AllMembers.{shapes_from}
 use Rattle.gj_rules.proofs.Objects.SettledObjects.{known_slots, ObjectMembers, shown_with, shown_after, asked_after, parts_of, closed}

@@ -1,12 +1,11 @@
 -- The least of some faults does not depend on their order.
+use Rattle.gj_rules.proofs.Common.{Bool, Fault, List, Rule, ap, arith, comes_first, false, least, least-append, lesser, lesser-none, lesser_assoc}
+use Rattle.gj_rules.proofs.Common.{nat_tests, refl, rules, sym, true, ◌++◌, ◌∙◌}
 use denote.Enum.Bare.{tag_one}
-use Rattle.std.proofs.Common.{◌≡◌, ℕ, Bool, true, false, List, ◌++◌, Option, Some, None, refl, sym, ap, ◌∙◌, arith, rules}
-use Rattle.std.proofs.lemmas.Bool.Decides.{nat_tests}
-use Rattle.gj_coords.specs.declared.fault.Fault.{Fault}
-use Rattle.gj_coords.specs.declared.fault.Rule.{Rule}
+use Rattle.std.proofs.Common.{◌≡◌, ℕ, Option, Some, None}
 use Rattle.gj_coords.specs.contracts.fault.Rule.{the_type}
-use Rattle.gj_coords.specs.Fault.{comes_first, lesser, least, number_of}
-use Rattle.gj_coords.specs.Internal.LeastLaws.{Tests, lesser-none, lesser_assoc, least-append}
+use Rattle.gj_coords.specs.Fault.{number_of}
+use Rattle.gj_coords.specs.Internal.LeastLaws.{Tests}
 
 -- where each comes before the other, they are the same
 both_first : (p r q s : ℕ) → Tests p r q s ≡ true → Tests q s p r ≡ true → (p ≡ q) × (r ≡ s)

@@ -1,16 +1,10 @@
 -- A summary that has not the whole value goes on with it.
-use Rattle.std.proofs.Common.{◌≡◌, ℕ, Bool, true, false, IsTrue, ◌↔◌, List, [], ◌∷◌, ◌++◌, refl, sym, ◌∙◌, subst, append-nil}
-use Rattle.gj_json.specs.Events.{value_events}
+use Rattle.gj_rules.proofs.Common.{Bool, Coordinates, Due, Event, Fed, FramedRules, Holds, HoldsIn, IsTrue, List, Mode, Tree, core_of, false, refl}
+use Rattle.gj_rules.proofs.Common.{subst, sym, true, value_events, [], ◌++◌, ◌∙◌, ◌∷◌}
+use Rattle.std.proofs.Common.{◌≡◌, ℕ, ◌↔◌, append-nil}
 use Rattle.gj_rules.specs.Internal.EventSteps.{ended_as}
-use Rattle.gj_json.specs.declared.event.Event.{Event}
-use Rattle.gj_json.specs.declared.names.Known.TheVariants.{Coordinates}
-use Rattle.gj_json.specs.Tree.{Tree}
 use Rattle.gj_coords.specs.declared.coordinates.Coordinates as C
 use Rattle.gj_coords.specs.declared.bbox.Bbox.{Bbox}
-use Rattle.gj_rules.specs.declared.mode.Mode.{Mode}
-use Rattle.gj_rules.specs.declared.mode.Mode.TheVariants.{Due}
-use Rattle.gj_rules.specs.declared.rules.FramedRules.{FramedRules}
-use Rattle.gj_rules.specs.Internal.RulesState.{core_of, Holds, HoldsIn, Fed}
 use Rattle.gj_rules.specs.Internal.Summaries.{StandsForCoordinates}
 
 pub held : (k : ℕ) (m : Mode) (c : C.Coordinates) (bbox : Bbox) (es : List Event) → k ≡ 0 → m ≡ Due Coordinates → HoldsIn k m c bbox es

@@ -1,27 +1,17 @@
 -- What all members make a frame gather.
-use Rattle.std.proofs.Common.{◌≡◌, ℕ, Bool, true, false, if◌then◌else◌, [], ◌∷◌, Option, Some, None, refl, sym, ap, subst, ◌∙◌}
+use Rattle.gj_rules.proofs.Common.{Bool, Crs, Features, First, Frame, Geometries, Geometry, MemberWarnings, Members, Other, Role, Slot, Tree, W9}
+use Rattle.gj_rules.proofs.Common.{Warnings, added_is, and_kept, ap, crs_warnings, due_known, end_of_object, false, first_kept, if◌then◌else◌}
+use Rattle.gj_rules.proofs.Common.{is_known, joined_assoc, joined_none_first, joined_none_last, judge, member, or_none, refl, same, slot_of, subst}
+use Rattle.gj_rules.proofs.Common.{sym, true, uses, warned_if, warning_at, warnings_of, warnings_of-append, warnings_of_none, [], ◌∙◌, ◌∷◌}
+use Rattle.std.proofs.Common.{◌≡◌, ℕ, Option, Some, None}
 use Rattle.gj_json.specs.declared.names.Known.{Known}
-use Rattle.gj_json.specs.declared.names.Known.TheVariants.{Geometries, Geometry, Features, Bbox, Crs, Other}
+use Rattle.gj_json.specs.declared.names.Known.TheVariants.{Bbox}
 use Rattle.gj_json.specs.Names.{known_of}
-use Rattle.gj_json.specs.Tree.{Tree, Members, end_of_object, member}
-use Rattle.gj_coords.specs.declared.kind.Kind.TheVariants.{W9}
-use Rattle.gj_coords.specs.declared.warnings.Warnings.{Warnings}
-use Rattle.gj_coords.specs.CoordinateWarnings.{warned_if}
-use Rattle.gj_coords.specs.Internal.KeptWarnings.{warnings_of, no_warnings, joined}
-use Rattle.gj_coords.specs.Warnings.{warning_at}
-use Rattle.gj_coords.specs.Internal.WarningLaws.{joined_none_first, joined_none_last, joined_assoc, joined_comm, warnings_of_none, warnings_of-append, added_is}
-use Rattle.gj_rules.specs.Internal.FrameMeaning.{Frame}
-use Rattle.gj_rules.specs.Internal.FrameMeaning.{MemberWarnings}
-use Rattle.gj_rules.specs.declared.role.Role.{Role}
-use Rattle.gj_rules.specs.declared.member_slots.Slot.{Slot}
-use Rattle.gj_rules.specs.Faults.{First}
-use Rattle.gj_rules.specs.Internal.OpenMembers.{judge}
+use Rattle.gj_coords.specs.Internal.KeptWarnings.{no_warnings, joined}
+use Rattle.gj_coords.specs.Internal.WarningLaws.{joined_comm}
 use Rattle.gj_rules.specs.Internal.FrameCalls.{due_after, member_taken, members_taken}
 use Rattle.gj_rules.specs.Internal.GatheredWarnings.{gathered_any, gathered_at}
-use Rattle.gj_rules.specs.Members.{is_known, same}
-use Rattle.gj_rules.specs.Internal.OpenMembers.{slot_of, uses, due_known}
-use Rattle.gj_rules.specs.Internal.TextKept.{or_none, and_kept, first_kept, judged_kept}
-use Rattle.gj_rules.specs.TextWarnings.{crs_warnings}
+use Rattle.gj_rules.specs.Internal.TextKept.{judged_kept}
 use Rattle.gj_rules.proofs.Objects.MemberSlots.{same_is}
 use Rattle.gj_rules.proofs.Objects.OneMember.{due_other, slot-other, slot-own, or_slot, slot_from}
 use Rattle.gj_rules.proofs.Objects.AllMembers.{member_object}
@@ -162,8 +152,7 @@ nothing_more w = joined_none_last (joined w (warnings_of [])) ∙ (ap (joined w)
 any_not_bbox : (m : Known) (w : Option Warnings) (g : MemberWarnings) → same Bbox m ≡ false → (gathered_any m w g).own ≡ g.own
 any_not_bbox m None g e = refl
 any_not_bbox Bbox (Some w) g e = cc
-any_not_bbox Geometries (Some w) g e = refl
-any_not_bbox _ (Some w) g e = refl
+any_not_bbox other (Some w) g e = refl
 
 at_not_crs : (m : Known) (place : ℕ) (g : MemberWarnings) → same Crs m ≡ false → (gathered_at m place g).own ≡ g.own
 at_not_crs Crs place g e = cc

@@ -1,24 +1,17 @@
 -- What an object has shown only grows: what fails goes on to fail.
-use Rattle.std.proofs.Common.{◌≡◌, ℕ, Bool, true, false, ◌&&◌, ◌||◌, if◌then◌else◌, Option, Some, None, is_some, refl, sym, ap, subst, ◌∙◌}
+use Rattle.gj_rules.proofs.Common.{Bool, Coordinates, Fault, Features, Geometries, Geometry, Id, MemberRules, MemberSlots, Properties, Shapes, Simple}
+use Rattle.gj_rules.proofs.Common.{Slot, TypeValue, Word, ap, asked_fault, comes_first, false, fault_at, if◌then◌else◌, is_among, is_known, is_lost}
+use Rattle.gj_rules.proofs.Common.{is_some, joined_to, lesser, missing, named_known, no_shapes, refl, rules_of, same, shape_for, simple_of, slot_of}
+use Rattle.gj_rules.proofs.Common.{subst, sym, true, with_slot, ◌&&◌, ◌||◌, ◌∙◌}
+use Rattle.std.proofs.Common.{◌≡◌, ℕ, Option, Some, None}
 use Rattle.std.proofs.lemmas.Bool.{or_left, or_right}
 use Rattle.gj_json.specs.declared.names.Known.{Known}
-use Rattle.gj_json.specs.declared.names.Known.TheVariants.{Coordinates, Geometries, Geometry, Properties, Features, Bbox, Id}
-use Rattle.gj_json.specs.declared.names.Word.{Word}
-use Rattle.gj_coords.specs.declared.fault.Fault.{Fault}
+use Rattle.gj_json.specs.declared.names.Known.TheVariants.{Bbox}
 use Rattle.gj_coords.specs.declared.fault.Rule.TheVariants.{G10}
-use Rattle.gj_coords.specs.declared.simple.Simple.{Simple}
-use Rattle.gj_coords.specs.Fault.{lesser, fault_at, comes_first}
-use Rattle.gj_rules.specs.Internal.FrameMeaning.{Shapes, MemberSlots}
-use Rattle.gj_rules.specs.declared.member_slots.Slot.{Slot}
-use Rattle.gj_rules.specs.declared.member_slots.TypeValue.{TypeValue}
-use Rattle.gj_rules.specs.declared.member_slots.member_rules.MemberRules.{MemberRules}
-use Rattle.gj_rules.specs.Internal.MemberRules.{index_of, is_among, rules_of, without_due, missing, asked_fault}
-use Rattle.gj_rules.specs.Internal.LostObjects.{fails_by, fails_as, all_fail, is_lost, type_lost}
+use Rattle.gj_rules.specs.Internal.MemberRules.{index_of, without_due}
+use Rattle.gj_rules.specs.Internal.LostObjects.{fails_by, fails_as, all_fail, type_lost}
 use Rattle.std.proofs.lemmas.Nat.Bits.{bit_at-zero}
-use Rattle.gj_rules.specs.Members.{is_known, same}
-use Rattle.gj_rules.specs.Internal.OpenMembers.{slot_of, with_slot, joined, joined_to, shapes_set, named_known, fault_of, members_fault, shape_as}
-use Rattle.gj_rules.specs.Internal.Summaries.{no_shapes, shape_for}
-use Rattle.gj_rules.specs.Members.{simple_of}
+use Rattle.gj_rules.specs.Internal.OpenMembers.{joined, shapes_set, fault_of, members_fault, shape_as}
 use Rattle.gj_rules.proofs.Objects.MemberSlots.{same_is}
 use Rattle.gj_rules.proofs.Objects.AskedShapes.{TypeStays, no_fault}
 
@@ -152,14 +145,7 @@ each_fails word f e =
     go Word.FeatureCollection true true true true true true true true true p q r s t u v w x e = x
     go Word.Other a b c d k l m n o p q r s t u v w x e = refl
     go word false b c d k l m n o p q r s t u v w x e = cc
-    go word true false c d k l m n o p q r s t u v w x e = cc
-    go word true true false d k l m n o p q r s t u v w x e = cc
-    go word true true true false k l m n o p q r s t u v w x e = cc
-    go word true true true true false l m n o p q r s t u v w x e = cc
-    go word true true true true true false m n o p q r s t u v w x e = cc
-    go word true true true true true true false n o p q r s t u v w x e = cc
-    go word true true true true true true true false o p q r s t u v w x e = cc
-    go word true true true true true true true true false p q r s t u v w x e = cc
+    go word other another third fourth x0 x1 x2 x3 x4 p q r s t u v w x e = cc
 
 all_worse : (f g : MemberSlots) → Worse f g → Keeps (all_fail f) (all_fail g)
 all_worse f g w =

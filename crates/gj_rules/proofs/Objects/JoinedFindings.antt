@@ -1,19 +1,12 @@
 -- What is taken into a frame, one after the other.
-use Rattle.std.proofs.Common.{◌≡◌, true, Option, Some, None, refl, ap, ◌∙◌}
+use Rattle.gj_rules.proofs.Common.{Fault, Features, Frame, Geometries, Geometry, MemberSlots, MemberWarnings, Members, Warnings, ap, end_of_object}
+use Rattle.gj_rules.proofs.Common.{gathered, is_known, joined_assoc, lesser, member, refl, taken_any, true, ◌∙◌}
+use Rattle.std.proofs.Common.{◌≡◌, Option, Some, None}
 use Rattle.gj_json.specs.declared.names.Known.{Known}
-use Rattle.gj_json.specs.declared.names.Known.TheVariants.{Geometries, Geometry, Features, Bbox}
+use Rattle.gj_json.specs.declared.names.Known.TheVariants.{Bbox}
 use Rattle.gj_json.specs.Names.{known_of}
-use Rattle.gj_json.specs.Tree.{Members, end_of_object, member}
-use Rattle.gj_coords.specs.declared.fault.Fault.{Fault}
-use Rattle.gj_coords.specs.declared.warnings.Warnings.{Warnings}
-use Rattle.gj_coords.specs.Fault.{lesser}
-use Rattle.gj_coords.specs.Internal.WarningLaws.{joined_assoc}
-use Rattle.gj_rules.specs.Internal.FrameMeaning.{Frame}
-use Rattle.gj_rules.specs.Internal.FrameMeaning.{MemberWarnings}
-use Rattle.gj_rules.specs.Internal.FrameMeaning.{MemberSlots}
-use Rattle.gj_rules.specs.Internal.FrameCalls.{taken_any, member_taken, members_taken}
-use Rattle.gj_rules.specs.Internal.GatheredWarnings.{gathered, gathered_any}
-use Rattle.gj_rules.specs.Members.{is_known}
+use Rattle.gj_rules.specs.Internal.FrameCalls.{member_taken, members_taken}
+use Rattle.gj_rules.specs.Internal.GatheredWarnings.{gathered_any}
 use Rattle.gj_rules.specs.Internal.OpenMembers as S
 use Rattle.gj_rules.specs.Internal.TextKept.{both}
 use Rattle.gj_rules.proofs.Objects.MemberSlots.{joined-none, joined-twice}

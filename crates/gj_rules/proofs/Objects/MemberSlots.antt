@@ -1,16 +1,11 @@
 -- The slots of what an object has shown.
+use Rattle.gj_rules.proofs.Common.{Bool, Fault, MemberSlots, Slot, ap, false, fun_ext, if◌then◌else◌, is_known, joined_to, lesser, lesser-none}
+use Rattle.gj_rules.proofs.Common.{lesser_assoc, refl, rules, same, slot_of, sym, true, with_slot, ◌∙◌}
 use denote.Enum.Bare.{same_true, true_same}
-use Rattle.std.proofs.Common.{rules, Bool, false, if◌then◌else◌, ◌≡◌, true, Option, Some, None, refl, sym, ap, ◌∙◌}
+use Rattle.std.proofs.Common.{◌≡◌, Option, Some, None}
 use Rattle.gj_json.specs.declared.names.Known.{Known}
-use Rattle.std.proofs.Math.Path.{fun_ext}
 use Rattle.gj_json.specs.contracts.names.Known.{the_type}
-use Rattle.gj_coords.specs.declared.fault.Fault.{Fault}
-use Rattle.gj_rules.specs.declared.member_slots.Slot.{Slot}
-use Rattle.gj_rules.specs.Internal.FrameMeaning.{MemberSlots}
-use Rattle.gj_coords.specs.Fault.{lesser}
-use Rattle.gj_rules.specs.Internal.OpenMembers.{slot_of, with_slot, joined, joined_to}
-use Rattle.gj_rules.specs.Members.{is_known, same}
-use Rattle.gj_coords.specs.Internal.LeastLaws.{lesser-none, lesser_assoc}
+use Rattle.gj_rules.specs.Internal.OpenMembers.{joined}
 
 -- names that are the same
 pub same_is : (a b : Known) → same a b ≡ true → a ≡ b

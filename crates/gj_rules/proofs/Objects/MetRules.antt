@@ -1,19 +1,14 @@
 -- The bits of an object meet what is asked of its members where nothing is wrong with them, and only there.
+use Rattle.gj_rules.proofs.Common.{Bool, Fault, IsTrue, MemberRules, Word, ap, arith, asked_fault, bit_and, false, if◌then◌else◌, lesser, nat_eq}
+use Rattle.gj_rules.proofs.Common.{nat_tests, refl, rules_of, slots_in, sym, true, ◌&&◌, ◌<◌, ◌∙◌}
 use borrow.Author.Count.{below_none, below_more}
-use Rattle.std.proofs.Common.{◌≡◌, ◌<◌, ◌↔◌, ℕ, min, Bool, true, false, ◌&&◌, if◌then◌else◌, nat_eq, bit_and, Option, Some, None, is_none, IsTrue}
-use Rattle.std.proofs.Common.{refl, sym, ap, ◌∙◌, arith}
+use Rattle.std.proofs.Common.{◌≡◌, ◌↔◌, ℕ, min, Option, Some, None, is_none}
 use Rattle.std.specs.Int.{bit_at}
 use Rattle.std.proofs.lemmas.Nat.{and_le_r}
-use Rattle.std.proofs.lemmas.Bool.Decides.{nat_tests}
 use Rattle.std.proofs.lemmas.Nat.Bits.{bit_at_and, bit_at-zero, bit_at-lt, same_from_bits_below}
-use Rattle.gj_json.specs.declared.names.Word.{Word}
-use Rattle.gj_coords.specs.declared.fault.Fault.{Fault}
-use Rattle.gj_coords.specs.Fault.{lesser}
 use Rattle.gj_coords.specs.Internal.RingLaws.{is_some_lesser}
 use Rattle.gj_rules.specs.declared.member_slots.MemberSlots as D
-use Rattle.gj_rules.specs.declared.member_slots.member_rules.MemberRules.{MemberRules}
-use Rattle.gj_rules.specs.Internal.FrameReading.{slot_in, slots_in}
-use Rattle.gj_rules.specs.Internal.MemberRules.{rules_of, asked_fault}
+use Rattle.gj_rules.specs.Internal.FrameReading.{slot_in}
 use Rattle.gj_rules.specs.Internal.OpenMembers.{members_fault}
 
 -- ---- no fault

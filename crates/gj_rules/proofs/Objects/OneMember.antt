@@ -1,17 +1,10 @@
 -- What one member does to what an object has shown.
-use Rattle.std.proofs.Common.{◌≡◌, ℕ, Bool, true, false, if◌then◌else◌, Option, Some, None, refl, sym, subst, ◌∙◌}
+use Rattle.gj_rules.proofs.Common.{Bool, Coordinates, Crs, Fault, First, MemberSlots, Other, Role, Slot, Tree, TypeName, due_known, false}
+use Rattle.gj_rules.proofs.Common.{if◌then◌else◌, is_known, joined_to, judge, least, lesser, named_known, refl, same, slot_of, subst, sym, true, uses}
+use Rattle.gj_rules.proofs.Common.{with_slot, ◌∙◌}
+use Rattle.std.proofs.Common.{◌≡◌, ℕ, Option, Some, None}
 use Rattle.gj_json.specs.declared.names.Known.{Known}
-use Rattle.gj_json.specs.declared.names.Known.TheVariants.{TypeName, Coordinates, Crs, Other}
-use Rattle.gj_coords.specs.declared.fault.Fault.{Fault}
-use Rattle.gj_rules.specs.declared.role.Role.{Role}
-use Rattle.gj_rules.specs.declared.member_slots.Slot.{Slot}
-use Rattle.gj_rules.specs.Internal.FrameMeaning.{MemberSlots}
-use Rattle.gj_coords.specs.Fault.{lesser, least}
-use Rattle.gj_rules.specs.Internal.OpenMembers.{slot_of, with_slot, joined_to, uses, named, named_known, due_known, due_after}
-use Rattle.gj_json.specs.Tree.{Tree}
-use Rattle.gj_rules.specs.Faults.{First}
-use Rattle.gj_rules.specs.Internal.OpenMembers.{judge}
-use Rattle.gj_rules.specs.Members.{is_known, same}
+use Rattle.gj_rules.specs.Internal.OpenMembers.{named, due_after}
 use Rattle.gj_rules.specs.Internal.OpenMembers.{filled, member_taken}
 use Rattle.gj_rules.proofs.Objects.MemberSlots.{slot_of-with}
 

@@ -1,17 +1,13 @@
 -- Where no value that a summary takes is due.
-use Rattle.std.proofs.Common.{◌≡◌, ℕ, zero, suc, ◌<◌, false, List, [], refl, arith}
-use Rattle.gj_json.specs.declared.event.What.{What}
-use Rattle.gj_json.specs.declared.names.Known.TheVariants.{Coordinates, Bbox, Geometry, Properties, TypeName}
-use Rattle.gj_json.specs.declared.names.Word.{Word}
+use Rattle.gj_rules.proofs.Common.{Coordinates, Core, Done, Due, Findings, Frame, FramedRules, Geometry, Holds, HoldsIn, List, Mode, Names}
+use Rattle.gj_rules.proofs.Common.{Properties, Role, RootDue, TypeName, What, Word, arith, core_of, core_step, false, is_feeding, names_step, refl}
+use Rattle.gj_rules.proofs.Common.{suc, top_of, zero, [], ◌<◌}
+use Rattle.std.proofs.Common.{◌≡◌, ℕ}
+use Rattle.gj_json.specs.declared.names.Known.TheVariants.{Bbox}
 use Rattle.gj_coords.specs.declared.coordinates.Coordinates as C
 use Rattle.gj_coords.specs.declared.bbox.Bbox as B
-use Rattle.gj_rules.specs.Internal.FrameMeaning.{Findings, Frame}
-use Rattle.gj_rules.specs.declared.mode.Mode.{Mode}
-use Rattle.gj_rules.specs.declared.mode.Mode.TheVariants.{RootDue, Names, Due, Elements, Done}
-use Rattle.gj_rules.specs.declared.role.Role.{Role}
-use Rattle.gj_rules.specs.declared.rules.FramedRules.{FramedRules}
-use Rattle.gj_rules.specs.Internal.RulesState.{core_of, top_of, Holds, HoldsIn}
-use Rattle.gj_rules.specs.Internal.EventSteps.{Core, pushed, names_step, begun, due_step, core_step, is_feeding, skip}
+use Rattle.gj_rules.specs.declared.mode.Mode.TheVariants.{Elements}
+use Rattle.gj_rules.specs.Internal.EventSteps.{pushed, begun, due_step, skip}
 
 holds : (k : ℕ) (m : Mode) (c : C.Coordinates) (b : B.Bbox) → is_feeding 0 m ≡ false → HoldsIn k m c b []
 holds (suc k) m c b e = tt
@@ -19,9 +15,7 @@ holds zero RootDue c b e = tt
 holds zero Names c b e = tt
 holds zero (Due Coordinates) c b e = cc
 holds zero (Due Bbox) c b e = cc
-holds zero (Due _) c b e = tt
-holds zero (Elements role) c b e = tt
-holds zero Done c b e = tt
+holds zero other c b e = tt
 
 pub rests : {frames : ℕ} (rules : FramedRules frames) → is_feeding 0 rules.mode ≡ false → Holds rules []
 rests rules e = holds rules.skipped rules.mode rules.coordinates rules.bbox e

@@ -1,39 +1,25 @@
 -- At its close an object has shown its least fault.
-use Rattle.std.proofs.Common.{◌≡◌, ℕ, Bool, true, false, if◌then◌else◌, List, [], ◌∷◌, ◌++◌, Option, Some, None, is_some}
-use Rattle.std.proofs.Common.{refl, sym, ap, subst, ◌∙◌, append-nil, append_assoc}
-use Rattle.std.proofs.Math.Path.{fun_ext}
-use Rattle.std.specs.List.{flat_map}
+use Rattle.gj_rules.proofs.Common.{Bool, Coordinates, Fault, Features, First, G2, G8, Geometries, Geometry, Id, List, MemberRules, MemberSlots}
+use Rattle.gj_rules.proofs.Common.{Members, Properties, Role, Rule, Shapes, Simple, Slot, Tree, TypeValue, Word, ap, append_assoc, asked, asked_as}
+use Rattle.gj_rules.proofs.Common.{asked_fault, coordinates_faults, false, fault_at, faults, flat_map, forbidden_by, fun_ext, if◌then◌else◌}
+use Rattle.gj_rules.proofs.Common.{is_allowed, is_among, is_known, is_some, least, least-append, lesser, lesser-none, lesser_assoc, missing}
+use Rattle.gj_rules.proofs.Common.{no_shapes, object, one, refl, repeated, rules_of, shape_for, shapes_of, simple_of, subst, sym, true, [], ◌++◌, ◌∙◌}
+use Rattle.gj_rules.proofs.Common.{◌∷◌}
+use Rattle.std.proofs.Common.{◌≡◌, ℕ, Option, Some, None}
+use Rattle.std.proofs.Common.{append-nil}
 use Rattle.gj_json.specs.declared.names.Known.{Known}
-use Rattle.gj_json.specs.declared.names.Known.TheVariants.{Coordinates, Geometries, Geometry, Properties, Features, Bbox, Id}
-use Rattle.gj_json.specs.declared.names.Word.{Word}
-use Rattle.gj_coords.specs.declared.fault.Fault.{Fault}
-use Rattle.gj_coords.specs.declared.fault.Rule.{Rule}
-use Rattle.gj_coords.specs.declared.fault.Rule.TheVariants.{G2, G3, G4, G5, G6, G7, G8}
-use Rattle.gj_rules.specs.declared.role.Role.{Role}
-use Rattle.gj_rules.specs.declared.member_slots.Slot.{Slot}
-use Rattle.gj_rules.specs.declared.member_slots.TypeValue.{TypeValue}
-use Rattle.gj_rules.specs.Internal.FrameMeaning.{MemberSlots}
-use Rattle.gj_coords.specs.Fault.{lesser, least, fault_at}
+use Rattle.gj_json.specs.declared.names.Known.TheVariants.{Bbox}
+use Rattle.gj_coords.specs.declared.fault.Rule.TheVariants.{G3, G4, G5, G6, G7}
 use Rattle.gj_rules.specs.Internal.OpenMembers as F
-use Rattle.gj_json.specs.Tree.{Tree, Members, object}
 use Rattle.gj_rules.specs.Faults as R
-use Rattle.gj_rules.specs.Members.{is_known, one, first_type, forbidden_by, repeated}
-use Rattle.gj_rules.specs.Role.{is_allowed}
-use Rattle.gj_coords.specs.declared.simple.Simple.{Simple}
-use Rattle.gj_rules.specs.Faults.{First, faults}
+use Rattle.gj_rules.specs.Members.{first_type}
 use Rattle.gj_rules.specs.Internal.OpenMembers.{members_taken}
-use Rattle.gj_coords.specs.Internal.LeastLaws.{lesser-none, least-append, lesser_assoc}
 use Rattle.gj_rules.proofs.Objects.FaultsInAnyOrder.{lesser_comm, least_after, least_swap}
-use Rattle.gj_rules.specs.declared.member_slots.member_rules.MemberRules.{MemberRules}
-use Rattle.gj_rules.specs.Internal.MemberRules.{is_among, rules_of, missing, asked_fault, member_fault}
+use Rattle.gj_rules.specs.Internal.MemberRules.{member_fault}
 use Rattle.gj_rules.proofs.Objects.OneMember.{or_slot, slot_from}
 use Rattle.gj_rules.proofs.Objects.AllMembers.{IsSameObject, members_object, slots_after, type_from, type_after, shapes_from, shapes_after, repeated_after}
-use Rattle.gj_rules.specs.Internal.FrameMeaning.{Shapes}
-use Rattle.gj_rules.specs.Internal.Summaries.{no_shapes, shape_for, shape_found, asked_as, asked}
-use Rattle.gj_rules.specs.Members.{simple_of}
+use Rattle.gj_rules.specs.Internal.Summaries.{shape_found}
 use Rattle.gj_rules.proofs.Objects.AskedShapes.{no_fault, one_fault}
-use Rattle.gj_coords.specs.Shape.{coordinates_faults}
-use Rattle.gj_rules.specs.Internal.Summaries.{shapes_of}
 
 -- the members of an object that its faults are read off: those that repeat a name, the first `type`, and the first of each name
 pub record ObjectMembers : Type 0 where
@@ -123,11 +109,7 @@ passed b c d g q f i =
 
 shape_is : (simple : Simple) (v : Tree) → shape_for simple (shapes_of v) ≡ least (coordinates_faults simple v)
 shape_is Simple.Point v = refl
-shape_is Simple.MultiPoint v = refl
-shape_is Simple.LineString v = refl
-shape_is Simple.MultiLineString v = refl
-shape_is Simple.Polygon v = refl
-shape_is Simple.MultiPolygon v = refl
+shape_is other v = refl
 
 coordinates_is : (simple : Simple) (place : ℕ) (o : Option First)
     → lesser (least (lacking place G4 o)) (shape_for simple (shapes_from true None None no_shapes o)) ≡ least (R.due_coordinates (Some simple) place o)

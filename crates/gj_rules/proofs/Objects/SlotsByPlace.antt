@@ -1,21 +1,16 @@
 -- The slots of an object lie by the places of their names, and a bit of a byte says of each whether it counts.
-use Rattle.std.proofs.Common.{◌≡◌, ◌<◌, ◌≤◌, ◌≢◌, ℕ, ◌*◌, ◌/◌, ◌%◌, ◌^◌, Bool, true, false, if◌then◌else◌, nat_eq, leb, List, length}
-use Rattle.std.proofs.Common.{slice_set, get_or, bit_and, bit_or, Option, Some, None, IsTrue, w8, refl, sym, ap, arith}
-use Rattle.std.proofs.Math.Path.{fun_ext}
+use Rattle.gj_rules.proofs.Common.{Bool, Crs, Fault, IsTrue, List, MemberSlots, Other, Slot, ap, arith, bit_and, false, fun_ext, get_or}
+use Rattle.gj_rules.proofs.Common.{if◌then◌else◌, is_known, length, nat_eq, nat_tests, refl, slot_of, slots_in, sym, true, with_slot, ◌*◌, ◌<◌, ◌^◌}
+use Rattle.gj_rules.proofs.Common.{◌≤◌}
+use Rattle.std.proofs.Common.{◌≡◌, ◌≢◌, ℕ, ◌/◌, ◌%◌, leb}
+use Rattle.std.proofs.Common.{slice_set, bit_or, Option, Some, None, w8}
 use Rattle.std.specs.Int.{bit_at, bit_not}
 use Rattle.std.proofs.lemmas.Nat.Bits.{shr_and_one, bit_at_and, bit_at_above, bit_at_set_same, bit_at_set_other, bit_at_clear_same, bit_at_clear_other}
-use Rattle.std.proofs.lemmas.Bool.Decides.{nat_tests}
 use Rattle.std.proofs.lemmas.List.{get_or-set_same, get_or-set_other}
 use Rattle.gj_json.specs.declared.names.Known.{Known}
-use Rattle.gj_json.specs.declared.names.Known.TheVariants.{Crs, Other}
-use Rattle.gj_coords.specs.declared.fault.Fault.{Fault}
 use Rattle.gj_rules.specs.declared.member_slots.MemberSlots as DW
-use Rattle.gj_rules.specs.declared.member_slots.Slot.{Slot}
-use Rattle.gj_rules.specs.Internal.FrameMeaning.{MemberSlots}
-use Rattle.gj_rules.specs.Internal.FrameReading.{unset_fault, counted_slot, slot_in, slots_in}
+use Rattle.gj_rules.specs.Internal.FrameReading.{unset_fault, counted_slot, slot_in}
 use Rattle.gj_rules.specs.Internal.MemberRules.{index_of}
-use Rattle.gj_rules.specs.Internal.OpenMembers.{slot_of, with_slot}
-use Rattle.gj_rules.specs.Members.{is_known}
 
 -- ---- one slot
 

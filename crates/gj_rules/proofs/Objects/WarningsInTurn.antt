@@ -1,10 +1,7 @@
 -- Warnings that are joined one after another.
+use Rattle.gj_rules.proofs.Common.{Kind, Warnings, added, added_is, ap, joined_assoc, joined_none_first, joined_none_last, sym, ◌∙◌}
 use Rattle.std.specs.Prelude.{◌≡◌, ℕ}
-use Rattle.std.proofs.Common.{ap, sym, ◌∙◌}
-use Rattle.gj_coords.specs.declared.kind.Kind.{Kind}
-use Rattle.gj_coords.specs.declared.warnings.Warnings.{Warnings}
-use Rattle.gj_coords.specs.Internal.KeptWarnings.{no_warnings, joined, added}
-use Rattle.gj_coords.specs.Internal.WarningLaws.{joined_none_first, joined_none_last, joined_assoc, added_is}
+use Rattle.gj_coords.specs.Internal.KeptWarnings.{no_warnings, joined}
 
 -- to none
 pub to_none : (w : Warnings) → joined no_warnings w ≡ w

@@ -1,31 +1,25 @@
 -- What the rules keep of a text's warnings is what is kept of the list of them, where each `coordinates` has few enough events.
-use Rattle.std.proofs.Common.{◌≡◌, ℕ, suc, ◌+◌, ◌<◌, Bool, true, false, if◌then◌else◌, List, [], ◌∷◌, ◌++◌, length, Option, Some, None, refl, sym, ap, subst}
-use Rattle.std.proofs.Common.{◌∙◌, arith, length-append}
-use Rattle.std.proofs.lemmas.List.{length-map}
+use Rattle.gj_rules.proofs.Common.{Bool, Coordinates, Features, Geometries, Geometry, List, Members, Role, Simple, Text, Tree, TypeValue, W1, W7}
+use Rattle.gj_rules.proofs.Common.{Warning, Warnings, Word, added, added_is, all_kept, and_kept, ap, arith, array, constant, coordinates_kept}
+use Rattle.gj_rules.proofs.Common.{coordinates_warnings, crs_warnings, element, elements_events, end_of_array, end_of_object, events, false}
+use Rattle.gj_rules.proofs.Common.{first_kept, first_value, first_warnings, if◌then◌else◌, is_allowed, joined_assoc, joined_none_first}
+use Rattle.gj_rules.proofs.Common.{joined_none_last, length, length-map, marked_kept, member, members_events, number, object, or_none, refl, same}
+use Rattle.gj_rules.proofs.Common.{string, subst, suc, sym, text_kept, text_warnings, timed, true, value_events, warned_if, warning_at, warnings}
+use Rattle.gj_rules.proofs.Common.{warnings_of, warnings_of-append, warnings_of_none, [], ◌++◌, ◌+◌, ◌<◌, ◌∙◌, ◌∷◌}
+use Rattle.std.proofs.Common.{◌≡◌, ℕ, Option, Some, None}
+use Rattle.std.proofs.Common.{length-append}
 use Rattle.gj_json.specs.declared.names.Known.{Known}
-use Rattle.gj_json.specs.declared.names.Known.TheVariants.{Coordinates, Geometries, Geometry, Features, Bbox}
-use Rattle.gj_json.specs.declared.names.Word.{Word}
+use Rattle.gj_json.specs.declared.names.Known.TheVariants.{Bbox}
 use Rattle.gj_json.specs.declared.event.What.TheVariants as What
-use Rattle.gj_json.specs.Events.{Timed, timed, events, elements_events, members_events, value_events}
+use Rattle.gj_json.specs.Events.{Timed}
 use Rattle.gj_json.specs.Names.{known_of}
 use Rattle.gj_json.specs.Tree as Tree
-use Rattle.gj_json.specs.Tree.{Tree, constant, number, string, array, object, end_of_array, element, Members, end_of_object, member, Text}
-use Rattle.gj_coords.specs.declared.kind.Kind.TheVariants.{W1, W7}
-use Rattle.gj_coords.specs.declared.simple.Simple.{Simple}
-use Rattle.gj_coords.specs.declared.warnings.Warnings.{Warnings}
-use Rattle.gj_coords.specs.CoordinateWarnings.{coordinates_warnings, warned_if}
-use Rattle.gj_coords.specs.Internal.CoordinatesKept.{coordinates_kept}
-use Rattle.gj_coords.specs.Internal.KeptWarnings.{warnings_of, no_warnings, joined, added}
-use Rattle.gj_coords.specs.Warnings.{Warning, warning_at}
-use Rattle.gj_coords.specs.Internal.WarningLaws.{joined_none_first, joined_none_last, joined_assoc, joined_comm, warnings_of_none, warnings_of-append, added_is}
-use Rattle.gj_rules.specs.declared.role.Role.{Role}
-use Rattle.gj_rules.specs.declared.member_slots.TypeValue.{TypeValue}
-use Rattle.gj_rules.specs.Members.{same, first_type}
-use Rattle.gj_rules.specs.Role.{is_allowed}
-use Rattle.gj_rules.specs.Internal.TextKept.{both, or_none, simple_kept, typed_kept, by_type_kept, selected_kept, kept, list_kept, all_kept, first_kept}
-use Rattle.gj_rules.specs.Internal.TextKept.{marked_kept, and_kept, text_kept}
-use Rattle.gj_rules.specs.TextWarnings.{crs_warnings, first_value, simple_warnings, typed_warnings, by_type_warnings, selected_warnings, warnings}
-use Rattle.gj_rules.specs.TextWarnings.{list_warnings, all_warnings, first_warnings, text_warnings}
+use Rattle.gj_coords.specs.Internal.KeptWarnings.{no_warnings, joined}
+use Rattle.gj_coords.specs.Internal.WarningLaws.{joined_comm}
+use Rattle.gj_rules.specs.Members.{first_type}
+use Rattle.gj_rules.specs.Internal.TextKept.{both, simple_kept, typed_kept, by_type_kept, selected_kept, kept, list_kept}
+use Rattle.gj_rules.specs.TextWarnings.{simple_warnings, typed_warnings, by_type_warnings, selected_warnings}
+use Rattle.gj_rules.specs.TextWarnings.{list_warnings, all_warnings}
 
 -- nothing is what is kept of no warnings
 none_is : no_warnings ≡ warnings_of []

@@ -1,7 +1,8 @@
 -- Which parts count, as one more comes.
-use Rattle.std.proofs.Common.{◌≡◌, ℕ, Bool, true, false, List, [], ◌∷◌, ◌++◌, refl, ap, sym, ◌∙◌}
-use Rattle.gj_rules.specs.declared.records.framing.Framing.{Framing}
-use Rattle.gj_rules.specs.Records.{Part, Entry, entry_at, entry_if, is_counted, number_after, number_from, entries_from, entries_in, first_number}
+use Rattle.gj_rules.proofs.Common.{Bool, Entry, Framing, List, Part, ap, entries_from, entries_in, entry_at, false, first_number, number_from, refl}
+use Rattle.gj_rules.proofs.Common.{sym, true, [], ◌++◌, ◌∙◌, ◌∷◌}
+use Rattle.std.proofs.Common.{◌≡◌, ℕ}
+use Rattle.gj_rules.specs.Records.{entry_if, is_counted, number_after}
 
 if-append : (b : Bool) (entry : Entry) (xs ys : List Entry) → entry_if b entry (xs ++ ys) ≡ entry_if b entry xs ++ ys
 if-append true entry xs ys = refl

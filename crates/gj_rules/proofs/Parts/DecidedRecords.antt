@@ -1,18 +1,14 @@
 -- An input that a record has decided: each that begins so is the same as a whole.
-use Rattle.std.proofs.Common.{◌≡◌, ℕ, ◌-◌, ◌≤◌, Bool, true, false, if◌then◌else◌, List, [], ◌∷◌, ◌++◌, length, take, refl, ap, sym, ◌∙◌, subst}
-use Rattle.gj_json.specs.Limits.{Allowed}
+use Rattle.gj_rules.proofs.Common.{Allowed, AreFindings, Bool, Entry, Framing, Input, IsVerdict, Limit, List, Part, Record, SeqVerdict, Verdict}
+use Rattle.gj_rules.proofs.Common.{after, ap, entries_from, entries_in, false, first_number, if◌then◌else◌, is_too_long, length, number_from}
+use Rattle.gj_rules.proofs.Common.{parts_from, refl, subst, sym, take, true, whole_from, whole_of, [], ◌++◌, ◌-◌, ◌∙◌, ◌∷◌, ◌≤◌}
+use Rattle.std.proofs.Common.{◌≡◌, ℕ}
 use Rattle.gj_rules.specs.declared.records.Records.{Records}
-use Rattle.gj_rules.specs.declared.records.framing.Framing.{Framing}
-use Rattle.gj_rules.specs.declared.records.framing.RecordEnd.TheVariants.{Input, Limit}
-use Rattle.gj_rules.specs.declared.records.record.Record.{Record}
-use Rattle.gj_rules.specs.declared.sequence.verdict.SeqVerdict.{SeqVerdict}
-use Rattle.gj_rules.specs.declared.verdict.Verdict.{Verdict}
 use Rattle.gj_rules.specs.Internal.OpenParts.{IsOpen}
-use Rattle.gj_rules.specs.RecordFindings.{AreFindings, IsWholeVerdict, after, whole_from, whole_of}
-use Rattle.gj_rules.specs.Records.{Part, Entry, entries_from, entries_in, first_number, is_too_long, number_from, parts_from, parts_of}
+use Rattle.gj_rules.specs.RecordFindings.{IsWholeVerdict}
+use Rattle.gj_rules.specs.Records.{parts_of}
 use Rattle.gj_rules.specs.RecordsStand.{StandsFor}
 use Rattle.gj_rules.specs.SequenceStands.{is_valid_sequence}
-use Rattle.gj_rules.specs.Verdict.{IsVerdict}
 use Rattle.gj_rules.proofs.Parts.CountedParts.{entries-append}
 use Rattle.gj_rules.proofs.Parts.OneFinding.{some_findings}
 use Rattle.gj_rules.proofs.Parts.RecordSteps.{open_of, over_of, over_more}

@@ -1,11 +1,8 @@
 -- What is found in records, as one more ends.
-use Rattle.std.proofs.Common.{◌≡◌, ℕ, zero, suc, ◌<◌, List, [], ◌∷◌, ◌++◌, refl, arith}
-use Rattle.gj_rules.specs.declared.records.framing.Framing.{Framing}
-use Rattle.gj_rules.specs.declared.records.record.Record.{Record}
-use Rattle.gj_rules.specs.declared.verdict.Verdict.{Verdict}
-use Rattle.gj_rules.specs.declared.sequence.verdict.SeqVerdict.{SeqVerdict}
-use Rattle.gj_rules.specs.RecordFindings.{IsOwnVerdict, IsNumberedVerdict, IsFinding, AreFindings, after, whole_from}
-use Rattle.gj_rules.specs.Records.{Part, Entry}
+use Rattle.gj_rules.proofs.Common.{AreFindings, Entry, Framing, IsNumberedVerdict, IsOwnVerdict, List, Part, Record, SeqVerdict, Verdict, after}
+use Rattle.gj_rules.proofs.Common.{arith, refl, suc, whole_from, zero, [], ◌++◌, ◌<◌, ◌∷◌}
+use Rattle.std.proofs.Common.{◌≡◌, ℕ}
+use Rattle.gj_rules.specs.RecordFindings.{IsFinding}
 
 pub found-append : (framing : Framing) (levels : ℕ) (entries : List Entry) (found : List Record) (entry : Entry) (one : Record)
     → AreFindings framing levels entries found → IsFinding framing levels entry one

@@ -1,14 +1,8 @@
 -- What is found in the records of an input is found in no other way, and always.
-use Rattle.std.proofs.Common.{◌≡◌, ℕ, zero, suc, ◌+◌, List, [], ◌∷◌, length, refl, ap, sym, ◌∙◌}
-use Rattle.gj_json.specs.Limits.{Allowed}
-use Rattle.gj_json.specs.declared.fault.Cause.TheVariants.{Syntax}
-use Rattle.gj_rules.specs.declared.records.framing.Framing.{Framing}
-use Rattle.gj_rules.specs.declared.records.record.Record.{Record}
-use Rattle.gj_rules.specs.declared.verdict.Verdict.{Verdict}
-use Rattle.gj_rules.specs.RecordFindings.{ended_as, IsNumberedVerdict, AreFindings}
-use Rattle.gj_rules.specs.Records.{Part, Entry}
-use Rattle.gj_rules.specs.Sequence.{shifted_verdict, not_json, ends_in_line_feed, own_limits}
-use Rattle.gj_rules.specs.Verdict.{IsVerdict}
+use Rattle.gj_rules.proofs.Common.{Allowed, AreFindings, Entry, Framing, IsNumberedVerdict, IsVerdict, List, Part, Record, Syntax, Verdict, ap}
+use Rattle.gj_rules.proofs.Common.{ends_in_line_feed, length, not_json, own_limits, refl, shifted_verdict, suc, sym, zero, [], ◌+◌, ◌∙◌, ◌∷◌}
+use Rattle.std.proofs.Common.{◌≡◌, ℕ}
+use Rattle.gj_rules.specs.RecordFindings.{ended_as}
 
 module _ (some : (limits : Allowed) (bytes : List ℕ) → (verdict : Verdict) × IsVerdict limits bytes verdict) where
   some_verdict : (framing : Framing) (levels number : ℕ) (part : Part) → (verdict : Verdict) × IsNumberedVerdict framing levels number part verdict

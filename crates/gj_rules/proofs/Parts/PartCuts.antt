@@ -1,15 +1,11 @@
 -- How an input is cut into parts, as it goes on.
-use Rattle.std.proofs.Common.{◌≡◌, ℕ, zero, suc, ◌+◌, ◌<◌, ◌≤◌, Bool, true, false, ◌&&◌, ◌||◌, nat_eq, if◌then◌else◌, List, [], ◌∷◌, ◌++◌, length, take, refl}
-use Rattle.std.proofs.Common.{ap, sym, ◌∙◌, arith}
-use Rattle.std.proofs.lemmas.Bool.Decides.{nat_tests}
-use Rattle.gj_json.specs.Limits.{Allowed}
-use Rattle.gj_rules.specs.declared.records.framing.Framing.{Framing}
-use Rattle.gj_rules.specs.declared.records.framing.Framing.TheVariants.{Sequence, Lines}
-use Rattle.gj_rules.specs.declared.records.framing.RecordEnd.{RecordEnd}
-use Rattle.gj_rules.specs.declared.records.framing.RecordEnd.TheVariants.{Separator, Input, Limit}
-use Rattle.gj_rules.specs.Internal.BytesBefore.{has_byte}
+use Rattle.gj_rules.proofs.Common.{Allowed, Bool, Framing, Input, Limit, Lines, List, Part, RecordEnd, Separator, ap, arith, false, has_byte}
+use Rattle.gj_rules.proofs.Common.{if◌then◌else◌, is_too_long, length, nat_eq, nat_tests, part_at, parts_from, refl, separator_of, suc, sym, take}
+use Rattle.gj_rules.proofs.Common.{true, zero, [], ◌&&◌, ◌++◌, ◌+◌, ◌<◌, ◌||◌, ◌∙◌, ◌∷◌, ◌≤◌}
+use Rattle.std.proofs.Common.{◌≡◌, ℕ}
+use Rattle.gj_rules.specs.declared.records.framing.Framing.TheVariants.{Sequence}
 use Rattle.gj_rules.specs.RecordFindings.{but_last, whole_parts}
-use Rattle.gj_rules.specs.Records.{Part, part_at, separator_of, with_first, parts_from, parts_of, is_too_long, is_blank, are_blank, is_void}
+use Rattle.gj_rules.specs.Records.{with_first, parts_of, is_blank, are_blank, is_void}
 
 -- ---- bytes without a separator
 

@@ -1,23 +1,20 @@
 -- What `Records` stand for, from step to step.
-use Rattle.std.proofs.Common.{◌≡◌, ℕ, zero, suc, ◌+◌, ◌-◌, ◌<◌, ◌≤◌, Bool, true, false, ◌&&◌, not, List, [], ◌∷◌, ◌++◌, length, length-append, take, drop}
-use Rattle.std.proofs.Common.{append_assoc, append-nil, refl, ap, sym, subst, ◌∙◌, arith, take-add}
-use Rattle.std.proofs.lemmas.List.{take_all, length-drop, take-append-drop}
-use Rattle.gj_json.specs.Limits.{Allowed}
+use Rattle.gj_rules.proofs.Common.{Allowed, AreFindings, Bool, Entry, Framing, HaveTold, HaveToldIf, Input, Limit, List, Part, Record, RecordEnd}
+use Rattle.gj_rules.proofs.Common.{Separator, SeqVerdict, after, ap, append_assoc, arith, drop, entries_in, entries_of, entry_at, false, first_number}
+use Rattle.gj_rules.proofs.Common.{has_byte, length, not, number_from, part_at, parts_from, refl, separator_of, subst, suc, sym, take, take_all, true}
+use Rattle.gj_rules.proofs.Common.{whole_of, zero, [], ◌&&◌, ◌++◌, ◌+◌, ◌-◌, ◌<◌, ◌∙◌, ◌∷◌, ◌≤◌}
+use Rattle.std.proofs.Common.{◌≡◌, ℕ, length-append}
+use Rattle.std.proofs.Common.{append-nil, take-add}
+use Rattle.std.proofs.lemmas.List.{length-drop, take-append-drop}
 use Rattle.gj_coords.specs.Internal.KeptWarnings.{no_warnings}
 use Rattle.gj_rules.specs.declared.records.Records.{Records}
-use Rattle.gj_rules.specs.declared.records.framing.Framing.{Framing}
-use Rattle.gj_rules.specs.declared.records.framing.RecordEnd.{RecordEnd}
-use Rattle.gj_rules.specs.declared.records.framing.RecordEnd.TheVariants.{Separator, Input, Limit}
-use Rattle.gj_rules.specs.declared.records.record.Record.{Record}
-use Rattle.gj_rules.specs.declared.sequence.verdict.SeqVerdict.{SeqVerdict}
-use Rattle.gj_rules.specs.Internal.BytesBefore.{has_byte}
 use Rattle.gj_rules.specs.Internal.OpenParts.{IsOpen, IsOver}
 use Rattle.gj_rules.specs.Internal.OpenRecord.{StandsFor as RecordStandsFor}
 use Rattle.gj_rules.specs.Internal.ToldRecords.{Keeps, TellsOne}
-use Rattle.gj_rules.specs.RecordFindings.{IsFinding, AreFindings, AreAllFindings, AreFindingsSoFar, but_last, after, whole_of}
-use Rattle.gj_rules.specs.Records.{Part, Entry, part_at, entry_at, entry_if, counts, entries_of, is_void, is_counted, number_after, at_least_one, number_from}
-use Rattle.gj_rules.specs.Records.{first_number, separator_of, parts_from, parts_of, entries_in}
-use Rattle.gj_rules.specs.RecordsStand.{StandsBy, StandsFor, HaveTold, HaveToldIf, HaveToldAllIf}
+use Rattle.gj_rules.specs.RecordFindings.{IsFinding, AreAllFindings, AreFindingsSoFar, but_last}
+use Rattle.gj_rules.specs.Records.{entry_if, counts, is_void, is_counted, number_after, at_least_one}
+use Rattle.gj_rules.specs.Records.{parts_of}
+use Rattle.gj_rules.specs.RecordsStand.{StandsBy, StandsFor, HaveToldAllIf}
 use Rattle.gj_rules.proofs.Parts.CountedParts.{next_number, next_entries}
 use Rattle.gj_rules.proofs.Parts.FoundRecords.{found-append, whole-append}
 use Rattle.gj_rules.proofs.Parts.PartCuts.{other-append, one_part, first_part, void-append, but_last-append, short_parts, long_parts, short_whole, long_whole}

@@ -1,24 +1,15 @@
 -- A text sequence is what its records make it.
-use Rattle.std.proofs.Common.{◌≡◌, ◌⊎◌, inl, inr, ⊎_elim, ℕ, zero, suc, ◌+◌, ◌<◌, ◌≤◌, Bool, true, false, ◌&&◌, ◌||◌, not, if◌then◌else◌, List, [], ◌∷◌, length}
-use Rattle.std.proofs.Common.{take, refl, ap, sym, subst, ◌∙◌, arith}
-use Rattle.std.proofs.lemmas.Bool.Decides.{nat_tests}
-use Rattle.std.proofs.lemmas.List.{take_all}
-use Rattle.gj_json.specs.Limits.{Allowed}
-use Rattle.gj_json.specs.declared.fault.Cause.TheVariants.{Syntax}
-use Rattle.gj_coords.specs.declared.warnings.Warnings.{Warnings}
+use Rattle.gj_rules.proofs.Common.{AllValid, Allowed, AreFindings, Bool, Broken, Entry, Framing, Input, IsFirstFailing, IsJudgedBy, IsNumberedVerdict}
+use Rattle.gj_rules.proofs.Common.{IsOwnVerdict, IsRecordVerdict, IsSequenceVerdict, Limit, List, NotJson, Part, Record, RecordEnd, Separator}
+use Rattle.gj_rules.proofs.Common.{SeqVerdict, SequenceRecord, Syntax, Valid, Verdict, Warnings, ap, arith, begins_with_separator, entries_from}
+use Rattle.gj_rules.proofs.Common.{entry_at, false, has_separator, if◌then◌else◌, inl, inr, is_separator, is_stray, is_too_long, is_valid, length}
+use Rattle.gj_rules.proofs.Common.{nat_tests, not, not_json, part_at, parts_from, records_from, refl, subst, suc, sym, take, take_all, true}
+use Rattle.gj_rules.proofs.Common.{up_to_separator, whole_from, whole_of, zero, [], ⊎_elim, ◌&&◌, ◌+◌, ◌<◌, ◌||◌, ◌∙◌, ◌∷◌, ◌≤◌, ◌⊎◌}
+use Rattle.std.proofs.Common.{◌≡◌, ℕ}
 use Rattle.gj_coords.specs.Internal.KeptWarnings.{no_warnings, joined}
-use Rattle.gj_rules.specs.declared.records.framing.Framing.{Framing}
 use Rattle.gj_rules.specs.declared.records.framing.Framing.TheVariants as Framings
-use Rattle.gj_rules.specs.declared.records.framing.RecordEnd.{RecordEnd}
-use Rattle.gj_rules.specs.declared.records.framing.RecordEnd.TheVariants.{Separator, Input, Limit}
-use Rattle.gj_rules.specs.declared.records.record.Record.{Record}
-use Rattle.gj_rules.specs.declared.sequence.verdict.SeqVerdict.{SeqVerdict}
-use Rattle.gj_rules.specs.declared.verdict.Verdict.{Verdict}
-use Rattle.gj_rules.specs.declared.verdict.Verdict.TheVariants.{Valid, Broken, NotJson}
-use Rattle.gj_rules.specs.RecordFindings.{IsOwnVerdict, IsNumberedVerdict, AreFindings, AreAllFindings, joined_with, whole_from, whole_of}
-use Rattle.gj_rules.specs.Records.{Part, Entry, part_at, entry_at, with_first, parts_from, parts_of, is_too_long, counts, are_none, at_least_one, entries_from}
-use Rattle.gj_rules.specs.Sequence.{is_separator, begins_with_separator, has_separator, up_to_separator, SequenceRecord, records_from, not_json}
-use Rattle.gj_rules.specs.Sequence.{IsRecordVerdict, AllValid, IsFirstFailing, IsJudgedBy, IsSequenceVerdict, is_stray, is_valid}
+use Rattle.gj_rules.specs.RecordFindings.{AreAllFindings, joined_with}
+use Rattle.gj_rules.specs.Records.{with_first, parts_of, counts, are_none, at_least_one}
 use Rattle.gj_rules.proofs.Sequences.RecordCuts.{record_at}
 use Rattle.gj_rules.proofs.Parts.DecidedRecords.{failing_stays}
 
@@ -109,15 +100,13 @@ cut_as is_cut place (byte ∷ more) = by_test (cut_as is_cut (place + 1) more) (
 abbrev Shown : ℕ → ℕ → List SequenceRecord → List Record → Type 0
 Shown levels number [] [] = Unit {0}
 Shown levels number (r ∷ more) (found ∷ others) = (found.number ≡ number) × IsRecordVerdict levels r found.verdict × Shown levels (number + 1) more others
-Shown levels number [] (found ∷ others) = ⊥
-Shown levels number (r ∷ more) [] = ⊥
+Shown levels number other another = ⊥
 
 record_verdict : (levels start : ℕ) (bytes : List ℕ) (end : RecordEnd) (verdict : Verdict)
     → IsOwnVerdict Framings.Sequence levels (part_at start bytes end) verdict
     → IsRecordVerdict levels (record_at start bytes (is_limit end)) verdict
 record_verdict levels start bytes Separator verdict h = h
-record_verdict levels start bytes Input verdict h = h
-record_verdict levels start bytes Limit verdict h = h
+record_verdict levels start bytes other verdict h = h
 
 own_of : (framing : Framing) (levels number : ℕ) (part : Part) (verdict : Verdict) → 0 < number → IsNumberedVerdict framing levels number part verdict
     → IsOwnVerdict framing levels part verdict

@@ -1,20 +1,12 @@
 -- What each byte of a sequence decides, and what its end does.
-use Rattle.std.proofs.Common.{◌≡◌, ℕ, ◌+◌, ◌-◌, ◌≤◌, Bool, true, false, nat_lt, List, [], ◌∷◌, ◌++◌, length, length-append, take, refl, ap, sym, subst, ◌∙◌}
-use Rattle.std.proofs.Common.{arith}
-use Rattle.std.proofs.lemmas.Bool.Decides.{nat_tests}
-use Rattle.std.proofs.Math.Seq.{take-append-add}
-use Rattle.std.proofs.lemmas.List.{take_all}
-use Rattle.gj_json.specs.declared.fault.Cause.{Cause}
-use Rattle.gj_json.specs.declared.fault.Cause.TheVariants.{Syntax, Truncated, Depth, Length}
-use Rattle.gj_json.specs.declared.fault.JsonFault.{JsonFault}
-use Rattle.gj_json.specs.Limits.{Allowed}
-use Rattle.gj_json.specs.Refusal.{Stops, RefusedFor, IsRefusal}
-use Rattle.gj_json.specs.Text.{IsViableWithin}
-use Rattle.gj_coords.specs.declared.warnings.Warnings.{Warnings}
+use Rattle.gj_rules.proofs.Common.{AllValid, Allowed, Bool, Cause, Depth, IsRecordVerdict, IsRefusal, IsUndecided, IsViableWithin, JsonFault, Length}
+use Rattle.gj_rules.proofs.Common.{List, NotJson, RefusedFor, SequenceRecord, Stops, Syntax, Truncated, Valid, Warnings, ap, arith, cut_fault}
+use Rattle.gj_rules.proofs.Common.{ends_in_line_feed, false, has_separator, if_ended, is_stray, length, nat_lt, nat_tests, not_json, own_limits}
+use Rattle.gj_rules.proofs.Common.{record_end, records_from, records_of, refl, separator, shifted_verdict, subst, sym, take, take-append-add}
+use Rattle.gj_rules.proofs.Common.{take_all, true, [], ◌++◌, ◌+◌, ◌-◌, ◌∙◌, ◌∷◌, ◌≤◌}
+use Rattle.std.proofs.Common.{◌≡◌, ℕ, length-append}
 use Rattle.gj_coords.specs.Internal.KeptWarnings.{no_warnings, joined}
-use Rattle.gj_rules.specs.declared.verdict.Verdict.TheVariants.{Valid, NotJson}
-use Rattle.gj_rules.specs.Sequence.{separator, has_separator, SequenceRecord, records_from, records_of, shifted_verdict, not_json, if_ended, cut_fault}
-use Rattle.gj_rules.specs.Sequence.{record_end, own_limits, ends_in_line_feed, IsRecordVerdict, AllValid, is_stray, IsOpenIn, AreOpen, IsUndecided}
+use Rattle.gj_rules.specs.Sequence.{IsOpenIn, AreOpen}
 use Rattle.gj_rules.specs.Internal.OpenSequence.{closed}
 use Rattle.gj_rules.proofs.Sequences.RecordCuts.{record_at, cut_open}
 use Rattle.gj_rules.proofs.Sequences.OpenRecords.{stop_short}
@@ -40,8 +32,7 @@ going_on limits bytes more l =
 abbrev pub ByByte : Cause → Type 0
 ByByte Syntax = Unit {0}
 ByByte Depth = Unit {0}
-ByByte Truncated = ⊥
-ByByte Length = ⊥
+ByByte other = ⊥
 
 pub by_byte : (cause : Cause) (levels most place : ℕ) (bytes : List ℕ) → length bytes ≤ most
     → ((more : List ℕ) → RefusedFor cause (record { depth = levels; bytes = most }) (bytes ++ more) place) → ByByte cause
@@ -66,14 +57,12 @@ own_by_byte Syntax levels most place bytes b h =
     (own_stop levels most (length bytes) bytes place h.0, stop_short (record { depth = levels; bytes = most }) bytes place h.0, h.2)
 own_by_byte Depth levels most place bytes b h =
     (own_stop levels most (length bytes) bytes place h.0, stop_short (record { depth = levels; bytes = most }) bytes place h.0, h.2, h.3)
-own_by_byte Truncated levels most place bytes b h = absurd b
-own_by_byte Length levels most place bytes b h = absurd b
+own_by_byte other levels most place bytes b h = absurd b
 
 cut_kept : (cause : Cause) (place end : ℕ) → ByByte cause → cut_fault cause place end ≡ not_json place cause
 cut_kept Syntax place end b = refl
 cut_kept Depth place end b = refl
-cut_kept Truncated place end b = absurd b
-cut_kept Length place end b = absurd b
+cut_kept other place end b = absurd b
 
 end_kept : (is_cut : Bool) (bytes : List ℕ) (fault : JsonFault) → ByByte fault.cause → record_end is_cut bytes (NotJson fault) ≡ NotJson fault
 end_kept true bytes fault b = cut_kept fault.cause fault.place (length bytes) b

@@ -1,24 +1,17 @@
 -- Which byte decides a sequence, and what it decides.
-use Rattle.std.proofs.Common.{◌≡◌, ℕ, zero, suc, ◌+◌, ◌-◌, ◌<◌, ◌≤◌, Bool, true, false, ◌&&◌, not, nat_lt, if◌then◌else◌, List, [], ◌∷◌, ◌++◌, length}
-use Rattle.std.proofs.Common.{length-append, get_or, take, append_assoc, append-nil, add-zero, refl, ap, sym, subst, ◌∙◌, arith}
-use Rattle.std.proofs.lemmas.Bool.Decides.{nat_tests}
-use Rattle.std.proofs.Math.Seq.{take-append-add, take-append_seam}
-use Rattle.gj_json.specs.declared.fault.Cause.{Cause}
-use Rattle.gj_json.specs.declared.fault.Cause.TheVariants.{Syntax, Truncated, Depth, Length}
-use Rattle.gj_json.specs.declared.fault.JsonFault.{JsonFault}
-use Rattle.gj_json.specs.Limits.{Allowed}
-use Rattle.gj_json.specs.Refusal.{Stops, RefusedFor}
-use Rattle.gj_json.specs.Text.{IsViable, IsViableWithin}
-use Rattle.gj_coords.specs.declared.warnings.Warnings.{Warnings}
-use Rattle.gj_rules.specs.declared.sequence.verdict.SeqVerdict.{SeqVerdict}
-use Rattle.gj_rules.specs.declared.verdict.Verdict.{Verdict}
-use Rattle.gj_rules.specs.declared.verdict.Verdict.TheVariants.{Valid, Broken, NotJson}
-use Rattle.gj_rules.specs.Sequence.{separator, is_separator, begins_with_separator, has_separator, up_to_separator, SequenceRecord, records_from, records_of}
-use Rattle.gj_rules.specs.Sequence.{shifted_verdict, not_json, if_cut, record_end, own_limits, IsRecordVerdict, is_valid, AllValid, IsFirstFailing, is_stray}
-use Rattle.gj_rules.specs.Sequence.{IsJudgedBy, IsSequenceVerdict, IsUndecided}
-use Rattle.gj_rules.specs.SequenceStands.{IsSettled}
+use Rattle.gj_rules.proofs.Common.{AllValid, Allowed, Bool, Broken, Cause, Depth, IsFirstFailing, IsJudgedBy, IsRecordVerdict, IsSequenceVerdict}
+use Rattle.gj_rules.proofs.Common.{IsSettled, IsUndecided, IsVerdict, IsViableWithin, JsonFault, Length, List, NotJson, RefusedFor, SeqVerdict}
+use Rattle.gj_rules.proofs.Common.{SequenceRecord, Stops, Syntax, Truncated, Valid, Verdict, Warnings, add-zero, ap, append_assoc, arith}
+use Rattle.gj_rules.proofs.Common.{begins_with_separator, false, get_or, has_separator, if◌then◌else◌, is_separator, is_stray, is_valid, length}
+use Rattle.gj_rules.proofs.Common.{nat_lt, nat_tests, not, not_json, own_limits, record_end, records_from, records_of, refl, separator}
+use Rattle.gj_rules.proofs.Common.{shifted_verdict, subst, suc, sym, take, take-append-add, true, up_to_separator, zero, [], ◌&&◌, ◌++◌, ◌+◌, ◌-◌}
+use Rattle.gj_rules.proofs.Common.{◌<◌, ◌∙◌, ◌∷◌, ◌≤◌}
+use Rattle.std.proofs.Common.{◌≡◌, ℕ}
+use Rattle.std.proofs.Common.{length-append, append-nil}
+use Rattle.std.proofs.Math.Seq.{take-append_seam}
+use Rattle.gj_json.specs.Text.{IsViable}
+use Rattle.gj_rules.specs.Sequence.{if_cut}
 use Rattle.gj_rules.specs.Internal.OpenSequence.{closed}
-use Rattle.gj_rules.specs.Verdict.{IsVerdict}
 use Rattle.gj_rules.proofs.Sequences.RecordCuts.{record_at, first_plain, rest_plain, up_to_plain, cut_at, cut_open}
 use Rattle.gj_rules.proofs.Sequences.BytesOfSequences.{going_on, ByByte, by_byte, Lasting, refused_record, snoc_last, undecided, still_open}
 use Rattle.gj_json.proofs.Machine.LongestPrefixes.{front_viable}
@@ -297,8 +290,7 @@ place_short : (cause : Cause) (levels most place : ℕ) (bytes : List ℕ) → B
     (s : Stops (record { depth = levels; bytes = most }) (bytes ++ []) place) × (IsViableWithin levels (s.good ++ s.byte ∷ []) → ⊥)
 place_short Syntax levels most place bytes b h = (h.0, λ v. h.2 (without_levels levels (h.0.good ++ h.0.byte ∷ []) v))
 place_short Depth levels most place bytes b h = (h.0, h.3)
-place_short Truncated levels most place bytes b h = absurd b
-place_short Length levels most place bytes b h = absurd b
+place_short other levels most place bytes b h = absurd b
 
 pub settled_refused : (limits : Allowed) (most : ℕ) (all done given : List ℕ) (w : Warnings) (number : ℕ) (fault : JsonFault) → all ≡ done ++ separator ∷ given
     → length all ≤ limits.bytes → limits.bytes ≤ most →

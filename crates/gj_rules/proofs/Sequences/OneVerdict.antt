@@ -1,15 +1,9 @@
 -- Records have one verdict together, and no other.
-use Rattle.std.proofs.Common.{◌≡◌, ◌⊎◌, inl, inr, ⊎_elim, ℕ, suc, ◌+◌, Bool, true, false, List, [], ◌∷◌, ◌++◌, length, refl, ap, sym, subst, ◌∙◌, arith}
-use Rattle.gj_json.specs.Limits.{Allowed}
-use Rattle.gj_json.specs.declared.fault.Cause.TheVariants.{Syntax}
-use Rattle.gj_coords.specs.declared.warnings.Warnings.{Warnings}
+use Rattle.gj_rules.proofs.Common.{AllValid, Allowed, Bool, Broken, IsFirstFailing, IsJudgedBy, IsRecordVerdict, IsVerdict, List, NotJson, SeqVerdict}
+use Rattle.gj_rules.proofs.Common.{SequenceRecord, Syntax, Valid, Verdict, Warnings, ap, arith, false, inl, inr, is_valid, length, not_json}
+use Rattle.gj_rules.proofs.Common.{own_limits, record_end, refl, shifted_verdict, subst, suc, sym, true, [], ⊎_elim, ◌++◌, ◌+◌, ◌∙◌, ◌∷◌, ◌⊎◌}
+use Rattle.std.proofs.Common.{◌≡◌, ℕ}
 use Rattle.gj_coords.specs.Internal.KeptWarnings.{no_warnings, joined}
-use Rattle.gj_rules.specs.declared.sequence.verdict.SeqVerdict.{SeqVerdict}
-use Rattle.gj_rules.specs.declared.verdict.Verdict.{Verdict}
-use Rattle.gj_rules.specs.declared.verdict.Verdict.TheVariants.{Valid, Broken, NotJson}
-use Rattle.gj_rules.specs.Sequence.{SequenceRecord, shifted_verdict, record_end, own_limits, not_json, IsRecordVerdict, is_valid, AllValid, IsFirstFailing}
-use Rattle.gj_rules.specs.Sequence.{IsJudgedBy}
-use Rattle.gj_rules.specs.Verdict.{IsVerdict}
 
 -- ---- some verdict
 

@@ -1,22 +1,14 @@
 -- The bytes of a record, their last one, and the record's verdict.
-use Rattle.std.proofs.Common.{◌≡◌, ℕ, zero, suc, ◌+◌, ◌-◌, ◌<◌, ◌≤◌, Bool, true, false, List, [], ◌∷◌, ◌++◌, length, length-append, get_or, None, refl, ap, sym}
-use Rattle.std.proofs.Common.{◌∙◌, arith, nat_eq}
-use Rattle.gj_json.specs.declared.fault.Cause.{Cause}
-use Rattle.gj_json.specs.declared.fault.Cause.TheVariants.{Syntax, Truncated, Depth, Length}
+use Rattle.gj_rules.proofs.Common.{Allowed, Bool, Broken, Cause, Depth, Framing, Input, IsVerdict, Length, Limit, Lines, List, NotJson, RecordEnd}
+use Rattle.gj_rules.proofs.Common.{RefusedFor, Separator, Stops, Syntax, TellsPlace, Truncated, Valid, Verdict, ap, arith, cut_fault, false, get_or}
+use Rattle.gj_rules.proofs.Common.{if_ended, length, nat_eq, own_limits, refl, separator, shifted_verdict, suc, sym, true, zero, [], ◌++◌, ◌+◌, ◌-◌}
+use Rattle.gj_rules.proofs.Common.{◌<◌, ◌∙◌, ◌∷◌, ◌≤◌}
+use Rattle.std.proofs.Common.{◌≡◌, ℕ, length-append, None}
 use Rattle.gj_json.specs.Bytes.{line_feed}
-use Rattle.gj_json.specs.Limits.{Allowed}
-use Rattle.gj_json.specs.Refusal.{Stops, RefusedFor}
 use Rattle.gj_coords.specs.Internal.KeptWarnings.{no_warnings, shifted}
-use Rattle.gj_rules.specs.declared.records.framing.Framing.{Framing}
-use Rattle.gj_rules.specs.declared.records.framing.Framing.TheVariants.{Sequence, Lines}
-use Rattle.gj_rules.specs.declared.records.framing.RecordEnd.{RecordEnd}
-use Rattle.gj_rules.specs.declared.records.framing.RecordEnd.TheVariants.{Separator, Input, Limit}
+use Rattle.gj_rules.specs.declared.records.framing.Framing.TheVariants.{Sequence}
 use Rattle.gj_rules.specs.RecordFindings.{ended_as}
-use Rattle.gj_rules.specs.declared.verdict.Verdict.{Verdict}
-use Rattle.gj_rules.specs.declared.verdict.Verdict.TheVariants.{Valid, Broken, NotJson}
-use Rattle.gj_rules.specs.Internal.ToldPlaces.{TellsPlace}
-use Rattle.gj_rules.specs.Sequence.{separator, last_byte, if_ended, cut_fault, shifted_verdict, own_limits}
-use Rattle.gj_rules.specs.Verdict.{IsVerdict}
+use Rattle.gj_rules.specs.Sequence.{last_byte}
 use Rattle.gj_json.specs.declared.reader.Reader.{Reader}
 use Rattle.gj_json.specs.Reader.{StandsFor as ReaderStandsFor, refusal_of as reader_refusal, offset_of as reader_offset}
 use Rattle.gj_rules.specs.declared.linter.Linter.{Linter}
@@ -89,8 +81,7 @@ pub ended_within : (ended : Bool) (end n place : ℕ) (verdict : Verdict) → en
     → TellsPlace place (if_ended ended end verdict) → place ≤ n
 ended_within true end n place verdict l h p = h place p
 ended_within false end n place (NotJson fault) l h p = h place p
-ended_within false end n place (Valid w) l h p = omega (arith, p)
-ended_within false end n place (Broken fault) l h p = omega (arith, p)
+ended_within false end n place other l h p = omega (arith, p)
 
 pub ended_as_within : (framing : Framing) (ending : RecordEnd) (ended : Bool) (end n place : ℕ) (verdict : Verdict) → end ≤ n
     → ((p : ℕ) → TellsPlace p verdict → p ≤ n)
@@ -102,12 +93,10 @@ ended_as_within framing Limit ended end n place (NotJson fault) l h p = by_cause
     by_cause : (cause : Cause) (at : ℕ) → at ≤ n → TellsPlace place (cut_fault cause at end) → place ≤ n
     by_cause Syntax at k q = omega (arith, k, q)
     by_cause Depth at k q = omega (arith, k, q)
-    by_cause Truncated at k q = omega (arith, l, q)
-    by_cause Length at k q = omega (arith, l, q)
+    by_cause other at k q = omega (arith, l, q)
 ended_as_within Sequence Separator ended end n place verdict l h p = ended_within ended end n place verdict l h p
 ended_as_within Sequence Input ended end n place verdict l h p = ended_within ended end n place verdict l h p
-ended_as_within Lines Separator ended end n place verdict l h p = h place p
-ended_as_within Lines Input ended end n place verdict l h p = h place p
+ended_as_within Lines other ended end n place verdict l h p = h place p
 
 -- the verdict by what is known of the bytes
 pub told_ended : (framing : Framing) (ending : RecordEnd) (start last end : ℕ) (bytes : List ℕ) (verdict : Verdict) → last ≡ last_byte separator bytes

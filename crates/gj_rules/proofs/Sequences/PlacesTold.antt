@@ -1,19 +1,13 @@
 -- The places that a verdict names are those of what it says.
-use Rattle.std.proofs.Common.{◌≡◌, ◌<◌, ◌==◌, ℕ, ◌≤◌, List, length, Bool, true, false, if◌then◌else◌, Some, None, refl, sym, ◌∙◌, arith}
-use Rattle.std.proofs.lemmas.Bool.Decides.{nat_tests}
-use Rattle.gj_json.specs.Limits.{Allowed}
+use Rattle.gj_rules.proofs.Common.{Allowed, Bool, Broken, IsVerdict, Judgement, Kind, List, NotJson, TellsPlace, Valid, Verdict, Warning, Warnings}
+use Rattle.gj_rules.proofs.Common.{arith, broken, false, if◌then◌else◌, length, nat_tests, refl, sym, text_warnings, true, valid, ◌<◌, ◌∙◌, ◌≤◌}
+use Rattle.std.proofs.Common.{◌≡◌, ◌==◌, ℕ, Some, None}
 use Rattle.gj_coords.specs.Internal.KeptWarnings.{kept, first_in}
-use Rattle.gj_coords.specs.Warnings.{Warning, first_of}
+use Rattle.gj_coords.specs.Warnings.{first_of}
 use Rattle.gj_coords.specs.WarningsStand.{StandsFor}
-use Rattle.gj_coords.specs.declared.kind.Kind.{Kind}
-use Rattle.gj_coords.specs.declared.warnings.Warnings.{Warnings}
 use Rattle.gj_coords.proofs.Lists.ListsStoodFor.{kept_of, first_is, first_is_none}
-use Rattle.gj_rules.specs.Internal.ToldPlaces.{TellsPlace}
 use Rattle.gj_rules.specs.Places.{IsPlaceIn}
-use Rattle.gj_rules.specs.TextWarnings.{text_warnings}
-use Rattle.gj_rules.specs.Verdict.{Judgement, valid, broken, refused, IsJudgement, IsVerdict}
-use Rattle.gj_rules.specs.declared.verdict.Verdict.{Verdict}
-use Rattle.gj_rules.specs.declared.verdict.Verdict.TheVariants.{Valid, Broken, NotJson}
+use Rattle.gj_rules.specs.Verdict.{refused, IsJudgement}
 
 -- the first place that is named is the least of the list
 first_told : (told : Warnings) (kind : Kind) (warnings : List Warning) → StandsFor told warnings → first_in kind told ≡ first_of kind warnings

@@ -1,7 +1,8 @@
 -- How an input is cut into records, as it goes on.
-use Rattle.std.proofs.Common.{◌≡◌, ℕ, suc, ◌+◌, Bool, true, false, ◌&&◌, ◌||◌, not, if◌then◌else◌, List, [], ◌∷◌, ◌++◌, length, refl, ap, sym, ◌∙◌, arith}
-use Rattle.std.proofs.Common.{add-zero}
-use Rattle.gj_rules.specs.Sequence.{separator, is_separator, begins_with_separator, has_separator, up_to_separator, SequenceRecord, records_from}
+use Rattle.gj_rules.proofs.Common.{Bool, List, SequenceRecord, add-zero, ap, arith, begins_with_separator, false, has_separator, if◌then◌else◌}
+use Rattle.gj_rules.proofs.Common.{is_separator, length, not, records_from, refl, separator, suc, sym, true, up_to_separator, [], ◌&&◌, ◌++◌, ◌+◌}
+use Rattle.gj_rules.proofs.Common.{◌||◌, ◌∙◌, ◌∷◌}
+use Rattle.std.proofs.Common.{◌≡◌, ℕ}
 use Rattle.gj_rules.specs.Internal.OpenSequence.{closed}
 
 abbrev pub record_at : ℕ → List ℕ → Bool → SequenceRecord

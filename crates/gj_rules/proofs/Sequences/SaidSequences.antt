@@ -1,22 +1,17 @@
 -- The verdict of a sequence says what the sequence is, and no other verdict does.
-use Rattle.std.proofs.Common.{◌≡◌, ℕ, Bool, true, false, List, [], ◌∷◌, ◌++◌, length, refl, ap, sym, subst, ◌∙◌}
-use Rattle.gj_json.specs.declared.fault.Cause.{Cause}
-use Rattle.gj_json.specs.declared.fault.Cause.TheVariants.{Syntax, Truncated, Depth, Length}
-use Rattle.gj_coords.specs.Internal.KeptWarnings.{warnings_of}
-use Rattle.gj_coords.specs.Internal.WarningLaws.{warnings_of_none, warnings_of-append}
-use Rattle.gj_coords.specs.Warnings.{Warning}
-use Rattle.gj_coords.specs.declared.warnings.Warnings.{Warnings}
+use Rattle.gj_rules.proofs.Common.{AllValid, Bool, Broken, Cause, Depth, IsJudgedBy, IsRecordVerdict, Judgement, Length, List, NotJson, SeqVerdict}
+use Rattle.gj_rules.proofs.Common.{SequenceRecord, Syntax, Truncated, Valid, Verdict, Warning, Warnings, ap, broken, cut_fault, ends_in_line_feed}
+use Rattle.gj_rules.proofs.Common.{false, if_ended, is_valid, length, not_json, record_end, refl, shifted_verdict, subst, sym, true, valid}
+use Rattle.gj_rules.proofs.Common.{warnings_of, warnings_of-append, warnings_of_none, [], ◌++◌, ◌∙◌, ◌∷◌}
+use Rattle.std.proofs.Common.{◌≡◌, ℕ}
 use Rattle.gj_coords.proofs.Lists.ListsStoodFor.{joined_stands}
 use Rattle.gj_coords.proofs.Lists.ShiftedWarnings.{shifted_stands}
 use Rattle.gj_rules.specs.Internal.JudgementLaws.{said, says}
-use Rattle.gj_rules.specs.Sequence.{SequenceRecord, shifted_verdict, not_json, if_ended, cut_fault, if_cut, record_end, ends_in_line_feed, is_valid}
-use Rattle.gj_rules.specs.Sequence.{IsRecordVerdict, AllValid, IsJudgedBy, SequenceJudgement, all_valid, failing, SequenceSays}
+use Rattle.gj_rules.specs.Sequence.{if_cut}
+use Rattle.gj_rules.specs.Sequence.{SequenceJudgement, all_valid, failing, SequenceSays}
 use Rattle.gj_rules.specs.SequenceJudgement.{shifted_judgement, refused_at, judged_if_ended, cut_refusal, judged_if_cut, judged_end, IsRecordJudgement}
 use Rattle.gj_rules.specs.SequenceJudgement.{is_valid_judgement, AllValidWith, IsJudgedAs}
-use Rattle.gj_rules.specs.Verdict.{Judgement, valid, broken, refused, Says}
-use Rattle.gj_rules.specs.declared.sequence.verdict.SeqVerdict.{SeqVerdict}
-use Rattle.gj_rules.specs.declared.verdict.Verdict.{Verdict}
-use Rattle.gj_rules.specs.declared.verdict.Verdict.TheVariants.{Valid, Broken, NotJson}
+use Rattle.gj_rules.specs.Verdict.{refused, Says}
 
 -- ---- the one verdict that says a judgement
 
@@ -27,37 +22,28 @@ told (refused fault) = NotJson fault
 
 told_says : (judgement : Judgement) → Says (told judgement) judgement
 told_says (valid warnings) = refl
-told_says (broken fault) = refl
-told_says (refused fault) = refl
+told_says other = refl
 
 told_is : (verdict : Verdict) (judgement : Judgement) → Says verdict judgement → verdict ≡ told judgement
 told_is (Valid kept) (valid warnings) h = ap Valid h
 told_is (Broken fault) (broken other) h = ap Broken h
 told_is (NotJson fault) (refused other) h = ap NotJson h
-told_is (Valid kept) (broken fault) h = elim h [ ]
-told_is (Valid kept) (refused fault) h = elim h [ ]
-told_is (Broken fault) (valid warnings) h = elim h [ ]
-told_is (Broken fault) (refused other) h = elim h [ ]
-told_is (NotJson fault) (valid warnings) h = elim h [ ]
-told_is (NotJson fault) (broken other) h = elim h [ ]
+told_is another third h = elim h [ ]
 
 valid_alike : (judgement : Judgement) → is_valid (told judgement) ≡ is_valid_judgement judgement
 valid_alike (valid warnings) = refl
-valid_alike (broken fault) = refl
-valid_alike (refused fault) = refl
+valid_alike other = refl
 
 listed : (kept : Warnings) (judgement : Judgement) → Valid kept ≡ told judgement → (warnings : List Warning) × (judgement ≡ valid warnings)
     × (kept ≡ warnings_of warnings)
 listed kept (valid warnings) h = (warnings, refl, cc)
-listed kept (broken fault) h = cc
-listed kept (refused fault) h = cc
+listed kept other h = cc
 
 -- ---- a record
 
 shifted_told : (by : ℕ) (judgement : Judgement) → shifted_verdict by (told judgement) ≡ told (shifted_judgement by judgement)
 shifted_told by (valid warnings) = ap Valid (shifted_stands (warnings_of warnings) by warnings refl)
-shifted_told by (broken fault) = refl
-shifted_told by (refused fault) = refl
+shifted_told by other = refl
 
 ended_told : (ended : Bool) (end : ℕ) (judgement : Judgement) → if_ended ended end (told judgement) ≡ told (judged_if_ended ended end judgement)
 ended_told true end judgement = refl
@@ -67,9 +53,7 @@ ended_told false end (refused fault) = refl
 
 cause_told : (cause : Cause) (place end : ℕ) → cut_fault cause place end ≡ told (cut_refusal cause place end)
 cause_told Syntax place end = refl
-cause_told Depth place end = refl
-cause_told Truncated place end = refl
-cause_told Length place end = refl
+cause_told other place end = refl
 
 cut_told : (end : ℕ) (judgement : Judgement) → if_cut end (told judgement) ≡ told (judged_if_cut end judgement)
 cut_told end (valid warnings) = refl
@@ -169,5 +153,4 @@ sequence_is false levels records (SeqVerdict.Record number verdict) (failing cou
       verdict_of_it = subst (IsRecordVerdict levels is.failing) (sym same) (record_verdict levels is.failing judgement is.judgement_of_it);
       fails = ap is_valid same ∙ (valid_alike judgement ∙ is.fails);
     }
-sequence_is false levels records (SeqVerdict.Valid count kept) (failing number judgement) is h = elim h [ ]
-sequence_is false levels records (SeqVerdict.Record number verdict) (all_valid count warnings) is h = elim h [ ]
+sequence_is false levels records other another is h = elim h [ ]

@@ -1,29 +1,20 @@
 -- What a sequence stands for, from step to step.
-use Rattle.std.proofs.Common.{◌≡◌, ◌⊎◌, inl, inr, ⊎_elim, ℕ, zero, suc, ◌+◌, ◌-◌, ◌<◌, ◌≤◌, Bool, true, false, List, [], ◌∷◌, ◌++◌, length, length-append, take}
-use Rattle.std.proofs.Common.{drop, append_assoc, append-nil, Option, Some, None, refl, ap, sym, subst, ◌∙◌, arith, take-add}
-use Rattle.std.proofs.lemmas.List.{take_all, length-drop}
-use Rattle.gj_json.specs.declared.fault.JsonFault.{JsonFault}
-use Rattle.gj_json.specs.Limits.{Allowed}
-use Rattle.gj_json.specs.Refusal.{IsRefusal, IsAdmitted, RefusedFor}
-use Rattle.gj_json.specs.declared.fault.Cause.{Cause}
-use Rattle.gj_json.specs.declared.fault.Cause.TheVariants.{Syntax, Truncated, Depth, Length}
-use Rattle.gj_json.specs.Text.{IsViableWithin}
-use Rattle.gj_json.specs.Tree.{Text}
-use Rattle.gj_coords.specs.declared.warnings.Warnings.{Warnings}
+use Rattle.gj_rules.proofs.Common.{AllValid, Allowed, Bool, Broken, Cause, Depth, IsAdmitted, IsJudgedBy, IsRecordVerdict, IsRefusal}
+use Rattle.gj_rules.proofs.Common.{IsSequenceVerdict, IsSettled, IsUndecided, IsVerdict, IsViableWithin, JsonFault, Length, List, NotJson, RefusedFor}
+use Rattle.gj_rules.proofs.Common.{SeqVerdict, SequenceRecord, Syntax, Text, Truncated, Valid, Verdict, Warnings, ap, append_assoc, arith, drop}
+use Rattle.gj_rules.proofs.Common.{false, has_separator, inl, inr, is_decided, is_stray, is_valid, length, not_json, records_from, records_of, refl}
+use Rattle.gj_rules.proofs.Common.{separator, subst, suc, sym, take, take_all, true, zero, [], ⊎_elim, ◌++◌, ◌+◌, ◌-◌, ◌<◌, ◌∙◌, ◌∷◌, ◌≤◌, ◌⊎◌}
+use Rattle.std.proofs.Common.{◌≡◌, ℕ, length-append}
+use Rattle.std.proofs.Common.{append-nil, Option, Some, None, take-add}
+use Rattle.std.proofs.lemmas.List.{length-drop}
 use Rattle.gj_coords.specs.Internal.KeptWarnings.{no_warnings, joined}
 use Rattle.gj_rules.specs.declared.sequence.Decision.{Decision}
 use Rattle.gj_rules.specs.declared.sequence.SeqProgress.TheVariants as Progress
 use Rattle.gj_rules.specs.declared.sequence.SeqProgress.{SeqProgress}
 use Rattle.gj_rules.specs.declared.sequence.Sequence.{Sequence}
-use Rattle.gj_rules.specs.declared.sequence.verdict.SeqVerdict.{SeqVerdict}
-use Rattle.gj_rules.specs.Verdict.{IsVerdict}
-use Rattle.gj_rules.specs.Sequence.{separator, has_separator, SequenceRecord, records_from, records_of, AllValid, IsSequenceVerdict, IsUndecided, is_stray}
-use Rattle.gj_rules.specs.SequenceStands.{IsSettled, StandsBy, StandsFor, has_decided, is_decided, says_decided, Answers}
+use Rattle.gj_rules.specs.SequenceStands.{StandsBy, StandsFor, has_decided, says_decided, Answers}
 use Rattle.gj_rules.specs.Internal.OpenSequence.{closed, IsIn, IsBefore, IsAt, IsLive}
-use Rattle.gj_rules.specs.declared.verdict.Verdict.{Verdict}
-use Rattle.gj_rules.specs.declared.verdict.Verdict.TheVariants.{Valid, Broken, NotJson}
 use Rattle.gj_rules.specs.Internal.OpenRecord.{fault_shifted}
-use Rattle.gj_rules.specs.Sequence.{IsRecordVerdict, IsJudgedBy, is_valid, not_json}
 use Rattle.gj_rules.specs.Internal.VerdictParts.{valid_warnings}
 use Rattle.gj_rules.proofs.Sequences.RecordCuts.{record_at, plain-append, cut_open}
 use Rattle.gj_rules.proofs.Sequences.DecidingBytes.{Known, known_undecided, regroup, begun_more, closed_more, closed_again, first_failing, settled_refused}
@@ -133,13 +124,11 @@ live_stands new bytes e h = by_option new.decided e h
 
 pub was_valid : (v : Verdict) (w : Warnings) → valid_warnings v ≡ Some w → v ≡ Valid w
 was_valid (Valid x) w e = cc
-was_valid (Broken fault) w e = cc
-was_valid (NotJson fault) w e = cc
+was_valid other w e = cc
 
 pub was_failing : (v : Verdict) → valid_warnings v ≡ None → is_valid v ≡ false
 was_failing (Valid x) e = cc
-was_failing (Broken fault) e = refl
-was_failing (NotJson fault) e = refl
+was_failing other e = refl
 
 -- the record's verdict, at its place after the separator
 pub placed : (levels : ℕ) (s : Sequence) (bytes : List ℕ) (h : IsLive s bytes) (k : IsIn s bytes) (verdict other : Verdict) → verdict ≡ other

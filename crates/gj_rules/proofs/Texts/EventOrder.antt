@@ -1,17 +1,16 @@
 -- The events of a text are complete one after the other.
-use Rattle.std.proofs.Common.{◌≡◌, ℕ, ◌+◌, ◌≤◌, ◌<◌, Bool, true, false, List, [], ◌∷◌, ◌++◌, map, length, refl, ap, subst, ◌∙◌, arith, append_assoc, nat_le}
-use Rattle.std.proofs.lemmas.Bool.Decides.{nat_tests}
+use Rattle.gj_rules.proofs.Common.{AllByRecursion, Bool, IsText, List, Members, Spells, SpellsElements, SpellsMembers, SpellsMoreElements}
+use Rattle.gj_rules.proofs.Common.{SpellsMoreMembers, Text, Told, Tree, ap, append_assoc, arith, array, at_of, by, constant, element, elements_told}
+use Rattle.gj_rules.proofs.Common.{end_of_array, end_of_object, event_of, false, length, map, mark_told, member, members_told, nat_le, nat_tests}
+use Rattle.gj_rules.proofs.Common.{number, object, plain, refl, string, subst, text_told, told, true, [], ◌++◌, ◌+◌, ◌<◌, ◌∙◌, ◌∷◌, ◌≤◌}
+use Rattle.std.proofs.Common.{◌≡◌, ℕ}
 use Rattle.std.proofs.lemmas.List.{length-append, append-nil}
-use Rattle.std.specs.List.{AllByRecursion}
 use Rattle.gj_json.specs.declared.event.What.TheVariants as What
 use Rattle.gj_json.specs.Bytes.{mark_bytes}
-use Rattle.gj_json.specs.Events.{by}
-use Rattle.gj_json.specs.Grammar.{Then, White, Ends, Quoted, letters_of, Spells, SpellsElements, SpellsMoreElements, SpellsMembers, SpellsMoreMembers}
-use Rattle.gj_json.specs.Text.{IsText, SpellsMark}
+use Rattle.gj_json.specs.Grammar.{Then, White, Ends, Quoted, letters_of}
+use Rattle.gj_json.specs.Text.{SpellsMark}
 use Rattle.gj_json.specs.Tree as Tree
-use Rattle.gj_json.specs.Tree.{Tree, constant, number, string, array, object, end_of_array, element, Members, end_of_object, member, Text}
 use Rattle.gj_rules.proofs.Texts.TimedEvents.{timed_of}
-use Rattle.gj_rules.specs.Internal.LabelledEvents.{Told, plain, event_of, at_of, told, elements_told, members_told, mark_told, text_told}
 use Rattle.gj_json.proofs.Events.EventTimes.{constant_long}
 
 -- ---- order

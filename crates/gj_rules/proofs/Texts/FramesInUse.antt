@@ -1,39 +1,25 @@
 -- At each prefix of a text the frames in use are those of its open objects that have a role.
-use Rattle.std.proofs.Common.{◌≡◌, ℕ, suc, ◌+◌, ◌<◌, ◌≤◌, Bool, true, false, not, ◌&&◌, if◌then◌else◌, nat_lt, List, [], ◌∷◌, ◌++◌, map, length}
-use Rattle.std.proofs.Common.{is_some, inl, inr, Option, Some, None, refl, sym, ap, subst, ◌∙◌, arith, append_assoc}
-use Rattle.std.proofs.lemmas.Bool.{cases_lt}
-use Rattle.std.proofs.lemmas.Bool.Decides.{nat_tests}
-use Rattle.gj_json.specs.declared.constant.Constant.TheVariants.{Null, True, False}
-use Rattle.gj_json.specs.declared.event.Event.{Event}
+use Rattle.gj_rules.proofs.Common.{Bool, Coordinates, Crs, Done, Event, False, Fault, Features, Findings, Frame, G1, Geometries, Geometry, IsText}
+use Rattle.gj_rules.proofs.Common.{List, Members, Mode, Names, Null, Other, Role, Slot, State, Text, Told, Tree, True, Warnings, all_faults, all_kept}
+use Rattle.gj_rules.proofs.Common.{ap, append_assoc, arith, array, at_of, blank, by, cases_lt, constant, due_known, element, elements_told}
+use Rattle.gj_rules.proofs.Common.{end_of_array, end_of_object, event_of, false, fault_at, faults, if◌then◌else◌, inl, inr, is_known, is_some}
+use Rattle.gj_rules.proofs.Common.{judged_at, judged_in, least, least-append, length, map, mark_told, marked_kept, member, member_of, members_told}
+use Rattle.gj_rules.proofs.Common.{mentions, mode_behind, nat_lt, nat_tests, not, number, object, plain, refl, run, same, settled, slot_of, start}
+use Rattle.gj_rules.proofs.Common.{step, string, subst, suc, sym, taken_any, taken_in, text_told, told, true, value_events, [], ◌&&◌, ◌++◌, ◌+◌, ◌<◌}
+use Rattle.gj_rules.proofs.Common.{◌∙◌, ◌∷◌, ◌≤◌}
+use Rattle.std.proofs.Common.{◌≡◌, ℕ}
+use Rattle.std.proofs.Common.{Option, Some, None}
 use Rattle.gj_json.specs.declared.names.Known.{Known}
-use Rattle.gj_json.specs.declared.names.Known.TheVariants.{Coordinates, Geometries, Geometry, Features, Bbox, Crs, Other}
+use Rattle.gj_json.specs.declared.names.Known.TheVariants.{Bbox}
 use Rattle.gj_json.specs.declared.event.What.TheVariants as What
-use Rattle.gj_json.specs.Events.{value_events, by}
-use Rattle.gj_json.specs.Text.{IsText}
 use Rattle.gj_json.specs.Names.{known_of}
 use Rattle.gj_json.specs.Open.{is_open}
 use Rattle.gj_json.specs.Tree as Tree
-use Rattle.gj_json.specs.Tree.{Tree, constant, number, string, array, object, end_of_array, element, Members, end_of_object, member, Text}
-use Rattle.gj_coords.specs.declared.fault.Fault.{Fault}
-use Rattle.gj_coords.specs.declared.fault.Rule.TheVariants.{G1}
-use Rattle.gj_coords.specs.Fault.{least, fault_at}
-use Rattle.gj_coords.specs.Internal.LeastLaws.{least-append}
-use Rattle.gj_coords.specs.declared.warnings.Warnings.{Warnings}
-use Rattle.gj_rules.specs.Internal.FrameMeaning.{Findings}
-use Rattle.gj_rules.specs.Internal.FrameMeaning.{Frame}
-use Rattle.gj_rules.specs.declared.member_slots.Slot.{Slot}
-use Rattle.gj_rules.specs.declared.role.Role.{Role}
-use Rattle.gj_rules.specs.declared.mode.Mode.{Mode}
-use Rattle.gj_rules.specs.declared.mode.Mode.TheVariants.{Names, Elements, Done}
-use Rattle.gj_rules.specs.Faults.{faults, all_faults}
-use Rattle.gj_rules.specs.Internal.FrameCalls.{blank, named, due_after, joined, taken_in, taken_any, settled, filled, member_taken, members_taken}
-use Rattle.gj_rules.specs.Internal.OpenMembers.{slot_of, due_known}
-use Rattle.gj_rules.specs.Internal.TextKept.{marked_kept, kept, all_kept}
-use Rattle.gj_rules.specs.Judged.{gives, counted, judged_in, list_judged, elements_judged, members_judged, judged_at}
-use Rattle.gj_rules.specs.Members.{is_known, mentions, same}
+use Rattle.gj_rules.specs.declared.mode.Mode.TheVariants.{Elements}
+use Rattle.gj_rules.specs.Internal.FrameCalls.{named, due_after, joined, filled, member_taken, members_taken}
+use Rattle.gj_rules.specs.Internal.TextKept.{kept}
+use Rattle.gj_rules.specs.Judged.{gives, counted, list_judged, elements_judged, members_judged}
 use Rattle.gj_rules.specs.Internal.RulesState.{frames_by}
-use Rattle.gj_rules.specs.Internal.EventSteps.{State, step, run, start, member_of, mode_behind}
-use Rattle.gj_rules.specs.Internal.LabelledEvents.{Told, plain, event_of, at_of, told, elements_told, members_told, mark_told, text_told}
 use Rattle.gj_rules.proofs.Texts.ValuesByEvents.{st, feeding, due_st, behind, behind_idle, mode_listed, IsListed, IsFed, some_told, up, down, frame_role}
 use Rattle.gj_rules.proofs.Texts.ValuesByEvents.{had_found, due_root}
 use Rattle.gj_rules.proofs.Objects.AllMembers.{Mentions, mentions_step, member_object}
@@ -71,10 +57,7 @@ late_counted : (name : Known) (b : Bool) (g gs fs : ℕ) → g ≡ 0 → gs ≡ 
 late_counted Geometry true g gs fs e f h = e
 late_counted Geometries true g gs fs e f h = f
 late_counted Features true g gs fs e f h = h
-late_counted Geometry false g gs fs e f h = refl
-late_counted Geometries false g gs fs e f h = refl
-late_counted Features false g gs fs e f h = refl
-late_counted _ b g gs fs e f h = refl
+late_counted other another g gs fs e f h = refl
 
 mutual
   pub late_value : (v : Tree) (n : ℕ) (r : Role) → Late n (told v) → judged_in n r v ≡ 0
@@ -261,9 +244,7 @@ IsInner _ = Unit {0}
 
 inner_frames : (r : Role) → IsInner r → (o : List Frame) → frames_by (mode_behind r) o ≡ length o + 1
 inner_frames Role.Root q o = absurd q
-inner_frames Role.Geometry q o = refl
-inner_frames Role.Part q o = refl
-inner_frames Role.Feature q o = refl
+inner_frames other q o = refl
 
 listed_inner : (r : Role) → IsListed r → IsInner r
 listed_inner Role.Part q = tt

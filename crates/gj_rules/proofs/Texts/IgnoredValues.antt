@@ -1,11 +1,9 @@
 -- Events of a value that is not looked into, in a row.
-use Rattle.std.proofs.Common.{◌≡◌, ℕ, zero, suc, ◌<◌, List, [], ◌∷◌, ◌++◌, refl, sym, ap, subst, ◌∙◌, arith, append_assoc, append-nil}
-use Rattle.gj_json.specs.declared.event.Event.{Event}
-use Rattle.gj_json.specs.Ignored.{levels_behind, Leaves}
-use Rattle.gj_rules.specs.declared.rules.FramedRules.{FramedRules}
-use Rattle.gj_rules.specs.Internal.RulesState.{core_of, Holds}
+use Rattle.gj_rules.proofs.Common.{Core, Event, FramedRules, Holds, List, ap, append_assoc, arith, core_of, core_step, levels_behind, refl, subst}
+use Rattle.gj_rules.proofs.Common.{suc, sym, zero, [], ◌++◌, ◌<◌, ◌∙◌, ◌∷◌}
+use Rattle.std.proofs.Common.{◌≡◌, ℕ, append-nil}
+use Rattle.gj_json.specs.Ignored.{Leaves}
 use Rattle.gj_rules.specs.Rules.{StandsFor}
-use Rattle.gj_rules.specs.Internal.EventSteps.{Core, core_step}
 use Rattle.gj_rules.proofs.Texts.OneEventMore.{told_on, steps_taken}
 
 abbrev skipping : {frames : ℕ} → ℕ → FramedRules frames → FramedRules frames

@@ -1,37 +1,18 @@
 -- A whole member `geometry` that is a Point whose coordinates stand before its type adds to the frame around what any other whole Point does.
-use Rattle.std.proofs.Common.{◌≡◌, ℕ, List, [], ◌∷◌, ◌++◌, map, Option, None, refl, ap, subst, ◌∙◌, append_assoc}
-use Rattle.gj_json.specs.declared.event.Event.{Event}
-use Rattle.gj_json.specs.declared.event.What.{What}
-use Rattle.gj_json.specs.declared.flat.Flat.{Flat}
+use Rattle.gj_rules.proofs.Common.{Coordinates, Due, Event, Fault, Feed, Findings, Flat, Frame, FramedRules, Geometry, List, Names, Role, Shapes}
+use Rattle.gj_rules.proofs.Common.{Simple, State, Told, Tree, TypeName, Warnings, What, Word, ap, append_assoc, blank, coordinates_faults}
+use Rattle.gj_rules.proofs.Common.{coordinates_kept, core_of, event_of, flat_events, least, lesser, map, names_step, numbers_of, refl, rules_of, run}
+use Rattle.gj_rules.proofs.Common.{settled, shapes_of, step, subst, taken_in, top_of, [], ◌++◌, ◌∙◌, ◌∷◌}
+use Rattle.std.proofs.Common.{◌≡◌, ℕ, Option, None}
 use Rattle.gj_json.specs.declared.head.LatePoint.{LatePoint}
-use Rattle.gj_json.specs.declared.names.Known.TheVariants.{TypeName, Coordinates, Geometry}
-use Rattle.gj_json.specs.declared.names.Word.{Word}
-use Rattle.gj_json.specs.Flat.{numbers_of, flat_events}
 use Rattle.gj_json.specs.Head.{late_point_events}
-use Rattle.gj_json.specs.Tree.{Tree}
-use Rattle.gj_coords.specs.declared.fault.Fault.{Fault}
-use Rattle.gj_coords.specs.declared.simple.Simple.{Simple}
-use Rattle.gj_coords.specs.declared.warnings.Warnings.{Warnings}
-use Rattle.gj_coords.specs.Fault.{least, lesser}
 use Rattle.gj_coords.specs.PlainPoint.{IsPointWith}
-use Rattle.gj_coords.specs.Shape.{coordinates_faults}
-use Rattle.gj_coords.specs.Internal.CoordinatesKept.{coordinates_kept}
 use Rattle.gj_coords.specs.Internal.KeptWarnings.{no_warnings, joined}
-use Rattle.gj_rules.specs.declared.mode.Mode.TheVariants.{Names, Due}
-use Rattle.gj_rules.specs.declared.role.Role.{Role}
-use Rattle.gj_rules.specs.declared.rules.FramedRules.{FramedRules}
 use Rattle.gj_rules.specs.Rules.{StandsFor}
-use Rattle.gj_rules.specs.Internal.EventSteps.{Feed, State, named_feed, names_step, passed, step, run}
-use Rattle.gj_rules.specs.Internal.FrameCalls.{blank, named, due_after, type_set, filled, taken_in, warned, settled}
-use Rattle.gj_rules.specs.Internal.FrameMeaning.{Findings}
-use Rattle.gj_rules.specs.Internal.FrameMeaning.{Frame}
-use Rattle.gj_rules.specs.Internal.FrameMeaning.{Shapes}
-use Rattle.gj_rules.specs.Internal.LabelledEvents.{Told, event_of}
+use Rattle.gj_rules.specs.Internal.EventSteps.{named_feed, passed}
+use Rattle.gj_rules.specs.Internal.FrameCalls.{named, due_after, type_set, filled, warned}
 use Rattle.gj_rules.specs.Internal.OpenMembers as S
 use Rattle.gj_rules.specs.Internal.OpenMembers.{members_fault}
-use Rattle.gj_rules.specs.Internal.MemberRules.{rules_of}
-use Rattle.gj_rules.specs.Internal.RulesState.{core_of, top_of}
-use Rattle.gj_rules.specs.Internal.Summaries.{shapes_of}
 use Rattle.gj_rules.proofs.Objects.WarningsInTurn.{to_none}
 use Rattle.gj_rules.proofs.Texts.ValuesByEvents.{Leads, leads_at, st}
 use Rattle.gj_rules.proofs.Texts.OneEventMore.{core, with_feed}

@@ -1,34 +1,16 @@
 -- What was reported of the bytes of a linter, from call to call.
-use Rattle.std.proofs.Common.{◌≡◌, ℕ, ◌+◌, ◌-◌, ◌^◌, ◌<◌, ◌≤◌, List, [], ◌++◌, length, take, Option, Some, None, Result}
-use Rattle.std.proofs.Common.{Ok, Err, refl, sym, ap, subst, ◌∙◌, arith, append_assoc, append-nil, length-append}
-use Rattle.std.specs.Option.{option_to_list}
-use Rattle.std.proofs.lemmas.List.{take-append-le, length-map}
-use Rattle.std.proofs.Math.Seq.{take-length, take-append-add}
-use Rattle.gj_json.specs.declared.event.Event.{Event}
-use Rattle.gj_json.specs.declared.fault.JsonFault.{JsonFault}
+use Rattle.gj_rules.proofs.Common.{Allowed, Event, Fault, FramedRules, IsAdmitted, IsText, IsVerdict, JsonFault, List, Simple, Text, Tree, Warnings}
+use Rattle.gj_rules.proofs.Common.{all_events, ap, append_assoc, arith, coordinates_kept, coordinates_warnings, depth, events, events_by, least}
+use Rattle.gj_rules.proofs.Common.{length, length-map, levels_within, mark_events, option_to_list, refl, subst, sym, take, take-append-add}
+use Rattle.gj_rules.proofs.Common.{take-length, text_events, text_faults, text_kept, text_warnings, value_events, verdict_of, warnings_of, [], ◌++◌}
+use Rattle.gj_rules.proofs.Common.{◌+◌, ◌-◌, ◌<◌, ◌^◌, ◌∙◌, ◌≤◌}
+use Rattle.std.proofs.Common.{◌≡◌, ℕ, Option, Some, None, Result}
+use Rattle.std.proofs.Common.{Ok, Err, append-nil, length-append}
+use Rattle.std.proofs.lemmas.List.{take-append-le}
 use Rattle.gj_json.specs.declared.reader.Reader.{Reader}
-use Rattle.gj_json.specs.Events.{events, events_by, mark_events, text_events, all_events, value_events}
-use Rattle.gj_json.specs.Limits.{Allowed}
 use Rattle.gj_json.specs.Reader.{StandsFor as ReaderStandsFor, refusal_of, offset_of, Hears}
-use Rattle.gj_json.specs.Refusal.{IsAdmitted}
-use Rattle.gj_json.specs.Text.{IsText}
-use Rattle.gj_json.specs.Tree.{Tree, Text, depth}
-use Rattle.gj_coords.specs.declared.fault.Fault.{Fault}
-use Rattle.gj_coords.specs.Fault.{least}
-use Rattle.gj_coords.specs.declared.simple.Simple.{Simple}
-use Rattle.gj_coords.specs.declared.warnings.Warnings.{Warnings}
-use Rattle.gj_coords.specs.CoordinateWarnings.{coordinates_warnings}
-use Rattle.gj_coords.specs.Internal.CoordinatesKept.{coordinates_kept}
-use Rattle.gj_coords.specs.Internal.KeptWarnings.{warnings_of}
-use Rattle.gj_rules.specs.Levels.{levels_within}
-use Rattle.gj_rules.specs.declared.rules.FramedRules.{FramedRules}
-use Rattle.gj_rules.specs.Faults.{text_faults}
 use Rattle.gj_rules.specs.Linter.{AreToldOf}
 use Rattle.gj_rules.specs.Rules.{StandsFor as RulesStandFor}
-use Rattle.gj_rules.specs.Internal.TextKept.{text_kept}
-use Rattle.gj_rules.specs.TextWarnings.{text_warnings}
-use Rattle.gj_rules.specs.Verdict.{IsVerdict}
-use Rattle.gj_rules.specs.Internal.VerdictParts.{verdict_of}
 use Rattle.gj_rules.proofs.Objects.WarningsKept.{text_is}
 use Rattle.gj_coords.proofs.Readers.LeastOfSome.{least_none}
 

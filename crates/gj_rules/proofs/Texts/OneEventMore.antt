@@ -1,29 +1,22 @@
 -- What a call leaves stands for one event more.
-use Rattle.std.proofs.Common.{◌≡◌, ℕ, zero, suc, ◌<◌, ◌≤◌, true, false, List, [], ◌∷◌, ◌++◌, map, refl, sym, ap, subst, ◌∙◌, arith, append_assoc}
+use Rattle.gj_rules.proofs.Common.{Coordinates, Core, Done, Due, Event, Fed, Feed, Findings, Frame, FramedRules, Holds, HoldsIn, IsText, List, Mode}
+use Rattle.gj_rules.proofs.Common.{Names, RootDue, Stands, State, Text, Told, Tree, all_events, ap, append_assoc, arith, by, core_of, core_step}
+use Rattle.gj_rules.proofs.Common.{depth, event_of, events_by, false, is_feeding, judged_at, levels_within, map, most_levels, refl, run, start, step}
+use Rattle.gj_rules.proofs.Common.{subst, suc, sym, text_told, top_of, true, value_events, zero, [], ◌++◌, ◌<◌, ◌∙◌, ◌∷◌, ◌≤◌}
+use Rattle.std.proofs.Common.{◌≡◌, ℕ}
 use Rattle.std.proofs.lemmas.List.{append-nil}
-use Rattle.gj_json.specs.declared.event.Event.{Event}
 use Rattle.gj_json.specs.declared.names.Known.{Known}
-use Rattle.gj_json.specs.declared.names.Known.TheVariants.{Coordinates, Bbox}
-use Rattle.gj_json.specs.Events.{value_events, all_events, events_by, by}
-use Rattle.gj_json.specs.Text.{IsText}
+use Rattle.gj_json.specs.declared.names.Known.TheVariants.{Bbox}
 use Rattle.gj_json.specs.Events as E
-use Rattle.gj_json.specs.Tree.{Tree, Text, depth}
 use Rattle.gj_coords.specs.declared.coordinates.Coordinates as C
 use Rattle.gj_coords.specs.declared.bbox.Bbox as B
-use Rattle.gj_rules.specs.Levels.{most_levels, levels_within}
 use Rattle.gj_rules.specs.Internal.SkippedLevels.{most_skipped}
-use Rattle.gj_rules.specs.Internal.FrameMeaning.{Findings}
 use Rattle.gj_rules.specs.Internal.FrameReading.{found_in}
-use Rattle.gj_rules.specs.Internal.FrameMeaning.{Frame}
-use Rattle.gj_rules.specs.declared.mode.Mode.{Mode}
-use Rattle.gj_rules.specs.declared.mode.Mode.TheVariants.{RootDue, Names, Due, Elements, Done}
-use Rattle.gj_rules.specs.declared.rules.FramedRules.{FramedRules}
-use Rattle.gj_rules.specs.Judged.{judged_at}
-use Rattle.gj_rules.specs.Internal.RulesState.{core_of, top_of, frames_by, Holds, HoldsIn, Stands, HasRoom, Fed}
+use Rattle.gj_rules.specs.declared.mode.Mode.TheVariants.{Elements}
+use Rattle.gj_rules.specs.Internal.RulesState.{frames_by, HasRoom}
 use Rattle.gj_rules.specs.Rules.{StandsFor}
-use Rattle.gj_rules.specs.Internal.EventSteps.{Core, Feed, State, is_feeding, feed_behind, ended, fed, core_step, step, run, start}
+use Rattle.gj_rules.specs.Internal.EventSteps.{feed_behind, ended, fed}
 use Rattle.gj_rules.specs.Internal.LabelledEvents as T
-use Rattle.gj_rules.specs.Internal.LabelledEvents.{Told, event_of, text_told}
 use Rattle.gj_rules.proofs.Texts.FramesInUse.{front_text}
 use Rattle.gj_rules.proofs.Texts.TimedEvents.{text-timed, text-events}
 use Rattle.gj_rules.proofs.Texts.ValuesByEvents.{Good, Fits, Leads, leads_at, text_found, lead_text}
@@ -67,16 +60,11 @@ step_core x feed (suc k) m f o a e = refl
 
 named_taken : (x : Told) (name : Known) → (feed_behind x (Due name)).taken ≡ []
 named_taken (T.named at place n v) Coordinates = refl
-named_taken (T.named at place n v) Bbox = refl
-named_taken (T.named at place n v) _ = refl
-named_taken (T.plain at place what) name = refl
+named_taken other another = refl
 
 behind_taken : (x : Told) (m : Mode) → (feed_behind x m).taken ≡ []
 behind_taken x (Due name) = named_taken x name
-behind_taken x RootDue = refl
-behind_taken x Names = refl
-behind_taken x (Elements r) = refl
-behind_taken x Done = refl
+behind_taken x other = refl
 
 step_taken : (x : Told) (feed : Feed) (k : ℕ) (m : Mode) (f : Frame) (o : List Frame) (a : Findings) → is_feeding k m ≡ false
     → (step x (with_feed (core k m f o a) feed)).feed.taken ≡ []
@@ -93,11 +81,7 @@ has_room : (frames : ℕ) (x : Told) (rest : List Told) (feed : Feed) (k : ℕ) 
 has_room frames x rest feed (suc k) m f o a e g z = cc
 has_room frames x rest feed zero (Due Coordinates) f o a e g z = cc
 has_room frames x rest feed zero (Due Bbox) f o a e g z = cc
-has_room frames x rest feed zero (Due _) f o a e g z = g
-has_room frames x rest feed zero RootDue f o a e g z = g
-has_room frames x rest feed zero Names f o a e g z = g
-has_room frames x rest feed zero (Elements r) f o a e g z = g
-has_room frames x rest feed zero Done f o a e g z = g
+has_room frames x rest feed zero other f o a e g z = g
 
 taken_core : {frames : ℕ} (old new : FramedRules frames) (x : Told) (rest : List Told) (feed : Feed) → is_feeding old.skipped old.mode ≡ false
     → Good frames x rest (with_feed (core_of old) feed)
@@ -120,11 +104,7 @@ step_fed x feed (suc k) m f o a e = cc
 
 pub ended_names : (v : Tree) (k : ℕ) (m : Mode) (f : Frame) (o : List Frame) (a : Findings) → is_feeding k m ≡ true → (ended v (core k m f o a)).mode ≡ Names
 ended_names v zero (Due name) f o a e = refl
-ended_names v zero RootDue f o a e = cc
-ended_names v zero Names f o a e = cc
-ended_names v zero (Elements r) f o a e = cc
-ended_names v zero Done f o a e = cc
-ended_names v (suc k) m f o a e = cc
+ended_names v other another f o a e = cc
 
 pub holds_names : (k : ℕ) (m : Mode) (c : C.Coordinates) (b : B.Bbox) (es : List Event) → m ≡ Names → HoldsIn k m c b es
 holds_names zero Names c b es e = tt
@@ -148,12 +128,7 @@ pub fits_of : (frames : ℕ) (x : Told) (rest : List Told) (feed : Feed) (k : �
     → is_feeding k m ≡ true → Good frames x rest (with_feed (core k m f o a) feed) → Fits feed (x ∷ rest)
 fits_of frames x rest feed zero (Due Coordinates) f o a e g = g
 fits_of frames x rest feed zero (Due Bbox) f o a e g = g
-fits_of frames x rest feed zero (Due _) f o a e g = cc
-fits_of frames x rest feed zero RootDue f o a e g = cc
-fits_of frames x rest feed zero Names f o a e g = cc
-fits_of frames x rest feed zero (Elements r) f o a e g = cc
-fits_of frames x rest feed zero Done f o a e g = cc
-fits_of frames x rest feed (suc k) m f o a e g = cc
+fits_of frames x rest feed other another f o a e g = cc
 
 next_is : (x : Told) (rest : List Told) (left later more : List Event) (next : Event) → left ≡ next ∷ later → map event_of (x ∷ rest) ≡ left ++ more
     → event_of x ≡ next

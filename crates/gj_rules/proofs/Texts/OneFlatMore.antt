@@ -1,28 +1,17 @@
 -- What a call leaves stands for the events of an array of numbers more.
-use Rattle.std.proofs.Common.{◌≡◌, ℕ, ◌+◌, ◌^◌, ◌≤◌, ◌<◌, ◌⊎◌, inl, inr, Bool, true, false, List, [], ◌∷◌, ◌++◌, map, refl, sym, ap, subst, ◌∙◌}
-use Rattle.std.proofs.Common.{append_assoc, append-nil}
-use Rattle.std.proofs.lemmas.List.{map-append}
-use Rattle.std.specs.List.{AllByRecursion}
-use Rattle.gj_json.specs.declared.constant.Constant.TheVariants.{Null, True, False}
-use Rattle.gj_json.specs.declared.event.Event.{Event}
-use Rattle.gj_json.specs.declared.event.What.{What}
-use Rattle.gj_json.specs.declared.flat.Numbered.{Numbered}
+use Rattle.gj_rules.proofs.Common.{AllByRecursion, Bool, Core, Event, False, Fed, Feed, Findings, Flat, Frame, FramedRules, Holds, List, Mode, Null}
+use Rattle.gj_rules.proofs.Common.{Numbered, Stands, State, Told, Tree, True, What, ap, append_assoc, array, constant, core_of, depth}
+use Rattle.gj_rules.proofs.Common.{elements_events, event_of, false, flat_events, flats_events, idle, inl, inr, is_feeding, map, map-append}
+use Rattle.gj_rules.proofs.Common.{members_events, most_levels, number, number_event, numbers_of, object, refl, run, start, step, string, subst, sym}
+use Rattle.gj_rules.proofs.Common.{text_told, timed, top_of, true, value_events, [], ◌++◌, ◌+◌, ◌<◌, ◌^◌, ◌∙◌, ◌∷◌, ◌≤◌, ◌⊎◌}
+use Rattle.std.proofs.Common.{◌≡◌, ℕ}
+use Rattle.std.proofs.Common.{append-nil}
 use Rattle.gj_json.specs.Events as E
-use Rattle.gj_json.specs.Events.{value_events, elements_events, members_events, timed}
-use Rattle.gj_json.specs.declared.flat.Flat.{Flat}
-use Rattle.gj_json.specs.Flat.{number_event, numbers_of, numbers_events, flat_events}
-use Rattle.gj_json.specs.CutPosition.{flats_events}
+use Rattle.gj_json.specs.Flat.{numbers_events}
 use Rattle.gj_coords.specs.Coordinates.{NotEnded, NoneEnds}
-use Rattle.gj_json.specs.Tree.{Tree, constant, number, string, array, object, depth}
-use Rattle.gj_rules.specs.Internal.FrameMeaning.{Findings}
-use Rattle.gj_rules.specs.Internal.FrameMeaning.{Frame}
-use Rattle.gj_rules.specs.declared.mode.Mode.{Mode}
-use Rattle.gj_rules.specs.declared.rules.FramedRules.{FramedRules}
-use Rattle.gj_rules.specs.Internal.RulesState.{core_of, top_of, Stands, Holds, Fed, FeedsMany}
-use Rattle.gj_rules.specs.Levels.{most_levels}
+use Rattle.gj_rules.specs.Internal.RulesState.{FeedsMany}
 use Rattle.gj_rules.specs.Rules.{StandsFor}
-use Rattle.gj_rules.specs.Internal.EventSteps.{Core, Feed, State, is_feeding, ended, fed, idle, step, run, start}
-use Rattle.gj_rules.specs.Internal.LabelledEvents.{Told, event_of, text_told}
+use Rattle.gj_rules.specs.Internal.EventSteps.{ended, fed}
 use Rattle.gj_rules.proofs.Texts.ValuesByEvents.{Fits, Leads, leads_at, text_found, lead_text}
 use Rattle.gj_rules.proofs.Texts.OneEventMore.{core, with_feed, step_fed, fits_of, good_core, holds_names, ended_names}
 

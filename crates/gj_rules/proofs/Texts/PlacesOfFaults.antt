@@ -1,31 +1,23 @@
 -- The places that the faults and the warnings of a text name are places of it.
-use Rattle.std.proofs.Common.{◌≡◌, ℕ, zero, suc, ◌+◌, ◌≤◌, Bool, true, false, ◌&&◌, if◌then◌else◌, List, [], ◌∷◌, ◌++◌, length, take, drop, Option}
-use Rattle.std.proofs.Common.{Some, None, is_some, subst, arith}
-use Rattle.std.specs.List.{AllByRecursion, flat_map}
+use Rattle.gj_rules.proofs.Common.{AllByRecursion, Bool, Coordinates, Crs, False, Fault, Features, First, Geometries, Geometry, Id, IsText, List}
+use Rattle.gj_rules.proofs.Common.{Members, Null, Other, Properties, Role, Rule, Simple, Spells, SpellsElements, SpellsMembers, SpellsMoreElements}
+use Rattle.gj_rules.proofs.Common.{SpellsMoreMembers, Text, Tree, True, TypeName, TypeValue, Word, arith, array, comes_first, constant}
+use Rattle.gj_rules.proofs.Common.{coordinates_faults, drop, element, elements_of, end_of_array, end_of_object, false, fault_at, flat_map}
+use Rattle.gj_rules.proofs.Common.{forbidden_by, if◌then◌else◌, is_known, is_some, items, least, length, lesser, member, mentions, number, object}
+use Rattle.gj_rules.proofs.Common.{one, place_of, repeated, same, string, subst, suc, take, true, zero, [], ◌&&◌, ◌++◌, ◌+◌, ◌∷◌, ◌≤◌}
+use Rattle.std.proofs.Common.{◌≡◌, ℕ, Option}
+use Rattle.std.proofs.Common.{Some, None}
 use Rattle.gj_json.specs.declared.constant.Constant.{Constant}
-use Rattle.gj_json.specs.declared.constant.Constant.TheVariants.{Null, True, False}
 use Rattle.gj_json.specs.declared.names.Known.{Known}
-use Rattle.gj_json.specs.declared.names.Known.TheVariants.{TypeName, Coordinates, Geometries, Geometry, Properties, Features, Bbox, Id, Crs, Other}
-use Rattle.gj_json.specs.declared.names.Word.{Word}
-use Rattle.gj_json.specs.Grammar.{Spells, SpellsElements, SpellsMoreElements, SpellsMembers, SpellsMoreMembers}
+use Rattle.gj_json.specs.declared.names.Known.TheVariants.{Bbox}
 use Rattle.gj_json.specs.Names.{known_of}
-use Rattle.gj_json.specs.Text.{IsText}
-use Rattle.gj_json.specs.Tree.{Tree, constant, number, string, array, object, Elements, end_of_array, element, Members, end_of_object, member, Text}
+use Rattle.gj_json.specs.Tree.{Elements}
 use Rattle.gj_number.specs.Exact.{Exact}
 use Rattle.gj_number.specs.Value.{value_of}
-use Rattle.gj_coords.specs.declared.fault.Fault.{Fault}
-use Rattle.gj_coords.specs.declared.fault.Rule.{Rule}
-use Rattle.gj_coords.specs.declared.simple.Simple.{Simple}
-use Rattle.gj_coords.specs.Fault.{fault_at, comes_first, lesser, least}
-use Rattle.gj_coords.specs.Items.{items, elements_of, place_of}
 use Rattle.gj_coords.specs.Box.{is_wrong_length, bbox_faults}
 use Rattle.gj_coords.specs.Shape.{Shape, few, held_number, number_or, position, several, list, line, unclosed, ring, shape_of}
-use Rattle.gj_coords.specs.Shape.{coordinates_faults}
-use Rattle.gj_rules.specs.declared.role.Role.{Role}
-use Rattle.gj_rules.specs.declared.member_slots.TypeValue.{TypeValue}
 use Rattle.gj_rules.specs.Faults
-use Rattle.gj_rules.specs.Faults.{First}
-use Rattle.gj_rules.specs.Members.{same, is_known, mentions, forbidden_by, first_type, repeated, one}
+use Rattle.gj_rules.specs.Members.{first_type}
 use Rattle.gj_rules.proofs.Texts.EventOrder.{then_length}
 
 -- ---- the places of a tree
@@ -151,8 +143,7 @@ pub place_within : (n : ℕ) (t : Tree) → Within n t → place_of t ≤ n
 place_within n (constant which place) h = h
 place_within n (number place literal end) h = h
 place_within n (string place content end) h = h
-place_within n (array place es close) h = h.0
-place_within n (object place ms close) h = h.0
+place_within n other h = h.0
 
 -- ---- faults
 
@@ -180,15 +171,13 @@ held_in : (n : ℕ) → FitsShape n held_number
 held_in n (number place literal end) h = unheld_in n place (value_of literal) h
 held_in n (constant which place) h = (h, tt)
 held_in n (string place content end) h = (h, tt)
-held_in n (array place es close) h = (h.0, tt)
-held_in n (object place ms close) h = (h.0, tt)
+held_in n other h = (h.0, tt)
 
 number_in : (n : ℕ) (rule : Rule) → FitsShape n (number_or rule)
 number_in n rule (number place literal end) h = tt
 number_in n rule (constant which place) h = (h, tt)
 number_in n rule (string place content end) h = (h, tt)
-number_in n rule (array place es close) h = (h.0, tt)
-number_in n rule (object place ms close) h = (h.0, tt)
+number_in n rule other h = (h.0, tt)
 
 position_in : (n : ℕ) → FitsShape n position
 position_in n (array place es close) h =
@@ -264,16 +253,12 @@ id_in : (n : ℕ) → FitsShape n Faults.id_faults
 id_in n (string place content end) h = tt
 id_in n (number place literal end) h = tt
 id_in n (constant which place) h = (h, tt)
-id_in n (array place es close) h = (h.0, tt)
-id_in n (object place ms close) h = (h.0, tt)
+id_in n other h = (h.0, tt)
 
 constant_in : (n : ℕ) (which : Constant) (role : Role) (place : ℕ) → place ≤ n → FaultsIn n (Faults.constant_faults which role place)
 constant_in n Null Role.Root place h = (h, tt)
 constant_in n Null Role.Geometry place h = tt
-constant_in n Null Role.Part place h = (h, tt)
-constant_in n Null Role.Feature place h = (h, tt)
-constant_in n True role place h = (h, tt)
-constant_in n False role place h = (h, tt)
+constant_in n other another place h = (h, tt)
 
 -- ---- members
 
@@ -343,8 +328,7 @@ module _ (n place : ℕ) (repeats : List Fault) (type_value : Option TypeValue) 
 
 again_in : (n : ℕ) (a b : Bool) (place : ℕ) → place ≤ n → FaultsIn n (if a && b then one place Rule.G10 else [])
 again_in n true true place h = (h, tt)
-again_in n true false place h = tt
-again_in n false b place h = tt
+again_in n other another place h = tt
 
 repeated_in_members : (n : ℕ) (before : List Known) (ms : Members) → WithinMembers n ms → FaultsIn n (repeated before ms)
 repeated_in_members n before end_of_object h = tt
@@ -376,8 +360,7 @@ selected_in n Properties v geometry geometries features h a b c = properties_in 
 selected_in n Features v geometry geometries features h a b c = c
 selected_in n Bbox v geometry geometries features h a b c = bbox_in n v h
 selected_in n Id v geometry geometries features h a b c = id_in n v h
-selected_in n Crs v geometry geometries features h a b c = tt
-selected_in n Other v geometry geometries features h a b c = tt
+selected_in n other v geometry geometries features h a b c = tt
 
 mutual
   faults_in : (n : ℕ) (role : Role) (t : Tree) → Within n t → FaultsIn n (Faults.faults role t)

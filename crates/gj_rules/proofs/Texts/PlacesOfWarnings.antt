@@ -1,30 +1,25 @@
 -- The places that the warnings of a text name are places of it.
-use Rattle.std.proofs.Common.{◌≡◌, ℕ, ◌≤◌, Bool, true, false, not, ◌&&◌, if◌then◌else◌, nat_lt, List, [], ◌∷◌, length, take, Option, Some, None, unwrap_or}
-use Rattle.std.proofs.Common.{refl, ap, sym, ◌∙◌, arith}
-use Rattle.std.specs.List.{AllByRecursion, flat_map}
+use Rattle.gj_rules.proofs.Common.{AllByRecursion, Bool, Coordinates, Crs, Features, Geometries, Geometry, Id, IsText, Kind, List, Members, Other}
+use Rattle.gj_rules.proofs.Common.{Properties, Role, Simple, Text, Tree, TypeName, TypeValue, W1, W9, Warning, Word, ap, arith, array, constant}
+use Rattle.gj_rules.proofs.Common.{coordinates_warnings, element, elements_of, end_of_array, end_of_object, false, flat_map, if◌then◌else◌}
+use Rattle.gj_rules.proofs.Common.{is_allowed, length, member, nat_lt, not, number, object, place_of, refl, same, string, sym, take, true, warned_if}
+use Rattle.gj_rules.proofs.Common.{[], ◌&&◌, ◌∙◌, ◌∷◌, ◌≤◌}
+use Rattle.std.proofs.Common.{◌≡◌, ℕ, Option, Some, None, unwrap_or}
 use Rattle.gj_json.specs.declared.names.Known.{Known}
-use Rattle.gj_json.specs.declared.names.Known.TheVariants.{TypeName, Coordinates, Geometries, Geometry, Properties, Features, Bbox, Id, Crs, Other}
-use Rattle.gj_json.specs.declared.names.Word.{Word}
+use Rattle.gj_json.specs.declared.names.Known.TheVariants.{Bbox}
 use Rattle.gj_json.specs.Names.{known_of}
-use Rattle.gj_json.specs.Text.{IsText}
-use Rattle.gj_json.specs.Tree.{Tree, constant, number, string, array, object, Elements, end_of_array, element, Members, end_of_object, member, Text}
-use Rattle.gj_coords.specs.declared.kind.Kind.{Kind}
-use Rattle.gj_coords.specs.declared.kind.Kind.TheVariants.{W1, W2, W3, W4, W5, W8, W9}
-use Rattle.gj_coords.specs.declared.simple.Simple.{Simple}
-use Rattle.gj_coords.specs.Items.{elements_of, place_of}
+use Rattle.gj_json.specs.Tree.{Elements}
+use Rattle.gj_coords.specs.declared.kind.Kind.TheVariants.{W2, W3, W4, W5, W8}
 use Rattle.gj_coords.specs.BoxWarnings.{south_above_north, bbox_warnings}
-use Rattle.gj_coords.specs.CoordinateWarnings.{Concern, warned_if, each, is_precise, number_warnings, sound_position_warnings, position_warnings}
-use Rattle.gj_coords.specs.CoordinateWarnings.{ring_warnings, rings_warnings, polygon_warnings, concern_of, coordinates_warnings}
+use Rattle.gj_coords.specs.CoordinateWarnings.{Concern, each, is_precise, number_warnings, sound_position_warnings, position_warnings}
+use Rattle.gj_coords.specs.CoordinateWarnings.{ring_warnings, rings_warnings, polygon_warnings, concern_of}
 use Rattle.gj_coords.specs.Ring.{exact_value}
 use Rattle.gj_coords.specs.Shape.{is_empty, position, ring}
-use Rattle.gj_coords.specs.Warnings.{Warning, same_kind, places_of, least_place, lesser_place, first_of}
+use Rattle.gj_coords.specs.Warnings.{same_kind, places_of, least_place, lesser_place, first_of}
 use Rattle.gj_coords.specs.declared.winding.Turn.{Turn}
 use Rattle.gj_coords.specs.declared.winding.Turn.TheVariants.{Left, Right}
 use Rattle.gj_coords.specs.Winding.{in_range, ring_turn, same_turn}
-use Rattle.gj_rules.specs.declared.role.Role.{Role}
-use Rattle.gj_rules.specs.declared.member_slots.TypeValue.{TypeValue}
-use Rattle.gj_rules.specs.Members.{same, first_type}
-use Rattle.gj_rules.specs.Role.{is_allowed}
+use Rattle.gj_rules.specs.Members.{first_type}
 use Rattle.gj_rules.specs.TextWarnings
 use Rattle.gj_rules.proofs.Texts.PlacesOfFaults.{Within, WithinElements, WithinMembers, all_append, all_flat, all_if, all_take, elements_within, place_within}
 use Rattle.gj_rules.proofs.Texts.PlacesOfFaults.{text_within}
@@ -148,9 +143,7 @@ selected_in n Geometry v geometry geometries features h a b c = a
 selected_in n Properties v geometry geometries features h a b c = tt
 selected_in n Features v geometry geometries features h a b c = c
 selected_in n Bbox v geometry geometries features h a b c = bbox_in n v h
-selected_in n Id v geometry geometries features h a b c = tt
-selected_in n Crs v geometry geometries features h a b c = tt
-selected_in n Other v geometry geometries features h a b c = tt
+selected_in n other v geometry geometries features h a b c = tt
 
 list_if : (n : ℕ) (b : Bool) (a c : List Warning) → WarningsIn n a → WarningsIn n c → WarningsIn n (if b then a else c)
 list_if n true a c h k = h
@@ -163,17 +156,11 @@ mutual
       (all_append (InWarning n) _ _ (first_warnings_in n Bbox ms h.1)
       (by_type_in n (first_type ms) role place (TextWarnings.first_value Coordinates ms) _ _ _ h.0 (first_value_in n Coordinates ms h.1)
       (first_warnings_in n Geometries ms h.1) (first_warnings_in n Geometry ms h.1) (first_warnings_in n Features ms h.1)))
-  warnings_in n role (constant which place) h = tt
-  warnings_in n role (number place literal end) h = tt
-  warnings_in n role (string place content end) h = tt
-  warnings_in n role (array place es close) h = tt
+  warnings_in n role other h = tt
 
   list_warnings_in : (n : ℕ) (role : Role) (t : Tree) → Within n t → WarningsIn n (TextWarnings.list_warnings role t)
   list_warnings_in n role (array place es close) h = all_warnings_in n role es h.1
-  list_warnings_in n role (constant which place) h = tt
-  list_warnings_in n role (number place literal end) h = tt
-  list_warnings_in n role (string place content end) h = tt
-  list_warnings_in n role (object place ms close) h = tt
+  list_warnings_in n role other h = tt
 
   all_warnings_in : (n : ℕ) (role : Role) (es : Elements) → WithinElements n es → WarningsIn n (TextWarnings.all_warnings role es)
   all_warnings_in n role end_of_array h = tt

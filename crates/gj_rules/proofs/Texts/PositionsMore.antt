@@ -1,15 +1,11 @@
 -- What a call leaves stands for the events of arrays of two numbers more, of which none ends the value.
-use Rattle.std.proofs.Common.{◌≡◌, ℕ, true, false, List, [], ◌∷◌, ◌++◌, refl, sym, ap, ◌∙◌, subst, append-nil, arith}
-use Rattle.gj_json.specs.declared.event.Event.{Event}
-use Rattle.gj_json.specs.declared.flat.Flat.{Flat}
-use Rattle.gj_json.specs.declared.names.Known.TheVariants.{Coordinates}
-use Rattle.gj_json.specs.CutPosition.{AreCutPositions, flats_events}
+use Rattle.gj_rules.proofs.Common.{Coordinates, Due, Event, Flat, FramedRules, List, Stands, State, ap, arith, core_of, false, flats_events}
+use Rattle.gj_rules.proofs.Common.{is_feeding, refl, run, start, subst, sym, true, [], ◌++◌, ◌∙◌, ◌∷◌}
+use Rattle.std.proofs.Common.{◌≡◌, ℕ, append-nil}
+use Rattle.gj_json.specs.CutPosition.{AreCutPositions}
 use Rattle.gj_coords.specs.Coordinates.{NoneEnds}
-use Rattle.gj_rules.specs.declared.mode.Mode.TheVariants.{Due}
-use Rattle.gj_rules.specs.declared.rules.FramedRules.{FramedRules}
 use Rattle.gj_rules.specs.Rules.{StandsFor}
-use Rattle.gj_rules.specs.Internal.EventSteps.{State, is_feeding, run, start}
-use Rattle.gj_rules.specs.Internal.RulesState.{core_of, Stands, FeedsMany}
+use Rattle.gj_rules.specs.Internal.RulesState.{FeedsMany}
 use Rattle.gj_rules.specs.Internal.Summaries.{StandsForCoordinates}
 use Rattle.gj_rules.proofs.Objects.FedSummaries.{held, held_now, not_whole}
 use Rattle.gj_rules.proofs.Texts.OneFlatMore.{events_told, within_values, last_goes_on}

@@ -1,19 +1,15 @@
 -- How many of the open arrays and objects of a text can be objects with a role.
-use Rattle.std.proofs.Common.{◌≡◌, ℕ, ◌+◌, ◌*◌, ◌≤◌, ◌⊎◌, inl, inr, Bool, true, false, not, ◌&&◌, if◌then◌else◌, nat_le, nat_lt, List, [], ◌∷◌, ◌++◌, refl}
-use Rattle.std.proofs.Common.{arith}
-use Rattle.std.proofs.lemmas.Bool.{cases_lt}
+use Rattle.gj_rules.proofs.Common.{Bool, Features, Geometries, Geometry, IsText, List, Members, Role, Text, Told, Tree, arith, array, at_of, cases_lt}
+use Rattle.gj_rules.proofs.Common.{constant, element, elements_told, end_of_array, end_of_object, false, if◌then◌else◌, inl, inr, judged_at}
+use Rattle.gj_rules.proofs.Common.{judged_in, mark_told, member, members_told, mentions, nat_le, nat_lt, not, number, object, open_at, plain, refl}
+use Rattle.gj_rules.proofs.Common.{string, told, true, [], ◌&&◌, ◌*◌, ◌++◌, ◌+◌, ◌∷◌, ◌≤◌, ◌⊎◌}
+use Rattle.std.proofs.Common.{◌≡◌, ℕ}
 use Rattle.gj_json.specs.declared.names.Known.{Known}
-use Rattle.gj_json.specs.declared.names.Known.TheVariants.{Geometries, Geometry, Features}
 use Rattle.gj_json.specs.declared.event.What.TheVariants as What
 use Rattle.gj_json.specs.Names.{known_of}
-use Rattle.gj_json.specs.Open.{open_in, elements_open, members_open, open_at}
-use Rattle.gj_json.specs.Text.{IsText}
+use Rattle.gj_json.specs.Open.{open_in, elements_open, members_open}
 use Rattle.gj_json.specs.Tree as Tree
-use Rattle.gj_json.specs.Tree.{Tree, constant, number, string, array, object, end_of_array, element, Members, end_of_object, member, Text}
-use Rattle.gj_rules.specs.declared.role.Role.{Role}
-use Rattle.gj_rules.specs.Judged.{gives, counted, judged_in, list_judged, elements_judged, members_judged, judged_at}
-use Rattle.gj_rules.specs.Members.{mentions}
-use Rattle.gj_rules.specs.Internal.LabelledEvents.{Told, plain, at_of, told, elements_told, members_told, mark_told}
+use Rattle.gj_rules.specs.Judged.{gives, counted, list_judged, elements_judged, members_judged}
 use Rattle.gj_rules.proofs.Texts.FramesInUse.{late_elements, late_members}
 use Rattle.gj_rules.proofs.Texts.EventOrder.{Late, After, InOrder, order_behind, late_after, late_behind, late_front, in_order, InTime}
 use Rattle.gj_json.proofs.Events.OpenContainers.{opened, shut}
@@ -28,10 +24,7 @@ counted_most : (name : Known) (b : Bool) (g gs fs most : ℕ) → g ≤ most →
 counted_most Geometry true g gs fs most x y z = x
 counted_most Geometries true g gs fs most x y z = y
 counted_most Features true g gs fs most x y z = z
-counted_most Geometry false g gs fs most x y z = omega arith
-counted_most Geometries false g gs fs most x y z = omega arith
-counted_most Features false g gs fs most x y z = omega arith
-counted_most _ b g gs fs most x y z = omega arith
+counted_most other another g gs fs most x y z = omega arith
 
 mutual
   value_open : (v : Tree) (n : ℕ) (r : Role) → judged_in n r v ≤ open_in n v
@@ -136,8 +129,7 @@ order_front (x ∷ xs) ys h = (after_front (at_of x) xs ys h.0, order_front xs y
 abbrev pub slack : Role → ℕ
 slack Role.Root = 1
 slack Role.Feature = 1
-slack Role.Geometry = 0
-slack Role.Part = 0
+slack other = 0
 
 half_counted : (name : Known) (r : Role) (b : Bool) (g gs fs most : ℕ) → 2 * g ≤ most + 1 → 2 * gs ≤ most → 2 * fs ≤ most + 1
     → 2 * counted name (not b && gives r name) g gs fs ≤ most + slack r
@@ -153,10 +145,7 @@ half_counted Geometries Role.Geometry false g gs fs most x y z = omega arith
 half_counted Geometries Role.Part false g gs fs most x y z = omega arith
 half_counted Features r true g gs fs most x y z = omega arith
 half_counted Features Role.Root false g gs fs most x y z = z
-half_counted Features Role.Feature false g gs fs most x y z = omega arith
-half_counted Features Role.Geometry false g gs fs most x y z = omega arith
-half_counted Features Role.Part false g gs fs most x y z = omega arith
-half_counted _ r b g gs fs most x y z = omega arith
+half_counted other another third g gs fs most x y z = omega arith
 
 after_last : (m : ℕ) (xs : List Told) (y : Told) → After m (xs ++ y ∷ []) → m ≤ at_of y
 after_last m [] y h = h.0

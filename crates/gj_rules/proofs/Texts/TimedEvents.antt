@@ -1,14 +1,14 @@
 -- The labelled events are the events of a text, with their times.
-use Rattle.std.proofs.Common.{◌≡◌, ◌+◌, Bool, true, false, List, [], ◌∷◌, ◌++◌, map, length, refl, ap, ◌∙◌}
-use Rattle.std.proofs.lemmas.List.{map-append}
-use Rattle.gj_json.specs.declared.event.Event.{Event}
+use Rattle.gj_rules.proofs.Common.{Bool, Event, List, Members, Text, Told, Tree, all_events, ap, array, at_of, constant, element, elements_events}
+use Rattle.gj_rules.proofs.Common.{elements_told, end_of_array, end_of_object, event_of, events, false, length, map, map-append, mark_events}
+use Rattle.gj_rules.proofs.Common.{mark_told, member, members_events, members_told, number, object, plain, refl, string, text_events, text_told}
+use Rattle.gj_rules.proofs.Common.{timed, told, true, value_events, [], ◌++◌, ◌+◌, ◌∙◌, ◌∷◌}
+use Rattle.std.proofs.Common.{◌≡◌}
 use Rattle.gj_json.specs.declared.event.What.TheVariants as What
 use Rattle.gj_json.specs.Bytes.{mark_bytes}
-use Rattle.gj_json.specs.Events.{Timed, timed, events, elements_events, members_events, mark_events, text_events, all_events, value_events}
+use Rattle.gj_json.specs.Events.{Timed}
 use Rattle.gj_json.specs.Names.{known_of}
 use Rattle.gj_json.specs.Tree as Tree
-use Rattle.gj_json.specs.Tree.{Tree, constant, number, string, array, object, end_of_array, element, Members, end_of_object, member, Text}
-use Rattle.gj_rules.specs.Internal.LabelledEvents.{Told, plain, event_of, at_of, told, elements_told, members_told, mark_told, text_told}
 
 abbrev pub timed_of : Told → Timed
 timed_of x = record { at = at_of x; event = event_of x }

@@ -1,42 +1,27 @@
 -- From each state in which a value is due, the value's events lead to what the definitions say of it, and what a call
 -- needs to know of the state holds before each of them.
-use Rattle.std.proofs.Common.{◌≡◌, ℕ, zero, suc, ◌+◌, ◌-◌, ◌*◌, ◌<◌, ◌≤◌, Bool, true, false, if◌then◌else◌, List, [], ◌∷◌, ◌++◌, map, length, Option, Some}
-use Rattle.std.proofs.Common.{None, refl, sym, ap, subst, ◌∙◌, arith, append_assoc}
-use Rattle.std.proofs.lemmas.List.{map-append}
-use Rattle.gj_json.specs.declared.constant.Constant.TheVariants.{Null, True, False}
-use Rattle.gj_json.specs.declared.event.Event.{Event}
+use Rattle.gj_rules.proofs.Common.{Bool, Coordinates, Done, Due, Event, False, Fault, Features, Feed, Findings, Frame, G1, Geometries, Geometry, List}
+use Rattle.gj_rules.proofs.Common.{MOST_FRAMES, MemberSlots, Members, Mode, Names, Null, Other, Role, RootDue, Slot, State, Text, Told, Tree, True}
+use Rattle.gj_rules.proofs.Common.{Warnings, What, all_faults, all_kept, and_kept, ap, append_assoc, arith, array, blank, constant, depth, due_known}
+use Rattle.gj_rules.proofs.Common.{element, elements_told, end_of_array, end_of_object, event_of, false, fault_at, faults, idle, if◌then◌else◌}
+use Rattle.gj_rules.proofs.Common.{is_known, least, least-append, length, levels_within, map, map-append, mark_told, marked_kept, member, member_of}
+use Rattle.gj_rules.proofs.Common.{members_told, mode_behind, most_levels, number, object, plain, refl, run, settled, slot_of, start, step, string}
+use Rattle.gj_rules.proofs.Common.{subst, suc, sym, taken_any, taken_in, text_faults, text_kept, text_told, told, true, uses, value_events, zero, []}
+use Rattle.gj_rules.proofs.Common.{◌*◌, ◌++◌, ◌+◌, ◌-◌, ◌<◌, ◌∙◌, ◌∷◌, ◌≤◌}
+use Rattle.std.proofs.Common.{◌≡◌, ℕ, Option, Some}
+use Rattle.std.proofs.Common.{None}
 use Rattle.gj_json.specs.declared.names.Known.{Known}
-use Rattle.gj_json.specs.declared.names.Known.TheVariants.{Coordinates, Geometries, Geometry, Features, Bbox, Other}
-use Rattle.gj_json.specs.declared.event.What.{What}
-use Rattle.gj_json.specs.Events.{value_events}
+use Rattle.gj_json.specs.declared.names.Known.TheVariants.{Bbox}
 use Rattle.gj_json.specs.Names.{known_of}
 use Rattle.gj_json.specs.Tree as Tree
-use Rattle.gj_json.specs.Tree.{Tree, constant, number, string, array, object, end_of_array, element, Members, end_of_object, member, Text, depth}
 use Rattle.gj_json.specs.Tree.{elements_depth, members_depth}
-use Rattle.gj_coords.specs.declared.fault.Fault.{Fault}
-use Rattle.gj_coords.specs.declared.fault.Rule.TheVariants.{G1}
-use Rattle.gj_coords.specs.Fault.{least, fault_at}
-use Rattle.gj_coords.specs.declared.warnings.Warnings.{Warnings}
 use Rattle.gj_coords.specs.Internal.KeptWarnings as Noted
-use Rattle.gj_rules.specs.Levels.{most_levels, levels_within}
 use Rattle.gj_rules.specs.Internal.SkippedLevels.{most_skipped}
-use Rattle.gj_rules.specs.Internal.FrameMeaning.{Findings}
-use Rattle.gj_rules.specs.Internal.FrameMeaning.{Frame}
-use Rattle.gj_rules.specs.Internal.FrameMeaning.{MemberSlots}
-use Rattle.gj_rules.specs.declared.member_slots.Slot.{Slot}
-use Rattle.gj_rules.specs.declared.role.Role.{Role}
-use Rattle.gj_rules.specs.declared.rules.TheConstants.{MOST_FRAMES}
-use Rattle.gj_rules.specs.declared.mode.Mode.{Mode}
-use Rattle.gj_rules.specs.declared.mode.Mode.TheVariants.{RootDue, Names, Due, Elements, Done}
-use Rattle.gj_rules.specs.Faults.{faults, all_faults, text_faults}
-use Rattle.gj_rules.specs.Internal.FrameCalls.{blank, named, due_after, joined, taken_in, taken_any, settled, filled, member_taken, members_taken}
-use Rattle.gj_rules.specs.Internal.OpenMembers.{slot_of, due_known, uses}
-use Rattle.gj_rules.specs.Internal.TextKept.{marked_kept, kept, all_kept, and_kept, text_kept}
-use Rattle.gj_rules.specs.Members.{is_known}
+use Rattle.gj_rules.specs.declared.mode.Mode.TheVariants.{Elements}
+use Rattle.gj_rules.specs.Internal.FrameCalls.{named, due_after, joined, filled, member_taken, members_taken}
+use Rattle.gj_rules.specs.Internal.TextKept.{kept}
 use Rattle.gj_rules.specs.Internal.RulesState.{HasRoom}
-use Rattle.gj_rules.specs.Internal.EventSteps.{Feed, idle, due_feed, feed_behind, State, step, run, start, member_of, mode_behind}
-use Rattle.gj_rules.specs.Internal.LabelledEvents.{Told, plain, event_of, told, elements_told, members_told, mark_told, text_told}
-use Rattle.gj_coords.specs.Internal.LeastLaws.{least-append}
+use Rattle.gj_rules.specs.Internal.EventSteps.{due_feed, feed_behind}
 use Rattle.gj_rules.proofs.Objects.JoinedFindings.{taken_none, taken_twice, members_shown}
 use Rattle.gj_rules.proofs.Objects.AllMembers.{named_object, member_object, members_object}
 use Rattle.gj_rules.proofs.Objects.ClosedFrames.{all_closed}
@@ -119,10 +104,7 @@ one_more v taken x xs e = append_assoc taken (event_of x ∷ []) (map event_of x
 -- a value has an event
 pub some_told : (v : Tree) → (x : Told) × (xs : List Told) × (told v ≡ x ∷ xs)
 some_told (constant which place) = (_, _, refl)
-some_told (number place literal end) = (_, _, refl)
-some_told (string place content end) = (_, _, refl)
-some_told (array place es close) = (_, _, refl)
-some_told (object place ms close) = (_, _, refl)
+some_told other = (_, _, refl)
 
 -- ---- what has a role
 
@@ -130,14 +112,11 @@ some_told (object place ms close) = (_, _, refl)
 abbrev pub credit : Role → ℕ
 credit Role.Root = 1
 credit Role.Feature = 1
-credit Role.Geometry = 2
-credit Role.Part = 2
+credit other = 2
 
 credit_small : (r : Role) → credit r ≤ 2
 credit_small Role.Root = omega arith
-credit_small Role.Feature = omega arith
-credit_small Role.Geometry = omega arith
-credit_small Role.Part = omega arith
+credit_small other = omega arith
 
 -- the object with the innermost frame is at level n
 abbrev pub IsWithin : ℕ → List Frame → Role → Type 0
@@ -197,9 +176,7 @@ behind close r found f o a =
 pub behind_idle : (close : ℕ) (r : Role) (found : Findings) (f : Frame) (o : List Frame) (a : Findings)
     → behind close r found f o a ≡ st 0 (mode_behind r) (taken_in (member_of r) found f) o a
 behind_idle close Role.Root found f o a = refl
-behind_idle close Role.Geometry found f o a = refl
-behind_idle close Role.Part found f o a = refl
-behind_idle close Role.Feature found f o a = refl
+behind_idle close other found f o a = refl
 
 -- the value after a name is due
 abbrev pub due_st : Known → Tree → Frame → List Frame → Findings → State

@@ -1,48 +1,27 @@
 -- A whole member `geometry` that is a Point adds its name to the frame around, and the warnings of its position.
-use Rattle.std.proofs.Common.{◌≡◌, ℕ, ◌+◌, List, [], ◌∷◌, ◌++◌, map, Option, None, refl, sym, ap, subst, ◌∙◌}
-use Rattle.std.proofs.Common.{append_assoc, append-nil}
-use Rattle.std.proofs.lemmas.List.{map-append}
-use Rattle.gj_json.specs.declared.constant.Constant.TheVariants.{Null, True, False}
-use Rattle.gj_json.specs.declared.event.Event.{Event}
-use Rattle.gj_json.specs.declared.event.What.{What}
-use Rattle.gj_json.specs.declared.flat.Flat.{Flat}
-use Rattle.gj_json.specs.declared.flat.Numbered.{Numbered}
+use Rattle.gj_rules.proofs.Common.{Coordinates, Core, Due, Event, False, Fault, Feed, Findings, Flat, Frame, FramedRules, Geometry, List, MemberSlots}
+use Rattle.gj_rules.proofs.Common.{Mode, Names, Null, Numbered, Role, Shapes, Simple, Stands, State, Told, Tree, True, TypeName, Warnings, What, Word}
+use Rattle.gj_rules.proofs.Common.{alike, ap, append_assoc, array, blank, constant, coordinates_faults, coordinates_kept, core_of, element}
+use Rattle.gj_rules.proofs.Common.{elements_events, end_of_array, event_of, flat_events, gathered, idle, least, lesser, located_events, map}
+use Rattle.gj_rules.proofs.Common.{map-append, names_step, number, number_event, numbers_of, object, refl, rules_of, run, settled, start, step}
+use Rattle.gj_rules.proofs.Common.{string, subst, sym, taken_in, text_told, top_of, value_events, [], ◌++◌, ◌+◌, ◌∙◌, ◌∷◌}
+use Rattle.std.proofs.Common.{◌≡◌, ℕ, Option, None}
+use Rattle.std.proofs.Common.{append-nil}
 use Rattle.gj_json.specs.declared.head.Located.{Located}
 use Rattle.gj_json.specs.declared.names.Known.{Known}
-use Rattle.gj_json.specs.declared.names.Known.TheVariants.{TypeName, Coordinates, Geometry}
-use Rattle.gj_json.specs.declared.names.Word.{Word}
 use Rattle.gj_json.specs.Events as E
-use Rattle.gj_json.specs.Events.{value_events, elements_events}
-use Rattle.gj_json.specs.Flat.{number_event, numbers_of, numbers_events, flat_events}
-use Rattle.gj_json.specs.Head.{located_events, point_events}
-use Rattle.gj_json.specs.Tree.{Tree, constant, number, string, array, object, Elements, end_of_array, element}
+use Rattle.gj_json.specs.Flat.{numbers_events}
+use Rattle.gj_json.specs.Head.{point_events}
+use Rattle.gj_json.specs.Tree.{Elements}
 use Rattle.gj_number.specs.Value.{value_of}
-use Rattle.gj_coords.specs.declared.fault.Fault.{Fault}
-use Rattle.gj_coords.specs.declared.simple.Simple.{Simple}
-use Rattle.gj_coords.specs.declared.warnings.Warnings.{Warnings}
-use Rattle.gj_coords.specs.Fault.{least, lesser}
 use Rattle.gj_coords.specs.PlainPoint.{IsPointWith}
-use Rattle.gj_coords.specs.Shape.{coordinates_faults}
-use Rattle.gj_coords.specs.Internal.CoordinatesKept.{coordinates_kept}
 use Rattle.gj_coords.specs.Internal.KeptWarnings.{no_warnings, joined}
-use Rattle.gj_rules.specs.declared.mode.Mode.{Mode}
-use Rattle.gj_rules.specs.declared.mode.Mode.TheVariants.{Names, Due}
-use Rattle.gj_rules.specs.declared.role.Role.{Role}
-use Rattle.gj_rules.specs.declared.rules.FramedRules.{FramedRules}
 use Rattle.gj_rules.specs.Rules.{StandsFor}
-use Rattle.gj_rules.specs.Internal.EventSteps.{Core, Feed, State, idle, named_feed, names_step, due_step, passed, step, run, start}
-use Rattle.gj_rules.specs.Internal.FrameCalls.{blank, named, due_after, type_set, filled, taken_in, warned, settled}
-use Rattle.gj_rules.specs.Internal.FrameMeaning.{Findings}
-use Rattle.gj_rules.specs.Internal.FrameMeaning.{Frame}
-use Rattle.gj_rules.specs.Internal.FrameMeaning.{MemberSlots}
-use Rattle.gj_rules.specs.Internal.FrameMeaning.{Shapes}
-use Rattle.gj_rules.specs.Internal.GatheredWarnings.{gathered}
-use Rattle.gj_rules.specs.Internal.LabelledEvents.{Told, event_of, text_told}
+use Rattle.gj_rules.specs.Internal.EventSteps.{named_feed, due_step, passed}
+use Rattle.gj_rules.specs.Internal.FrameCalls.{named, due_after, type_set, filled, warned}
 use Rattle.gj_rules.specs.Internal.OpenMembers as S
-use Rattle.gj_rules.specs.Internal.MemberRules.{rules_of}
 use Rattle.gj_rules.specs.Internal.OpenMembers.{members_fault}
-use Rattle.gj_rules.specs.Internal.RulesState.{core_of, top_of, Stands}
-use Rattle.gj_rules.specs.Internal.Summaries.{alike, found_as}
+use Rattle.gj_rules.specs.Internal.Summaries.{found_as}
 use Rattle.gj_rules.proofs.Objects.MemberSlots.{joined-none}
 use Rattle.gj_rules.proofs.Objects.WarningsInTurn.{to_none}
 use Rattle.gj_rules.proofs.Texts.ValuesByEvents.{Leads, leads_at, st, text_found, lead_text}

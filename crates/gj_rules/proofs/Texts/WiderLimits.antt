@@ -1,11 +1,7 @@
 -- What is found under limits that are less deep is found under the limits, but for a refusal for the depth.
-use Rattle.std.proofs.Common.{◌≡◌, ℕ, ◌≤◌, List, refl, ◌∙◌, arith}
-use Rattle.gj_json.specs.Limits.{Allowed}
-use Rattle.gj_json.specs.Refusal.{Stops, RefusedFor, IsAdmitted}
-use Rattle.gj_json.specs.Text.{IsViableWithin}
-use Rattle.gj_json.specs.Tree.{Text}
-use Rattle.gj_json.specs.declared.fault.Cause.{Cause}
-use Rattle.gj_json.specs.declared.fault.Cause.TheVariants.{Syntax, Truncated, Depth, Length}
+use Rattle.gj_rules.proofs.Common.{Allowed, Cause, Depth, IsAdmitted, IsViableWithin, Length, List, RefusedFor, Stops, Syntax, Text, Truncated, arith}
+use Rattle.gj_rules.proofs.Common.{refl, ◌∙◌, ◌≤◌}
+use Rattle.std.proofs.Common.{◌≡◌, ℕ}
 use Rattle.gj_json.proofs.Machine.LongestPrefixes.{no_deeper}
 
 module _ (few limits : Allowed) (bytes : List ℕ) (shallow : few.depth ≤ limits.depth) (short : few.bytes ≡ limits.bytes) where

@@ -1,5 +1,6 @@
+use Rattle.gj_coords.proofs.Common.{ap, sym, ◌∙◌}
 use Rattle.std.specs.Prelude.{not}
-use Rattle.std.proofs.Common.{◌≡◌, ◌∙◌, sym, ap, is_none, false}
+use Rattle.std.proofs.Common.{◌≡◌, is_none, false}
 use Rattle.gj_coords.proofs.Walks.PreciseNumbers.{counted_more}
 use Rattle.gj_coords.proofs.cuts.counts.Goals as goal
 

@@ -1,6 +1,6 @@
 -- One position more.
-use Rattle.std.proofs.Common.{◌<◌, length, sym, subst, arith}
-use Rattle.gj_json.specs.CutPosition.{IsCutPosition}
+use Rattle.gj_coords.proofs.Common.{IsCutPosition, arith, subst, sym}
+use Rattle.std.proofs.Common.{◌<◌, length}
 use Rattle.gj_coords.proofs.Walks.CutPositions.{counts_more}
 use Rattle.gj_coords.proofs.cuts.warn_all.Goals as goal
 

@@ -1,9 +1,7 @@
-use Rattle.std.proofs.Common.{◌≡◌, ◌≤◌, ◌-◌, ◌*◌, List, take}
-use Rattle.gj_json.specs.declared.flat.Flat.{Flat}
-use Rattle.gj_json.specs.CutPosition.{AreCutPositions}
+use Rattle.gj_coords.proofs.Common.{AreCutPositions, Flat, counted_noted, precise_noted, take, ◌*◌}
+use Rattle.std.proofs.Common.{◌≡◌, ◌≤◌, ◌-◌, List}
 use Rattle.gj_coords.specs.Internal.AddedPositions.{all_noted}
-use Rattle.gj_coords.specs.Internal.CutPositionGather.{HasLeast, counted_noted}
-use Rattle.gj_coords.specs.Internal.FlatPosition.{precise_noted}
+use Rattle.gj_coords.specs.Internal.CutPositionGather.{HasLeast}
 use Rattle.gj_coords.proofs.cuts.warn_all.Given as goal
 
 abbrev pub invariant-loop-at : goal.invariant-loop-at

@@ -1,7 +1,7 @@
-use Rattle.std.proofs.Common.{◌≤◌, ◌<◌, ◌^◌, arith}
+use Rattle.gj_coords.proofs.Common.{arith, nat_tests}
+use Rattle.std.proofs.Common.{◌≤◌, ◌<◌, ◌^◌}
 use Rattle.std.specs.Prelude.{bit_or}
 use Rattle.std.proofs.lemmas.Nat.{le_or_l, le_or_r, or_lt}
-use Rattle.std.proofs.lemmas.Bool.Decides.{nat_tests}
 use Rattle.gj_coords.proofs.Walks.PreciseNumbers.{written_short}
 use Rattle.gj_coords.proofs.flat.is_pair_short.Goals as goal
 

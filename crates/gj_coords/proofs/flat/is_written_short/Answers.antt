@@ -1,6 +1,6 @@
+use Rattle.gj_coords.proofs.Common.{arith, nat_tests}
 use Rattle.gj_coords.proofs.Walks.PreciseNumbers.{written_short}
-use Rattle.std.proofs.lemmas.Bool.Decides.{nat_tests}
-use Rattle.std.proofs.Common.{arith, ◌≤◌}
+use Rattle.std.proofs.Common.{◌≤◌}
 use Rattle.gj_coords.proofs.flat.is_written_short.Goals as goal
 
 pub returns-clause-short : goal.returns-clause-short

@@ -1,4 +1,5 @@
-use Rattle.gj_coords.specs.Internal.WarningLaws.{joined_none_first, joined_none_last, joined_assoc, joined_comm, warnings_of-append}
+use Rattle.gj_coords.proofs.Common.{joined_none_first}
+use Rattle.gj_coords.specs.Internal.WarningLaws.{joined_none_last, joined_assoc, joined_comm, warnings_of-append}
 use Rattle.gj_coords.proofs.laws.joined_warnings.Goals as goal
 
 pub returns-clause-none_first : goal.returns-clause-none_first

@@ -1,6 +1,4 @@
-use Rattle.std.proofs.Common.{◌∙◌, ap}
-use Rattle.gj_coords.specs.Internal.FlatPosition.{flat_position}
-use Rattle.gj_coords.specs.Internal.PositionGather.{sound_noted}
+use Rattle.gj_coords.proofs.Common.{ap, flat_position, sound_noted, ◌∙◌}
 use Rattle.gj_coords.proofs.Walks.PlainPoints.{point_with}
 use Rattle.gj_coords.proofs.plain_point.point_warned.Goals as goal
 

@@ -1,4 +1,5 @@
-use Rattle.std.proofs.Common.{◌≡◌, ◌∙◌, FitsSigned, w16, rules, arith}
+use Rattle.gj_coords.proofs.Common.{FitsSigned, arith, rules, w16, ◌∙◌}
+use Rattle.std.proofs.Common.{◌≡◌}
 use Rattle.std.specs.Cmp.{booleans_Decides}
 use Rattle.gj_coords.proofs.Readers.WrittenParts.{power_read, same_written}
 use Rattle.gj_coords.proofs.position.parts_agree.Goals as goal

@@ -1,5 +1,5 @@
-use Rattle.std.proofs.Common.{◌≡◌, ◌≢◌, ◌%◌, ◌==◌, false, FitsSigned, w16, rules, arith}
-use Rattle.std.proofs.lemmas.Bool.Decides.{nat_tests}
+use Rattle.gj_coords.proofs.Common.{FitsSigned, arith, nat_tests, rules, w16, ◌%◌}
+use Rattle.std.proofs.Common.{◌≡◌, ◌≢◌, ◌==◌, false}
 use Rattle.gj_coords.proofs.Readers.WrittenParts.{other_digits, other_places, power_read, power_written}
 use Rattle.gj_coords.proofs.position.parts_differ.Goals as goal
 

@@ -1,4 +1,5 @@
-use Rattle.std.proofs.Common.{◌≡◌, ℕ, ◌*◌, Option, Some, None, ℤ, pos, refl, ◌∙◌}
+use Rattle.gj_coords.proofs.Common.{pos, ℤ, ◌*◌, ◌∙◌}
+use Rattle.std.proofs.Common.{◌≡◌, ℕ, Option, Some, None, refl}
 use Rattle.gj_number.specs.Exact.{cut_within, cut_of}
 use Rattle.gj_number.specs.Short.{exact_of}
 use Rattle.gj_coords.specs.Winding.{bounded_cut}

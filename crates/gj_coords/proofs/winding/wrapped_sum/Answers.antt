@@ -1,6 +1,7 @@
+use Rattle.gj_coords.proofs.Common.{FitsSigned, arith, ints}
 use Rattle.std.specs.Int.{w128}
-use Rattle.std.proofs.Common.{◌≡◌, FitsSigned, arith}
-use Rattle.std.proofs.lemmas.Int.{ints, wrapping_add_is}
+use Rattle.std.proofs.Common.{◌≡◌}
+use Rattle.std.proofs.lemmas.Int.{wrapping_add_is}
 use Rattle.gj_coords.proofs.winding.wrapped_sum.Goals as goal
 
 pub returns : goal.returns

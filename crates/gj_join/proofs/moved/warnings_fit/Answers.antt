@@ -1,4 +1,5 @@
-use Rattle.std.proofs.Common.{rules, arith, refl, ap, subst, ◌∙◌, ◌≡◌, ◌+◌, ◌≤◌, ◌<◌, ℕ, get_or, length, Some, inl, inr}
+use Rattle.gj_join.proofs.Common.{Some, ap, arith, inl, inr, length, refl, subst, ℕ, ◌+◌, ◌<◌, ◌∙◌, ◌≡◌, ◌≤◌}
+use Rattle.std.proofs.Common.{rules, get_or}
 use Rattle.std.proofs.lemmas.Bool.{cases_eq}
 use Rattle.gj_coords.specs.Internal.ByKind.{kind_at_index, index_small}
 use Rattle.gj_coords.specs.Internal.KeptWarnings.{first_in}

@@ -1,4 +1,5 @@
-use Rattle.std.proofs.Common.{◌≡◌, ◌+◌, ◌≤◌, ◌<◌, ℕ, get_or, Some}
+use Rattle.gj_join.proofs.Common.{Some, ℕ, ◌+◌, ◌<◌, ◌≡◌, ◌≤◌}
+use Rattle.std.proofs.Common.{get_or}
 use Rattle.gj_coords.specs.Internal.KeptWarnings.{first_in}
 use Rattle.gj_coords.specs.Warnings.{kinds}
 use Rattle.gj_coords.specs.declared.kind.Kind.{Kind}

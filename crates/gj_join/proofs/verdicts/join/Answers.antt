@@ -1,14 +1,12 @@
-use Rattle.std.proofs.Common.{◌≡◌, ◌++◌, ℕ, List, length, Some, None, Option, ap, sym, subst, ◌∙◌}
+use Rattle.gj_join.proofs.Common.{Allowed, ArePartsOf, Framing, Lines, List, Sequence, SequenceJudgement, Some, ap, joined_judgement, length}
+use Rattle.gj_join.proofs.Common.{limits_after, subst, sym, ℕ, ◌++◌, ◌∙◌, ◌≡◌}
+use Rattle.std.proofs.Common.{None, Option}
 use Rattle.std.specs.Prelude.{◌↔◌, IfSome}
-use Rattle.gj_json.specs.Limits.{Allowed}
 use Rattle.gj_rules.specs.RecordFindings.{IsWholeVerdict}
-use Rattle.gj_rules.specs.Sequence.{IsSequenceVerdict, SequenceJudgement, SequenceSays}
+use Rattle.gj_rules.specs.Sequence.{IsSequenceVerdict, SequenceSays}
 use Rattle.gj_rules.specs.SequenceJudgement.{IsSequenceJudgement}
-use Rattle.gj_rules.specs.declared.records.framing.Framing.{Framing}
-use Rattle.gj_rules.specs.declared.records.framing.Framing.TheVariants.{Sequence, Lines}
 use Rattle.gj_rules.specs.declared.sequence.verdict.SeqVerdict.{SeqVerdict}
-use Rattle.gj_join.specs.Joined.{IsVerdictOf, joined_judgement, joined_verdict}
-use Rattle.gj_join.specs.Parts.{ArePartsOf, limits_after}
+use Rattle.gj_join.specs.Joined.{IsVerdictOf, joined_verdict}
 use Rattle.gj_join.proofs.verdicts.join.Goals as goal
 
 -- a verdict is what it says

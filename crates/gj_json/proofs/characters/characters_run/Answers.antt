@@ -1,6 +1,5 @@
 -- Some characters after others.
-use Rattle.std.proofs.Common.{◌++◌}
-use Rattle.gj_json.specs.declared.mode.StringState.TheVariants.{Plain}
+use Rattle.gj_json.proofs.Common.{Plain, ◌++◌}
 use Rattle.gj_json.proofs.Pieces.QuietModes.{reads_more}
 use Rattle.gj_json.proofs.Pieces.PieceRests.{more_within}
 use Rattle.gj_json.proofs.characters.characters_run.Goals as goal

@@ -1,5 +1,5 @@
 -- The bytes of an escape.
-use Rattle.std.proofs.Common.{sym, ◌∙◌, arith}
+use Rattle.gj_json.proofs.Common.{arith, sym, ◌∙◌}
 use Rattle.gj_json.proofs.Grammar.SpelledCharacters.{short_taken, unicode_taken}
 use Rattle.gj_json.proofs.characters.escape.Goals as goal
 

@@ -1,6 +1,5 @@
 -- One escape after another.
-use Rattle.std.proofs.Common.{◌++◌}
-use Rattle.gj_json.specs.declared.mode.StringState.TheVariants.{Plain}
+use Rattle.gj_json.proofs.Common.{Plain, ◌++◌}
 use Rattle.gj_json.proofs.Grammar.SpelledCharacters.{characters_read_at}
 use Rattle.gj_json.proofs.Pieces.QuietModes.{reads_more}
 use Rattle.gj_json.proofs.Pieces.PieceRests.{more_within}

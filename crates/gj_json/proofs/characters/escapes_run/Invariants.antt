@@ -1,5 +1,5 @@
-use Rattle.std.proofs.Common.{◌≤◌, ◌-◌, length, take}
-use Rattle.gj_json.specs.Internal.WholeTokens.{AreCharacters}
+use Rattle.gj_json.proofs.Common.{AreCharacters, length, ◌-◌, ◌≤◌}
+use Rattle.std.proofs.Common.{take}
 use Rattle.gj_json.proofs.characters.escapes_run.Given as goal
 
 abbrev pub invariant-loop-at : goal.invariant-loop-at

@@ -1,6 +1,6 @@
 -- The table agrees with the definition at each byte.
-use Rattle.std.proofs.Common.{◌≡◌, ◌%◌, eqb, get_or, true, refl, is_some, arith}
-use Rattle.std.proofs.lemmas.Bool.{agree_below, agree_below_at}
+use Rattle.gj_json.proofs.Common.{agree_below, agree_below_at, arith, eqb, get_or, refl, true, ◌%◌, ◌≡◌}
+use Rattle.std.proofs.Common.{is_some}
 use Rattle.gj_json.specs.Characters.{hex_of}
 use Rattle.gj_json.specs.declared.characters.TheConstants.{IN_ESCAPES}
 use Rattle.gj_json.proofs.characters.is_hexadecimal.Goals as goal

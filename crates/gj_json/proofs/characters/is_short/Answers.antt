@@ -1,6 +1,6 @@
 -- The table agrees with the definition at each byte.
-use Rattle.std.proofs.Common.{◌≡◌, leb, get_or, true, refl, is_some, arith}
-use Rattle.std.proofs.lemmas.Bool.{agree_below, agree_below_at}
+use Rattle.gj_json.proofs.Common.{agree_below, agree_below_at, arith, get_or, leb, refl, true, ◌≡◌}
+use Rattle.std.proofs.Common.{is_some}
 use Rattle.gj_json.specs.Characters.{escape_of}
 use Rattle.gj_json.specs.declared.characters.TheConstants.{IN_ESCAPES}
 use Rattle.gj_json.proofs.characters.is_short.Goals as goal

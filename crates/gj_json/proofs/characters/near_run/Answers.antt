@@ -1,7 +1,5 @@
 -- The characters of the first bytes are those of the piece.
-use Rattle.std.proofs.Common.{List, ℕ, sym, subst, arith}
-use Rattle.std.proofs.lemmas.List.{take-take, length-take-le}
-use Rattle.gj_json.specs.Internal.WholeTokens.{AreCharacters}
+use Rattle.gj_json.proofs.Common.{AreCharacters, List, arith, length-take-le, subst, sym, take-take, ℕ}
 use Rattle.gj_json.proofs.characters.near_run.Goals as goal
 
 pub slice_bounds-wide_run-end : goal.slice_bounds-wide_run-end

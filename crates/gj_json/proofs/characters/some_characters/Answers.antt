@@ -1,8 +1,5 @@
 -- One character, or a run of them.
-use Rattle.std.proofs.Common.{◌++◌, arith}
-use Rattle.std.proofs.lemmas.List.Sums.{prefix_len-le-length}
-use Rattle.gj_json.specs.Internal.QuietBytes.{is_unescaped_ascii}
-use Rattle.gj_json.specs.declared.mode.StringState.TheVariants.{Plain}
+use Rattle.gj_json.proofs.Common.{Plain, arith, is_unescaped_ascii, prefix_len-le-length, ◌++◌}
 use Rattle.gj_json.proofs.Grammar.SpelledCharacters.{plain_characters}
 use Rattle.gj_json.proofs.Pieces.QuietModes.{reads_more}
 use Rattle.gj_json.proofs.Pieces.PieceRests.{more_within}

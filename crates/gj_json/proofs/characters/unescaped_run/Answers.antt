@@ -1,8 +1,6 @@
 -- What is found near the start, and what simdutf8 finds after it.
-use Rattle.std.proofs.Common.{◌++◌, List, ℕ, take, arith}
-use Rattle.gj_json.specs.Internal.WholeTokens.{AreCharacters}
-use Rattle.gj_json.specs.Runs.{IsLongestUtf8, plain_run_of}
-use Rattle.gj_json.specs.declared.mode.StringState.TheVariants.{Plain}
+use Rattle.gj_json.proofs.Common.{AreCharacters, IsLongestUtf8, List, Plain, arith, plain_run_of, ℕ, ◌++◌}
+use Rattle.std.proofs.Common.{take}
 use Rattle.gj_json.proofs.Grammar.Utf8Characters.{front_utf8, front_unescaped, front_within, characters_read}
 use Rattle.gj_json.proofs.Pieces.QuietModes.{reads_more}
 use Rattle.gj_json.proofs.Pieces.PieceRests.{more_within}

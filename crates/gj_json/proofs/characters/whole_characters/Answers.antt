@@ -1,8 +1,8 @@
 -- The run, or the prefix of it that is UTF-8.
-use Rattle.std.proofs.Common.{◌≡◌, ℕ, sym, subst, take, length}
+use Rattle.gj_json.proofs.Common.{IsLongestUtf8, is_unescaped, length, subst, sym, ℕ, ◌≡◌}
+use Rattle.std.proofs.Common.{take}
 use Rattle.std.proofs.lemmas.List.Folds.{length-prefix_len}
 use Rattle.std.specs.Str.{IsValidUpTo}
-use Rattle.gj_json.specs.Runs.{IsLongestUtf8, is_unescaped}
 use Rattle.gj_json.proofs.Grammar.Utf8Characters.{up_to_fault, all_utf8}
 use Rattle.gj_json.proofs.characters.whole_characters.Goals as goal
 

@@ -1,5 +1,5 @@
 -- The bytes of a character, by how many it has.
-use Rattle.std.proofs.Common.{arith}
+use Rattle.gj_json.proofs.Common.{arith}
 use Rattle.gj_json.proofs.Grammar.SpelledCharacters.{two_taken, three_taken, four_taken}
 use Rattle.gj_json.proofs.characters.wide_character.Goals as goal
 

@@ -1,5 +1,5 @@
 -- The characters by what is seen at each byte.
-use Rattle.std.proofs.Common.{sym, ◌∙◌}
+use Rattle.gj_json.proofs.Common.{sym, ◌∙◌}
 use Rattle.gj_json.proofs.Grammar.SpelledCharacters.{characters_read_at}
 use Rattle.gj_json.proofs.Grammar.WideCharacterEnds.{all_whole, but_one_whole, but_two_whole}
 use Rattle.gj_json.proofs.characters.wide_run.Goals as goal

@@ -1,6 +1,6 @@
-use Rattle.std.proofs.Common.{List, ℕ, subst}
+use Rattle.gj_json.proofs.Common.{List, exact_of, subst, ℕ}
 use Rattle.std.specs.Prelude.{IfSome}
-use Rattle.gj_number.specs.Short.{StartsWithPair, exact_of}
+use Rattle.gj_number.specs.Short.{StartsWithPair}
 use Rattle.gj_json.proofs.Pieces.PieceRests.{rest_of}
 use Rattle.gj_json.proofs.flats.pair_after_bracket.Goals as goal
 

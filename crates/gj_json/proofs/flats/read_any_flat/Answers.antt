@@ -1,6 +1,5 @@
 -- From the closing bracket back to the opening one.
-use Rattle.std.proofs.Common.{[], ◌∷◌, ◌+◌, arith}
-use Rattle.std.specs.Option.{option_to_list}
+use Rattle.gj_json.proofs.Common.{arith, option_to_list, [], ◌+◌, ◌∷◌}
 use Rattle.gj_json.proofs.Grammar.SpelledFlats.{end_cut, more_cut, flat_cut}
 use Rattle.gj_json.proofs.flats.read_any_flat.Goals as goal
 

@@ -1,5 +1,5 @@
 -- A pair between brackets.
-use Rattle.std.proofs.Common.{◌+◌, refl}
+use Rattle.gj_json.proofs.Common.{refl, ◌+◌}
 use Rattle.gj_json.proofs.Grammar.SpelledPairs.{pair_spelled}
 use Rattle.gj_json.proofs.flats.read_flat.Goals as goal
 

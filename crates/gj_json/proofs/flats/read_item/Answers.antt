@@ -1,10 +1,7 @@
 -- White space, a number and white space.
-use Rattle.std.proofs.Common.{◌<◌, ◌+◌, ◌-◌, ℕ, List, drop, length, take, sym, refl, arith, length-drop}
+use Rattle.gj_json.proofs.Common.{Exact, IsValued, List, Short, StartsWithNumber, arith, cut, drop, exact_of, length, refl, sym, ℕ, ◌+◌, ◌-◌, ◌<◌}
+use Rattle.std.proofs.Common.{take, length-drop}
 use Rattle.std.proofs.lemmas.List.{length-take}
-use Rattle.gj_number.specs.Exact.{Exact}
-use Rattle.gj_number.specs.Short.{StartsWithNumber, exact_of}
-use Rattle.gj_number.specs.declared.short.Short.{Short}
-use Rattle.gj_json.specs.Internal.FlatParts.{cut, IsValued}
 use Rattle.gj_json.proofs.Pieces.PieceCuts.{cut_front}
 use Rattle.gj_json.proofs.Grammar.SpelledFlats.{item_cut}
 use Rattle.gj_json.proofs.Grammar.SpelledPairs.{none_cut}

@@ -1,5 +1,5 @@
 -- A comma, a number and the closing bracket.
-use Rattle.std.proofs.Common.{[], ◌+◌, arith}
+use Rattle.gj_json.proofs.Common.{arith, [], ◌+◌}
 use Rattle.gj_json.proofs.Grammar.SpelledFlats.{end_cut, more_cut}
 use Rattle.gj_json.proofs.flats.read_third.Goals as goal
 

@@ -1,8 +1,6 @@
 -- White space up to the first byte that is none.
-use Rattle.std.proofs.Common.{◌≤◌, ◌+◌, ◌-◌, ℕ, List, drop, length, take, arith}
-use Rattle.std.proofs.lemmas.List.Sums.{prefix_len-le-length}
-use Rattle.gj_json.specs.Bytes.{IsWhite}
-use Rattle.gj_json.specs.Internal.QuietBytes.{is_white}
+use Rattle.gj_json.proofs.Common.{IsWhite, List, arith, drop, is_white, length, prefix_len-le-length, ℕ, ◌+◌, ◌-◌, ◌≤◌}
+use Rattle.std.proofs.Common.{take}
 use Rattle.gj_json.proofs.Pieces.PieceCuts.{cut_front}
 use Rattle.gj_json.proofs.Pieces.QuietModes.{all_run, white_is}
 use Rattle.gj_json.proofs.Pieces.PieceRests.{more_within}

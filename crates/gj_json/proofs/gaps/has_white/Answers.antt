@@ -1,7 +1,6 @@
 -- As many bytes of white space as the piece has there.
-use Rattle.std.proofs.Common.{◌-◌, length, drop, take}
-use Rattle.gj_json.specs.Bytes.{IsWhite}
-use Rattle.gj_json.specs.Internal.QuietBytes.{is_white}
+use Rattle.gj_json.proofs.Common.{IsWhite, drop, is_white, length, ◌-◌}
+use Rattle.std.proofs.Common.{take}
 use Rattle.gj_json.proofs.Pieces.PieceCuts.{cut_front}
 use Rattle.gj_json.proofs.Pieces.QuietModes.{part_run, white_is}
 use Rattle.gj_json.proofs.gaps.has_white.Goals as goal

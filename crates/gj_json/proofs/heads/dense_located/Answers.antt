@@ -1,5 +1,6 @@
 -- The beginning of a member, by its bytes.
-use Rattle.std.proofs.Common.{◌≡◌, ◌+◌, [], take, drop, sym, ap, ◌∙◌, arith}
+use Rattle.gj_json.proofs.Common.{ap, arith, drop, sym, [], ◌+◌, ◌∙◌, ◌≡◌}
+use Rattle.std.proofs.Common.{take}
 use Rattle.gj_json.proofs.Grammar.UsualHeads.{located_by, after_type}
 use Rattle.gj_json.proofs.Grammar.UsualTokens.{same_bytes}
 use Rattle.gj_json.proofs.Pieces.PieceRests.{rest_of}

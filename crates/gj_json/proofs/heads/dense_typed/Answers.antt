@@ -1,5 +1,5 @@
 -- The beginning of an object, by its bytes.
-use Rattle.std.proofs.Common.{refl, arith}
+use Rattle.gj_json.proofs.Common.{arith, refl}
 use Rattle.gj_json.proofs.Grammar.UsualHeads.{typed_by}
 use Rattle.gj_json.proofs.Grammar.UsualTokens.{same_bytes}
 use Rattle.gj_json.proofs.heads.dense_typed.Goals as goal

@@ -1,7 +1,7 @@
 -- The beginning of a member, by its bytes, with spaces.
-use Rattle.std.proofs.Common.{◌≡◌, ◌+◌, ◌-◌, inl, [], ◌∷◌, codes, take, drop, suc, refl, sym, ap, ap₂, ◌∙◌, arith}
+use Rattle.gj_json.proofs.Common.{ap, ap₂, arith, codes, drop, inl, refl, space, suc, sym, [], ◌+◌, ◌-◌, ◌∙◌, ◌∷◌, ◌≡◌}
+use Rattle.std.proofs.Common.{take}
 use Rattle.std.proofs.Math.Seq.{drop-cons}
-use Rattle.gj_json.specs.Bytes.{space}
 use Rattle.gj_json.proofs.Grammar.UsualHeads.{located_by, after_type}
 use Rattle.gj_json.proofs.Grammar.UsualTokens.{same_bytes}
 use Rattle.gj_json.proofs.Pieces.PieceRests.{rest_of}

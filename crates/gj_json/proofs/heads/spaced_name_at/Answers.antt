@@ -1,8 +1,6 @@
 -- The beginning of a feature, by its bytes, with spaces.
-use Rattle.std.proofs.Common.{inl, [], ◌∷◌, codes, refl}
-use Rattle.gj_json.specs.Bytes.{space}
+use Rattle.gj_json.proofs.Common.{IsTyped, codes, inl, refl, space, [], ◌∷◌}
 use Rattle.gj_json.specs.Names.{word_of}
-use Rattle.gj_json.specs.Internal.WholeHeads.{IsTyped}
 use Rattle.gj_json.specs.declared.names.Word.TheVariants.{Feature}
 use Rattle.gj_json.proofs.Grammar.UsualTokens.{by_first, plain}
 use Rattle.gj_json.proofs.heads.spaced_name_at.Goals as goal

@@ -1,6 +1,5 @@
 -- The beginning of a member up to its type, by its bytes, with no space within the object.
-use Rattle.std.proofs.Common.{inl, [], ◌∷◌, refl}
-use Rattle.gj_json.specs.Bytes.{space}
+use Rattle.gj_json.proofs.Common.{inl, refl, space, [], ◌∷◌}
 use Rattle.gj_json.proofs.Grammar.UsualTokens.{same_bytes}
 use Rattle.gj_json.proofs.heads.usual_located.Goals as goal
 

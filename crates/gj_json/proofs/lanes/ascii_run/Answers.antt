@@ -1,7 +1,6 @@
 -- The first sixteen bytes, and then all.
-use Rattle.std.proofs.Common.{ℕ, ◌<◌, sym, ap, subst, ◌∙◌, arith}
+use Rattle.gj_json.proofs.Common.{ap, arith, is_unescaped_ascii, subst, sym, ℕ, ◌<◌, ◌∙◌}
 use lib.Count.{count_trailing_zeros}
-use Rattle.gj_json.specs.Internal.QuietBytes.{is_unescaped_ascii}
 use Rattle.gj_json.proofs.Pieces.LaneTests.{lanes_stop}
 use Rattle.gj_json.proofs.lanes.ascii_run.Goals as goal
 

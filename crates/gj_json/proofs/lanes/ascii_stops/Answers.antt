@@ -1,7 +1,6 @@
 -- The mask of four comparisons.
-use Rattle.std.proofs.Common.{not, refl, arith}
-use Rattle.std.proofs.lemmas.Simd.{zip2_splat, zip2_splat_left}
-use Rattle.gj_json.specs.Internal.QuietBytes.{is_unescaped_ascii}
+use Rattle.gj_json.proofs.Common.{arith, is_unescaped_ascii, not, refl, zip2_splat}
+use Rattle.std.proofs.lemmas.Simd.{zip2_splat_left}
 use Rattle.gj_json.proofs.Pieces.LaneTests.{equal, less, either, mask_is}
 use Rattle.gj_json.proofs.lanes.ascii_stops.Goals as goal
 

@@ -1,14 +1,11 @@
 -- The first lane that differs, and the bytes before it.
-use Rattle.std.proofs.Common.{◌≡◌, ℕ, zero, suc, ◌+◌, ◌≤◌, ◌%◌, ◌^◌, Bool, true, false, not, cond, eqb, leb, w8, List, ◌∷◌, map, length, take, ◌&&◌}
-use Rattle.std.proofs.Common.{refl, sym, ap, ◌∙◌, arith}
+use Rattle.gj_json.proofs.Common.{Bool, List, ap, arith, bytes_eq, cond, eqb, false, le-leb, leading_from_mask_l, leb, length, length-take-le, map}
+use Rattle.gj_json.proofs.Common.{map-id, mask_l, mask_l-mod, not, prefix_len, refl, suc, sym, take-take, trailing_mask_l, true, w8, zero, zip2, ℕ}
+use Rattle.gj_json.proofs.Common.{◌%◌, ◌&&◌, ◌+◌, ◌^◌, ◌∙◌, ◌∷◌, ◌≡◌, ◌≤◌}
+use Rattle.std.proofs.Common.{take}
 use Rattle.std.proofs.Math.Dec.{leb-zero, leb-suc-suc, leb-suc-zero}
-use Rattle.std.proofs.lemmas.Bool.{le-leb}
-use Rattle.std.proofs.lemmas.List.{map-id, take-take, length-take-le}
-use Rattle.std.proofs.lemmas.Simd.{tops_compared, mask_l-mod, length-zip2, leading_from_mask_l, trailing_mask_l}
-use Rattle.std.specs.List.{prefix_len}
-use Rattle.std.specs.Str.{bytes_eq}
+use Rattle.std.proofs.lemmas.Simd.{tops_compared, length-zip2}
 use lib.Count.{count_trailing_zeros}
-use lib.Lanes.{zip2, mask_l}
 use Rattle.gj_json.proofs.lanes.begins.Goals as goal
 
 abbrev unlike : ℕ → ℕ → Bool

@@ -1,7 +1,6 @@
 -- The first sixteen bytes.
-use Rattle.std.proofs.Common.{arith}
+use Rattle.gj_json.proofs.Common.{arith, is_unescaped_ascii}
 use Rattle.std.proofs.lemmas.Bool.{leb-true}
-use Rattle.gj_json.specs.Internal.QuietBytes.{is_unescaped_ascii}
 use Rattle.gj_json.proofs.Pieces.LaneTests.{lanes_pass}
 use Rattle.gj_json.proofs.lanes.begins_ascii.Goals as goal
 

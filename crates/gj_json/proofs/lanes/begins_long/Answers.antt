@@ -1,7 +1,8 @@
 -- The bytes of a vector, and those after it.
-use Rattle.std.proofs.Common.{◌≡◌, ℕ, ◌+◌, ◌-◌, ◌≤◌, Bool, true, false, eqb, List, [], ◌∷◌, ◌++◌, ◌&&◌, length, take, drop, take-add, refl, sym, ap, ◌∙◌, arith}
-use Rattle.std.proofs.lemmas.List.{take_all, length-take-le}
-use Rattle.std.specs.Str.{bytes_eq}
+use Rattle.gj_json.proofs.Common.{Bool, List, ap, arith, bytes_eq, drop, eqb, false, length, length-take-le, refl, sym, take-add, true, ℕ, [], ◌&&◌}
+use Rattle.gj_json.proofs.Common.{◌++◌, ◌+◌, ◌-◌, ◌∙◌, ◌∷◌, ◌≡◌, ◌≤◌}
+use Rattle.std.proofs.Common.{take}
+use Rattle.std.proofs.lemmas.List.{take_all}
 use Rattle.gj_json.proofs.Pieces.PieceRests.{rest_of}
 use Rattle.gj_json.proofs.lanes.begins_long.Goals as goal
 

@@ -1,7 +1,6 @@
 -- The first sixteen bytes, or these and some of sixteen more.
-use Rattle.std.proofs.Common.{◌-◌, sym, ◌∙◌, arith}
+use Rattle.gj_json.proofs.Common.{arith, is_white, sym, ◌-◌, ◌∙◌}
 use Rattle.std.proofs.lemmas.Bool.{leb-true}
-use Rattle.gj_json.specs.Internal.QuietBytes.{is_white}
 use Rattle.gj_json.proofs.Pieces.LaneTests.{lanes_on, lanes_pass}
 use Rattle.gj_json.proofs.lanes.begins_white.Goals as goal
 

@@ -1,8 +1,5 @@
 -- Block by block, and then the bytes that fill none.
-use Rattle.std.proofs.Common.{◌≡◌, ◌+◌, ◌*◌, arith}
-use Rattle.std.proofs.lemmas.List.Sums.{prefix_len-le-length}
-use Rattle.std.specs.List.{prefix_len}
-use Rattle.gj_json.specs.Internal.QuietBytes.{is_white}
+use Rattle.gj_json.proofs.Common.{arith, is_white, prefix_len, prefix_len-le-length, ◌*◌, ◌+◌, ◌≡◌}
 use Rattle.gj_json.proofs.Pieces.LaneTests.{block_passes, block_stops, rest_stops}
 use Rattle.gj_json.proofs.lanes.long_white_run.Goals as goal
 

@@ -1,6 +1,4 @@
-use Rattle.std.proofs.Common.{◌≡◌, ◌+◌, ◌-◌, ◌*◌, ◌≤◌, length, drop}
-use Rattle.std.specs.List.{prefix_len}
-use Rattle.gj_json.specs.Internal.QuietBytes.{is_white}
+use Rattle.gj_json.proofs.Common.{drop, is_white, length, prefix_len, ◌*◌, ◌+◌, ◌-◌, ◌≡◌, ◌≤◌}
 use Rattle.gj_json.proofs.lanes.long_white_run.Given as goal
 
 abbrev pub invariant-loop-index : goal.invariant-loop-index

@@ -1,8 +1,5 @@
 -- Block by block, and then the bytes that fill none.
-use Rattle.std.proofs.Common.{◌≡◌, ◌+◌, ◌*◌, arith}
-use Rattle.std.proofs.lemmas.List.Sums.{prefix_len-le-length}
-use Rattle.std.specs.List.{prefix_len}
-use Rattle.gj_json.specs.Runs.{is_unescaped}
+use Rattle.gj_json.proofs.Common.{arith, is_unescaped, prefix_len, prefix_len-le-length, ◌*◌, ◌+◌, ◌≡◌}
 use Rattle.gj_json.proofs.Pieces.LaneTests.{block_passes, block_stops, rest_stops}
 use Rattle.gj_json.proofs.lanes.plain_run.Goals as goal
 

@@ -1,6 +1,4 @@
-use Rattle.std.proofs.Common.{◌≡◌, ◌+◌, ◌-◌, ◌*◌, ◌≤◌, length, drop}
-use Rattle.std.specs.List.{prefix_len}
-use Rattle.gj_json.specs.Runs.{is_unescaped}
+use Rattle.gj_json.proofs.Common.{drop, is_unescaped, length, prefix_len, ◌*◌, ◌+◌, ◌-◌, ◌≡◌, ◌≤◌}
 use Rattle.gj_json.proofs.lanes.plain_run.Given as goal
 
 abbrev pub invariant-loop-index : goal.invariant-loop-index

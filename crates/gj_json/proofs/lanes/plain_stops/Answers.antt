@@ -1,7 +1,5 @@
 -- The mask of three comparisons.
-use Rattle.std.proofs.Common.{not, refl, arith}
-use Rattle.std.proofs.lemmas.Simd.{zip2_splat}
-use Rattle.gj_json.specs.Runs.{is_unescaped}
+use Rattle.gj_json.proofs.Common.{arith, is_unescaped, not, refl, zip2_splat}
 use Rattle.gj_json.proofs.Pieces.LaneTests.{equal, less, either, mask_is}
 use Rattle.gj_json.proofs.lanes.plain_stops.Goals as goal
 

@@ -1,9 +1,7 @@
 -- The first sixteen bytes, sixteen more, and then all.
-use Rattle.std.proofs.Common.{ℕ, ◌<◌, ◌≤◌, ◌+◌, ◌≡◌, List, map, not, length, drop, sym, ap, subst, ◌∙◌, arith}
-use Rattle.std.specs.List.{prefix_len}
+use Rattle.gj_json.proofs.Common.{List, ap, arith, drop, is_white, length, map, mask_l, not, prefix_len, subst, sym, ℕ, ◌+◌, ◌<◌, ◌∙◌, ◌≡◌, ◌≤◌}
 use lib.Count.{count_trailing_zeros}
-use lib.Lanes.{chunk, mask_l}
-use Rattle.gj_json.specs.Internal.QuietBytes.{is_white}
+use lib.Lanes.{chunk}
 use Rattle.gj_json.proofs.Pieces.LaneTests.{lanes_on, lanes_stop}
 use Rattle.gj_json.proofs.lanes.white_run.Goals.{then-piece-ge-LANES+else-stops-ne0, else-piece-ge-LANES}
 use Rattle.gj_json.proofs.lanes.white_run.Goals as goal

@@ -1,9 +1,6 @@
 -- The table, read at the lower halves, and the bytes that differ from what it says.
-use Rattle.std.proofs.Common.{get_or, bit_and, not, refl, sym, arith}
-use Rattle.std.proofs.lemmas.List.{map-id}
-use Rattle.std.proofs.lemmas.Nat.{and_le_r}
-use Rattle.std.proofs.lemmas.Simd.{zip2_splat, zip2_of_maps}
-use Rattle.gj_json.specs.Internal.QuietBytes.{is_white}
+use Rattle.gj_json.proofs.Common.{and_le_r, arith, bit_and, get_or, is_white, map-id, not, refl, sym, zip2_splat}
+use Rattle.std.proofs.lemmas.Simd.{zip2_of_maps}
 use Rattle.gj_json.specs.declared.lanes.TheConstants.{WHITE}
 use Rattle.gj_json.proofs.Pieces.LaneTables.{lower_ok, looked_up}
 use Rattle.gj_json.proofs.Pieces.LaneTests.{mask_is, differs}

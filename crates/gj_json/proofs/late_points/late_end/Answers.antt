@@ -1,7 +1,6 @@
 -- The end of a member from the comma after its coordinates on, by its bytes.
-use Rattle.std.proofs.Common.{◌≡◌, ◌∙◌, ◌++◌, inl, [], ◌∷◌, codes, take, take-add, drop, refl, sym, ap, ap₂, arith}
-use Rattle.std.proofs.lemmas.List.{take_more}
-use Rattle.gj_json.specs.Bytes.{space}
+use Rattle.gj_json.proofs.Common.{ap, ap₂, arith, codes, drop, inl, refl, space, sym, take-add, take_more, [], ◌++◌, ◌∙◌, ◌∷◌, ◌≡◌}
+use Rattle.std.proofs.Common.{take}
 use Rattle.gj_json.specs.Internal.LatePoints.{after_position}
 use Rattle.gj_json.proofs.Grammar.UsualTokens.{same_bytes}
 use Rattle.gj_json.proofs.Pieces.PieceRests.{rest_of}

@@ -1,6 +1,5 @@
 -- The beginning of a member up to its coordinates, by its bytes.
-use Rattle.std.proofs.Common.{inl, [], ◌∷◌, refl}
-use Rattle.gj_json.specs.Bytes.{space}
+use Rattle.gj_json.proofs.Common.{inl, refl, space, [], ◌∷◌}
 use Rattle.gj_json.proofs.Grammar.UsualTokens.{same_bytes}
 use Rattle.gj_json.proofs.late_points.late_start.Goals as goal
 

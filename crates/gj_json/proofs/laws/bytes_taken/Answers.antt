@@ -1,5 +1,5 @@
+use Rattle.gj_json.proofs.Common.{sym}
 use Rattle.gj_json.proofs.Readers.CallsInTurn.{live_offset, refused_offset, taken_within}
-use Rattle.std.proofs.Common.{sym}
 use Rattle.gj_json.proofs.laws.bytes_taken.Goals as goal
 
 pub returns-clause-open : goal.returns-clause-open

@@ -1,6 +1,6 @@
 -- The closing bracket, with a space before it or none.
-use Rattle.std.proofs.Common.{◌≡◌, ◌+◌, ℕ, None, true, false, Bool, if◌then◌else◌, get_or, arith}
-use Rattle.gj_json.specs.Bytes.{comma, space, close_bracket}
+use Rattle.gj_json.proofs.Common.{Bool, None, arith, close_bracket, false, get_or, if◌then◌else◌, space, true, ℕ, ◌+◌, ◌≡◌}
+use Rattle.gj_json.specs.Bytes.{comma}
 use Rattle.gj_json.proofs.Grammar.SpelledArrays.{one_space}
 use Rattle.gj_json.proofs.Grammar.SpelledFlats.{end_cut}
 use Rattle.gj_json.proofs.Grammar.SpelledPairs.{none_cut}

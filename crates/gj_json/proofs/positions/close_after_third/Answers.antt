@@ -1,9 +1,6 @@
 -- A comma, a number and the closing bracket.
-use Rattle.std.proofs.Common.{◌+◌, ℕ, List, [], refl, Some, length-drop, subst, arith}
-use mir.Val.{bool_byte}
-use Rattle.gj_number.specs.Short.{StartsWithNumber, exact_of}
-use Rattle.gj_json.specs.declared.flat.Numbered.{Numbered}
-use Rattle.gj_json.specs.Internal.FlatParts.{cut, IsItem}
+use Rattle.gj_json.proofs.Common.{IsItem, List, Numbered, Some, StartsWithNumber, arith, bool_byte, cut, exact_of, refl, subst, ℕ, [], ◌+◌}
+use Rattle.std.proofs.Common.{length-drop}
 use Rattle.gj_json.proofs.Grammar.SpelledArrays.{at_most_one, one_space}
 use Rattle.gj_json.proofs.Grammar.SpelledFlats.{item_cut, end_cut, more_cut}
 use Rattle.gj_json.proofs.Grammar.SpelledPairs.{none_cut, valued_cut}

@@ -1,5 +1,6 @@
 -- What was read so far, and where it ends.
-use Rattle.std.proofs.Common.{◌≡◌, ◌≤◌, length, take}
+use Rattle.gj_json.proofs.Common.{length, ◌≡◌, ◌≤◌}
+use Rattle.std.proofs.Common.{take}
 use Rattle.gj_json.specs.Internal.SpelledPositions.{near_gap}
 use Rattle.gj_json.proofs.Pieces.ReadPositions.{ReadTo}
 use Rattle.gj_json.proofs.positions.read_in_form.Given as goal

@@ -1,14 +1,9 @@
 -- The array, by what stands between the numbers and the brackets.
-use Rattle.std.proofs.Common.{◌≡◌, ◌∙◌, ◌+◌, List, ℕ, get_or, drop, refl, sym, ap, subst, arith, rules, w64}
-use mir.Val.{SFits, bool_byte}
-use Rattle.std.specs.List.{AllByRecursion}
-use Rattle.std.proofs.lemmas.List.{get_or-drop}
+use Rattle.gj_json.proofs.Common.{AllByRecursion, Flat, IsValued, IsWhite, List, Numbered, SFits, ap, arith, bool_byte, cut, drop, get_or}
+use Rattle.gj_json.proofs.Common.{get_or-drop, refl, rules, subst, sym, w64, ℕ, ◌+◌, ◌∙◌, ◌≡◌}
 use Rattle.gj_number.specs.declared.short.cuts.PairForm.{PairForm}
 use Rattle.gj_number.specs.Cuts.{StartsWithCutPair, second_after}
-use Rattle.gj_json.specs.Bytes.{IsWhite, comma}
-use Rattle.gj_json.specs.declared.flat.Flat.{Flat}
-use Rattle.gj_json.specs.declared.flat.Numbered.{Numbered}
-use Rattle.gj_json.specs.Internal.FlatParts.{cut, IsValued}
+use Rattle.gj_json.specs.Bytes.{comma}
 use Rattle.gj_json.proofs.Grammar.SpelledArrays.{at_most_one, one_space, of_value, valued_there, array_spelled}
 use Rattle.gj_json.proofs.Grammar.SpelledPairs.{valued_cut}
 use Rattle.gj_json.proofs.Pieces.PieceRests.{rest_of}

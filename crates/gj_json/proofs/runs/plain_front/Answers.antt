@@ -1,6 +1,5 @@
 -- Characters by themselves leave no character under way.
-use Rattle.std.proofs.lemmas.List.Sums.{prefix_len-le-length}
-use Rattle.gj_json.specs.Internal.QuietBytes.{is_unescaped_ascii}
+use Rattle.gj_json.proofs.Common.{is_unescaped_ascii, prefix_len-le-length}
 use Rattle.gj_json.proofs.Pieces.QuietModes
 use Rattle.gj_json.proofs.runs.plain_front.Goals as goal
 

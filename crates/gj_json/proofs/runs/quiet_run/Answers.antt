@@ -1,7 +1,5 @@
 -- What passes the test of a mode leaves it as it is.
-use Rattle.std.proofs.Common.{sym}
-use Rattle.std.proofs.lemmas.List.Sums.{prefix_len-le-length}
-use Rattle.gj_json.specs.Internal.QuietBytes.{is_white}
+use Rattle.gj_json.proofs.Common.{is_white, prefix_len-le-length, sym}
 use Rattle.gj_json.proofs.Pieces.QuietModes
 use Rattle.gj_json.proofs.runs.quiet_run.Goals as goal
 

@@ -1,7 +1,6 @@
 -- The bytes of a string, run by run and byte by byte.
-use Rattle.std.proofs.Common.{◌≡◌, ◌+◌, ◌≤◌, ◌<◌, [], ◌∷◌, get_or, length, arith, sym, ◌∙◌, append-nil}
-use Rattle.gj_json.specs.Internal.TextMachine.{string_next, string_goes}
-use Rattle.gj_json.specs.declared.mode.StringState.TheVariants.{Plain}
+use Rattle.gj_json.proofs.Common.{Plain, arith, get_or, length, string_goes, string_next, sym, [], ◌+◌, ◌<◌, ◌∙◌, ◌∷◌, ◌≡◌, ◌≤◌}
+use Rattle.std.proofs.Common.{append-nil}
 use Rattle.gj_json.proofs.Grammar.OneCharacter.{one_character, goes_is, reads_is}
 use Rattle.gj_json.proofs.Pieces.SkippedRuns.{HasRead, after_plain, after_text, after_byte}
 use Rattle.gj_json.proofs.Pieces.PieceRests.{more_within}

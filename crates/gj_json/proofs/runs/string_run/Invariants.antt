@@ -1,5 +1,5 @@
-use Rattle.std.proofs.Common.{ℕ, List, length, ◌-◌, ◌≤◌, ◌++◌, take}
-use Rattle.gj_json.specs.Internal.KeptContent.{Holds}
+use Rattle.gj_json.proofs.Common.{Holds, List, length, ℕ, ◌++◌, ◌-◌, ◌≤◌}
+use Rattle.std.proofs.Common.{take}
 use Rattle.gj_json.specs.Internal.Transitions.{IsStringState}
 use Rattle.gj_json.specs.Internal.QuietBytes.{Reads}
 use Rattle.gj_json.proofs.runs.string_run.Given as goal

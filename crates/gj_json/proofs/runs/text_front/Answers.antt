@@ -1,5 +1,5 @@
 -- Whole characters leave none under way.
-use Rattle.std.proofs.Common.{sym, ◌∙◌}
+use Rattle.gj_json.proofs.Common.{sym, ◌∙◌}
 use Rattle.gj_json.proofs.Grammar.Utf8Characters.{other_holds}
 use Rattle.gj_json.proofs.runs.text_front.Goals as goal
 

@@ -1,5 +1,5 @@
 -- One position more.
-use Rattle.std.proofs.Common.{arith, rules}
+use Rattle.gj_json.proofs.Common.{arith, rules}
 use Rattle.std.proofs.lemmas.List.{take_more_set}
 use Rattle.gj_json.proofs.Pieces.ReadPositions.{none_read, one_read}
 use Rattle.gj_json.proofs.spread_positions.read_in_spread_form.Goals as goal

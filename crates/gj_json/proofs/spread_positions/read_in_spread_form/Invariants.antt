@@ -1,5 +1,6 @@
 -- What was read so far, and where it ends.
-use Rattle.std.proofs.Common.{◌≡◌, ◌≤◌, length, take}
+use Rattle.gj_json.proofs.Common.{length, ◌≡◌, ◌≤◌}
+use Rattle.std.proofs.Common.{take}
 use Rattle.gj_json.proofs.Pieces.ReadPositions.{ReadTo}
 use Rattle.gj_json.proofs.spread_positions.read_in_spread_form.Given as goal
 

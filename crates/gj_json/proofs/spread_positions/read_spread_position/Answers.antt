@@ -1,12 +1,8 @@
 -- The array of two numbers, by what stands between them and the brackets.
-use Rattle.std.proofs.Common.{◌≡◌, ◌∙◌, ◌+◌, List, ℕ, None, get_or, drop, refl, sym, subst, arith, rules, w64}
-use mir.Val.{SFits}
-use Rattle.std.proofs.lemmas.List.{get_or-drop}
+use Rattle.gj_json.proofs.Common.{Flat, IsValued, List, None, Numbered, SFits, arith, cut, drop, get_or, get_or-drop, refl, rules, subst, sym, w64, ℕ}
+use Rattle.gj_json.proofs.Common.{◌+◌, ◌∙◌, ◌≡◌}
 use Rattle.gj_number.specs.Cuts.{StartsWithSpreadPair}
 use Rattle.gj_json.specs.Bytes.{comma}
-use Rattle.gj_json.specs.declared.flat.Flat.{Flat}
-use Rattle.gj_json.specs.declared.flat.Numbered.{Numbered}
-use Rattle.gj_json.specs.Internal.FlatParts.{cut, IsValued}
 use Rattle.gj_json.specs.Internal.SpelledPositions.{ClosesAt}
 use Rattle.gj_json.proofs.Grammar.SpelledArrays.{of_value, valued_there, array_spelled}
 use Rattle.gj_json.proofs.Grammar.SpelledFlats.{end_cut}

@@ -1,7 +1,7 @@
 -- The quotes, and plain characters between them.
-use Rattle.std.proofs.Common.{◌≡◌, ℕ, ◌+◌, ◌-◌, length, take, drop, subst, arith}
+use Rattle.gj_json.proofs.Common.{IsString, arith, drop, length, subst, ℕ, ◌+◌, ◌-◌, ◌≡◌}
+use Rattle.std.proofs.Common.{take}
 use Rattle.std.proofs.lemmas.Bool.{eqb-true}
-use Rattle.gj_json.specs.Internal.WholeTokens.{IsString}
 use Rattle.gj_json.proofs.Grammar.SpelledCharacters.{few_plain_characters}
 use Rattle.gj_json.proofs.Pieces.TokensInLevels.{quoted_is}
 use Rattle.gj_json.proofs.tokens.begins_quoted.Goals as goal

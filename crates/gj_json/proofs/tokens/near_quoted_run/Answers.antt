@@ -1,5 +1,6 @@
 -- The quotes, and plain characters between them.
-use Rattle.std.proofs.Common.{◌-◌, take, length, drop, arith}
+use Rattle.gj_json.proofs.Common.{arith, drop, length, ◌-◌}
+use Rattle.std.proofs.Common.{take}
 use Rattle.gj_json.proofs.Grammar.SpelledCharacters.{plain_characters}
 use Rattle.gj_json.proofs.Pieces.TokensInLevels.{quoted_is}
 use Rattle.gj_json.proofs.tokens.near_quoted_run.Goals as goal

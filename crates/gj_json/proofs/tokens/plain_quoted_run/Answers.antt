@@ -1,7 +1,5 @@
 -- The quotes, and plain characters between them.
-use Rattle.std.proofs.Common.{ap, ◌∙◌, arith}
-use Rattle.std.specs.List.{prefix_len}
-use Rattle.gj_json.specs.Internal.QuietBytes.{is_unescaped_ascii}
+use Rattle.gj_json.proofs.Common.{ap, arith, is_unescaped_ascii, prefix_len, ◌∙◌}
 use Rattle.gj_json.proofs.Pieces.PieceRests.{rest_of}
 use Rattle.gj_json.proofs.Grammar.SpelledTokens.{quoted_cut}
 use Rattle.gj_json.proofs.tokens.plain_quoted_run.Goals as goal

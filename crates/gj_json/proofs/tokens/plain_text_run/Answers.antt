@@ -1,6 +1,5 @@
 -- Plain characters are characters.
-use Rattle.std.proofs.lemmas.List.Sums.{prefix_len-le-length}
-use Rattle.gj_json.specs.Internal.QuietBytes.{is_unescaped_ascii}
+use Rattle.gj_json.proofs.Common.{is_unescaped_ascii, prefix_len-le-length}
 use Rattle.gj_json.proofs.Grammar.SpelledCharacters.{plain_characters}
 use Rattle.gj_json.proofs.tokens.plain_text_run.Goals as goal
 

@@ -1,5 +1,5 @@
 -- Plain characters and others, and the quotes around them.
-use Rattle.std.proofs.Common.{arith}
+use Rattle.gj_json.proofs.Common.{arith}
 use Rattle.gj_json.proofs.Pieces.TokensInLevels.{quoted_is, more_quoted}
 use Rattle.gj_json.proofs.tokens.quoted_run.Goals as goal
 

@@ -1,5 +1,5 @@
 -- The literal names, by their letters.
-use Rattle.gj_json.specs.declared.constant.Constant.TheVariants.{Null, True, False}
+use Rattle.gj_json.proofs.Common.{False, Null, True}
 use Rattle.gj_json.specs.Internal.Scalars.{literal}
 use Rattle.gj_json.proofs.tokens.scalar_run.Goals as goal
 

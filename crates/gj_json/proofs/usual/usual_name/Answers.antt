@@ -1,8 +1,8 @@
 -- Each name, by its bytes.
-use Rattle.std.proofs.Common.{codes, refl, sym, ◌∙◌}
+use Rattle.gj_json.proofs.Common.{Coordinates, Geometry, TypeName, codes, refl, sym, ◌∙◌}
 use Rattle.gj_json.specs.Names.{known_of}
 use Rattle.gj_json.specs.Internal.WholeTokens.{IsUsualName}
-use Rattle.gj_json.specs.declared.names.Known.TheVariants.{TypeName, Coordinates, Geometry, Properties, Id}
+use Rattle.gj_json.specs.declared.names.Known.TheVariants.{Properties, Id}
 use Rattle.gj_json.proofs.Grammar.UsualTokens.{by_first, plain}
 use Rattle.gj_json.proofs.usual.usual_name.Goals as goal
 

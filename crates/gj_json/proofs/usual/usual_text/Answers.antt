@@ -1,5 +1,5 @@
 -- Each type, by its bytes.
-use Rattle.std.proofs.Common.{codes, refl}
+use Rattle.gj_json.proofs.Common.{codes, refl}
 use Rattle.gj_json.specs.Names.{word_of}
 use Rattle.gj_json.specs.Internal.WholeTokens.{IsUsualText}
 use Rattle.gj_json.specs.declared.names.Word.TheVariants.{Feature, Point, Polygon, LineString}

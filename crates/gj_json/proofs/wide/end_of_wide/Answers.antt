@@ -1,5 +1,5 @@
 -- Vector by vector.
-use Rattle.std.proofs.Common.{arith, inl}
+use Rattle.gj_json.proofs.Common.{arith, inl}
 use Rattle.gj_json.proofs.Pieces.WideRuns.{stops_on, passes_on}
 use Rattle.gj_json.proofs.wide.end_of_wide.Goals as goal
 

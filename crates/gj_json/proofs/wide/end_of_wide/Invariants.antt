@@ -1,5 +1,4 @@
-use Rattle.std.proofs.Common.{◌<◌, ◌-◌, length}
-use Rattle.gj_json.specs.Internal.WideCharacters.{NoneEnds}
+use Rattle.gj_json.proofs.Common.{NoneEnds, length, ◌-◌, ◌<◌}
 use Rattle.gj_json.proofs.wide.end_of_wide.Given as goal
 
 abbrev pub invariant-loop-at : goal.invariant-loop-at

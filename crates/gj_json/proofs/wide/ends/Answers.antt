@@ -1,6 +1,5 @@
 -- The mask of the bytes that end a character or go on wrongly.
-use Rattle.std.proofs.Common.{◌/◌, arith}
-use Rattle.std.proofs.lemmas.Simd.{zip2_splat}
+use Rattle.gj_json.proofs.Common.{arith, zip2_splat, ◌/◌}
 use Rattle.gj_json.specs.declared.wide.TheConstants.{BEFORE}
 use Rattle.gj_json.proofs.Pieces.LaneTables.{down, upper_ok, looked_up}
 use Rattle.gj_json.proofs.Pieces.WideLanes.{ends_are}

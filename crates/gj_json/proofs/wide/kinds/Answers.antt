@@ -1,7 +1,5 @@
 -- Two tables, read at the halves of each byte.
-use Rattle.std.proofs.Common.{◌/◌, bit_and, arith}
-use Rattle.std.proofs.lemmas.Nat.{and_le_r}
-use Rattle.std.proofs.lemmas.Simd.{zip2_splat}
+use Rattle.gj_json.proofs.Common.{and_le_r, arith, bit_and, zip2_splat, ◌/◌}
 use Rattle.gj_json.specs.declared.wide.TheConstants.{LOWER, UPPER}
 use Rattle.gj_json.proofs.Pieces.LaneTables.{down, lower_ok, upper_ok, looked_up}
 use Rattle.gj_json.proofs.Pieces.WideLanes.{kinds_are}

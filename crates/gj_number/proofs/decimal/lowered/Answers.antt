@@ -1,4 +1,4 @@
-use Rattle.std.proofs.Common.{sym, arith}
+use Rattle.gj_number.proofs.Common.{arith, sym}
 use Rattle.gj_number.proofs.Shorts.CutNumbers.{lowered_far}
 use Rattle.gj_number.proofs.Value.NormalForm.{ten_above_zero}
 use Rattle.gj_number.proofs.decimal.lowered.Goals as goal

@@ -1,4 +1,4 @@
-use Rattle.std.proofs.Common.{sym, arith}
+use Rattle.gj_number.proofs.Common.{arith, sym}
 use Rattle.gj_number.proofs.Shorts.CutNumbers.{raised_far, raised_above, raised_small, limited_below}
 use Rattle.gj_number.proofs.decimal.raised.Goals as goal
 use Rattle.gj_number.proofs.decimal.raised.Goals.{then-up-ge-CUT_DIGITS-via-then-up-ge-CUT_DIGITS}

@@ -1,6 +1,6 @@
 -- Vector by vector.
-use Rattle.std.proofs.Common.{arith, ◌≡◌, ◌+◌, ℕ, take, All, subst}
-use Rattle.gj_number.specs.Bytes.{IsDigit}
+use Rattle.gj_number.proofs.Common.{IsDigit, arith, subst, take, ℕ, ◌+◌, ◌≡◌}
+use Rattle.std.proofs.Common.{All}
 use Rattle.gj_number.proofs.Shorts.SixteenLanes.{digits_on}
 use Rattle.gj_number.proofs.lanes.digit_run.Goals as goal
 

@@ -1,5 +1,5 @@
-use Rattle.std.proofs.Common.{◌-◌, ◌≤◌, length, take, All}
-use Rattle.gj_number.specs.Bytes.{IsDigit}
+use Rattle.gj_number.proofs.Common.{IsDigit, length, take, ◌-◌, ◌≤◌}
+use Rattle.std.proofs.Common.{All}
 use Rattle.gj_number.proofs.lanes.digit_run.Given as goal
 
 -- the bytes before this one are digits

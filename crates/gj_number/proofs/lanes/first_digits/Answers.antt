@@ -1,7 +1,6 @@
-use Rattle.std.proofs.Common.{List, ℕ, subst, sym, ◌∙◌, ap, ◌<◌}
+use Rattle.gj_number.proofs.Common.{List, ap, subst, sym, with_value, ℕ, ◌<◌, ◌∙◌}
 use Rattle.std.specs.Simd.Lanes.{Each1}
 use Rattle.std.specs.List.{fold}
-use Rattle.gj_number.specs.Internal.DigitLanes.{with_value}
 use Rattle.gj_number.proofs.Shorts.SixteenLanes.{moved_small, first_spell, run_whole}
 use Rattle.gj_number.proofs.lanes.first_digits.Goals as goal
 

@@ -1,4 +1,4 @@
-use Rattle.std.proofs.Common.{List, ℕ, ◌<◌, sym, ap, ◌∙◌, subst}
+use Rattle.gj_number.proofs.Common.{List, ap, subst, sym, ℕ, ◌<◌, ◌∙◌}
 use Rattle.std.specs.Simd.Lanes.{Each1}
 use Rattle.gj_number.specs.Internal.DigitLanes.{by_both}
 use Rattle.gj_number.proofs.Shorts.SixteenLanes.{twos_small, fours_are}

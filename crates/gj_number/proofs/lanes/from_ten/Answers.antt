@@ -1,7 +1,5 @@
-use Rattle.std.proofs.Common.{◌%◌, ◌^◌, leb, map, replicate, ap, ◌∙◌, arith, w8}
-use lib.Lanes.{mask_l}
-use Rattle.std.proofs.lemmas.List.{length-map}
-use Rattle.std.proofs.lemmas.Simd.{tops_compared, zip2_splat_left, mask_l-mod}
+use Rattle.gj_number.proofs.Common.{ap, arith, leb, length-map, map, mask_l, replicate, tops_compared, w8, ◌%◌, ◌^◌, ◌∙◌}
+use Rattle.std.proofs.lemmas.Simd.{zip2_splat_left, mask_l-mod}
 use Rattle.gj_number.proofs.lanes.from_ten.Goals as goal
 
 pub returns : goal.returns

@@ -1,6 +1,5 @@
-use Rattle.std.proofs.Common.{◌≡◌, ℕ, subst, ◌+◌, ◌^◌, ◌<◌, ◌++◌, ◌∷◌, [], leb, length, map, true, ap, sym, ◌∙◌, arith}
-use lib.Lanes.{mask_l}
-use Rattle.std.proofs.lemmas.List.{length-map, map-append}
+use Rattle.gj_number.proofs.Common.{ap, arith, leb, length, length-map, map, map-append, mask_l, subst, sym, true, ℕ, [], ◌++◌, ◌+◌, ◌<◌, ◌^◌, ◌∙◌}
+use Rattle.gj_number.proofs.Common.{◌∷◌, ◌≡◌}
 use Rattle.std.proofs.lemmas.Simd.{mask_l-lt}
 use Rattle.gj_number.proofs.Shorts.SixteenLanes.{mask_ended}
 use Rattle.gj_number.proofs.lanes.from_ten_ended.Goals as goal

@@ -1,4 +1,4 @@
-use Rattle.std.proofs.Common.{arith}
+use Rattle.gj_number.proofs.Common.{arith}
 use Rattle.gj_number.proofs.Shorts.SixteenLanes.{leading_none, leading_some, leading_le}
 use Rattle.gj_number.proofs.lanes.leading_digits.Goals as goal
 

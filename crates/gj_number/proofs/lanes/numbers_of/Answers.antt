@@ -1,4 +1,4 @@
-use Rattle.std.proofs.Common.{ap, ◌∙◌, ◌++◌, get_or}
+use Rattle.gj_number.proofs.Common.{ap, get_or, ◌++◌, ◌∙◌}
 use Rattle.gj_number.specs.Internal.DigitLanes.{by_fours}
 use Rattle.gj_number.proofs.Shorts.SixteenLanes.{joined_at, eights_small, fours_joined, second_joined}
 use Rattle.gj_number.proofs.lanes.numbers_of.Goals as goal

@@ -1,7 +1,6 @@
-use Rattle.std.proofs.Common.{◌<◌, List, ℕ, get_or, subst, sym, ap, ◌∙◌, arith}
+use Rattle.gj_number.proofs.Common.{List, ap, arith, get_or, subst, sym, with_value, ℕ, ◌<◌, ◌∙◌}
 use Rattle.std.specs.Simd.Lanes.{Each1}
 use Rattle.std.specs.List.{fold}
-use Rattle.gj_number.specs.Internal.DigitLanes.{with_value}
 use Rattle.gj_number.proofs.Shorts.PointedNumbers.{before_ends, before_found, both_fit, pointed_small, pointed_spell, after_ends, after_some}
 use Rattle.gj_number.proofs.lanes.pointed_prefix.Goals as goal
 use Rattle.gj_number.proofs.lanes.pointed_prefix.Goals.{then-natural-eq0-via-then-natural-eq0, then-natural-eq0-via-else-natural-eq0+then-natural-gt3}

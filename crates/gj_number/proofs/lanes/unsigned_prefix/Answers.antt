@@ -1,8 +1,7 @@
 -- The runs are found by the bits of the lanes that are no digits.
-use Rattle.std.proofs.Common.{◌<◌, List, ℕ, subst, sym, ◌∙◌, ap, arith}
+use Rattle.gj_number.proofs.Common.{List, ap, arith, subst, sym, with_value, ℕ, ◌<◌, ◌∙◌}
 use Rattle.std.specs.Simd.Lanes.{Each1}
 use Rattle.std.specs.List.{fold}
-use Rattle.gj_number.specs.Internal.DigitLanes.{with_value}
 use Rattle.gj_number.proofs.Shorts.SixteenLanes.{natural_few, natural_ends, natural_small, natural_spell, both_few, both_small, both_spell}
 use Rattle.gj_number.proofs.lanes.unsigned_prefix.Goals as goal
 

@@ -1,4 +1,4 @@
-use Rattle.std.proofs.Common.{◌+◌, ◌-◌, ◌*◌, arith}
+use Rattle.gj_number.proofs.Common.{arith, ◌*◌, ◌+◌, ◌-◌}
 use Rattle.gj_number.proofs.Shorts.SixteenLanes.{pointed_ok, pointed_is}
 use Rattle.gj_number.proofs.lanes.without_point.Goals as goal
 

@@ -1,5 +1,5 @@
 -- Vector by vector.
-use Rattle.std.proofs.Common.{arith}
+use Rattle.gj_number.proofs.Common.{arith}
 use Rattle.gj_number.proofs.Literals.RunsOfZeros.{zeros_on}
 use Rattle.gj_number.proofs.lanes.zero_run.Goals as goal
 

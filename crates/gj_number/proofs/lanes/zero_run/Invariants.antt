@@ -1,6 +1,5 @@
-use Rattle.std.proofs.Common.{◌≡◌, ◌-◌, ◌≤◌, length, take, fold, All}
-use Rattle.gj_number.specs.Bytes.{IsDigit}
-use Rattle.gj_number.specs.Value.{with_digit}
+use Rattle.gj_number.proofs.Common.{IsDigit, length, take, with_digit, ◌-◌, ◌≡◌, ◌≤◌}
+use Rattle.std.proofs.Common.{fold, All}
 use Rattle.gj_number.proofs.lanes.zero_run.Given as goal
 
 -- the bytes before this one are zeros

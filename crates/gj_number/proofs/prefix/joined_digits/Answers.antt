@@ -1,4 +1,4 @@
-use Rattle.std.proofs.Common.{◌≢◌, ℕ, ◌+◌, ◌*◌, ◌%◌, ◌^◌, ◌<◌, subst, sym, arith}
+use Rattle.gj_number.proofs.Common.{arith, subst, sym, ℕ, ◌%◌, ◌*◌, ◌+◌, ◌<◌, ◌^◌, ◌≢◌}
 use Rattle.gj_number.proofs.Literals.DigitBounds.{scaled_below}
 use Rattle.gj_number.proofs.Shorts.LongNumbers.{zeros_few, both_are, both_normal, both_below}
 use Rattle.gj_number.proofs.prefix.joined_digits.Goals as goal

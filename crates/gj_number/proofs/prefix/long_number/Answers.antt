@@ -1,12 +1,6 @@
-use Rattle.std.proofs.Common.{◌+◌, ◌<◌, ◌≤◌, ◌^◌, List, ℕ, drop, subst, sym, arith}
-use Rattle.std.proofs.lemmas.Int.{ints}
-use Rattle.std.proofs.lemmas.List.{take_rest}
+use Rattle.gj_number.proofs.Common.{Exact, List, SpellsOn, SpellsUnsigned, StartsWithNumber, arith, bool_byte, drop, ints, subst, sym, take_rest}
+use Rattle.gj_number.proofs.Common.{with_value, ℕ, ◌+◌, ◌<◌, ◌^◌, ◌≤◌}
 use Rattle.std.specs.List.{fold}
-use mir.Val.{bool_byte}
-use Rattle.gj_number.specs.Exact.{Exact}
-use Rattle.gj_number.specs.Short.{StartsWithNumber}
-use Rattle.gj_number.specs.Internal.DigitLanes.{with_value}
-use Rattle.gj_number.specs.Internal.DigitRuns.{SpellsOn, SpellsUnsigned}
 use Rattle.gj_number.proofs.Shorts.NumberPrefixes.{sign_at, sign_length, one_of, below_power}
 use Rattle.gj_number.proofs.Shorts.LongNumbers.{upper_small, long_plain, long_start}
 use Rattle.gj_number.proofs.prefix.long_number.Goals as goal

@@ -1,4 +1,4 @@
-use Rattle.std.proofs.Common.{sym, arith}
+use Rattle.gj_number.proofs.Common.{arith, sym}
 use Rattle.gj_number.proofs.Shorts.CutNumbers.{raised_above, raised_small, limited_below}
 use Rattle.gj_number.proofs.short.raised.Goals as goal
 

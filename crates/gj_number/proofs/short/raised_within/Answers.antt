@@ -1,4 +1,4 @@
-use Rattle.std.proofs.Common.{◌*◌, ◌^◌, ◌-◌, sym, arith}
+use Rattle.gj_number.proofs.Common.{arith, sym, ◌*◌, ◌-◌, ◌^◌}
 use Rattle.gj_number.proofs.Shorts.CutNumbers.{limited_at, limited_past, raised_at, raised_past}
 use Rattle.gj_number.proofs.short.raised_within.Goals as goal
 

@@ -1,4 +1,4 @@
-use Rattle.std.proofs.Common.{◌≡◌, ◌-◌, ◌*◌, ◌^◌, ◌<◌}
+use Rattle.gj_number.proofs.Common.{◌*◌, ◌-◌, ◌<◌, ◌^◌, ◌≡◌}
 use Rattle.gj_number.proofs.short.without_zeros.Given as goal
 
 -- so many zeros are apart

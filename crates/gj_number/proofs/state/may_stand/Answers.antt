@@ -1,4 +1,4 @@
-use Rattle.std.proofs.Common.{◌∙◌}
+use Rattle.gj_number.proofs.Common.{◌∙◌}
 use Rattle.gj_number.proofs.Grammar.ByteClasses.{number_byte}
 use Rattle.gj_number.proofs.state.may_stand.Goals as goal
 

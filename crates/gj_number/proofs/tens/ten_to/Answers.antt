@@ -1,4 +1,4 @@
-use Rattle.std.proofs.Common.{◌∙◌, ◌^◌, ap, arith}
+use Rattle.gj_number.proofs.Common.{ap, arith, ◌^◌, ◌∙◌}
 use Rattle.gj_number.proofs.Shorts.TensTable.{power_at}
 use Rattle.gj_number.proofs.tens.ten_to.Goals as goal
 

@@ -1,5 +1,4 @@
-use Rattle.std.proofs.Common.{◌≡◌, ◌+◌, ◌-◌, ◌^◌, ap, sym, ◌∙◌, arith}
-use Rattle.std.proofs.lemmas.Nat.{pow-add}
+use Rattle.gj_number.proofs.Common.{ap, arith, pow-add, sym, ◌+◌, ◌-◌, ◌^◌, ◌∙◌, ◌≡◌}
 use Rattle.gj_number.proofs.tens.wide_ten_to.Goals as goal
 
 pub returns-else-n-le19 : goal.returns-else-n-le19

@@ -1,4 +1,4 @@
-use Rattle.std.proofs.Common.{arith}
+use Rattle.gj_rules.proofs.Common.{arith}
 use Rattle.gj_rules.proofs.Texts.RoleDepths.{judged_open, judged_half}
 use Rattle.gj_rules.proofs.laws.judged_levels.Goals as goal
 

@@ -1,8 +1,8 @@
 -- A refusal stands at a byte or at the end; the places of a broken rule and of a warning are those of the text.
-use Rattle.std.proofs.Common.{ℕ, ◌≤◌, List, length, arith}
-use Rattle.gj_json.specs.Limits.{Allowed}
+use Rattle.gj_rules.proofs.Common.{Allowed, Judgement, List, arith, broken, length, valid, ◌≤◌}
+use Rattle.std.proofs.Common.{ℕ}
 use Rattle.gj_rules.specs.Places.{IsPlaceIn}
-use Rattle.gj_rules.specs.Verdict.{Judgement, valid, broken, refused, IsJudgement}
+use Rattle.gj_rules.specs.Verdict.{refused, IsJudgement}
 use Rattle.gj_rules.proofs.Texts.PlacesOfFaults.{least_within}
 use Rattle.gj_rules.proofs.Texts.PlacesOfWarnings.{warnings_within}
 use Rattle.gj_rules.proofs.laws.places_within.Goals as goal

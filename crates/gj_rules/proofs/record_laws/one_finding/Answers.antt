@@ -1,5 +1,5 @@
 -- By the one verdict of each record.
-use Rattle.gj_rules.specs.Records.{entries_of}
+use Rattle.gj_rules.proofs.Common.{entries_of}
 use Rattle.gj_rules.proofs.Parts.OneFinding.{some_findings, one_findings}
 use Rattle.gj_rules.proofs.record_laws.one_finding.Goals as goal
 

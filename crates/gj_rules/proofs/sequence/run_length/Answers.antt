@@ -1,7 +1,8 @@
 -- The separator of a sequence is the byte that is looked for.
-use Rattle.std.proofs.Common.{◌≡◌, ℕ, ◌||◌, List, [], ◌∷◌, take, refl, ap, sym, ◌∙◌}
-use Rattle.gj_rules.specs.Internal.BytesBefore.{has_byte, begins_with}
-use Rattle.gj_rules.specs.Sequence.{separator, is_separator, has_separator, begins_with_separator}
+use Rattle.gj_rules.proofs.Common.{List, ap, begins_with_separator, has_byte, has_separator, is_separator, refl, separator, sym, take, [], ◌||◌, ◌∙◌}
+use Rattle.gj_rules.proofs.Common.{◌∷◌}
+use Rattle.std.proofs.Common.{◌≡◌, ℕ}
+use Rattle.gj_rules.specs.Internal.BytesBefore.{begins_with}
 use Rattle.gj_rules.proofs.sequence.run_length.Goals as goal
 
 same_test : (bytes : List ℕ) → has_byte separator bytes ≡ has_separator bytes

@@ -1,5 +1,6 @@
 -- The verdict of the events of the whole text.
-use Rattle.std.proofs.Common.{◌≡◌, [], ◌∙◌}
+use Rattle.gj_rules.proofs.Common.{[], ◌∙◌}
+use Rattle.std.proofs.Common.{◌≡◌}
 use Rattle.gj_json.specs.Reader.{limits_of}
 use Rattle.gj_rules.proofs.Texts.LinterEvents
 use Rattle.gj_rules.specs.Rules.{StandsFor as RulesStandFor}

@@ -1,6 +1,6 @@
 -- A refusal under a few levels that is not for the depth is that under the limits.
-use Rattle.std.proofs.Common.{◌≡◌, ◌≤◌, ap, ◌∙◌, arith}
-use Rattle.gj_json.specs.Limits.{Allowed}
+use Rattle.gj_rules.proofs.Common.{Allowed, ap, arith, ◌∙◌, ◌≤◌}
+use Rattle.std.proofs.Common.{◌≡◌}
 use Rattle.gj_rules.proofs.Texts.WiderLimits.{refused}
 use Rattle.gj_rules.proofs.text.small_verdict.Goals as goal
 

@@ -1,20 +1,7 @@
 -- One verdict for each input, by the laws of texts and of refusals.
-use Rattle.std.proofs.Common.{◌≡◌, ℕ, List, [], inl, inr, Some, None, refl, sym, ap, ◌∙◌}
-use Rattle.gj_json.specs.declared.fault.JsonFault.{JsonFault}
-use Rattle.gj_json.specs.Limits.{Allowed}
-use Rattle.gj_json.specs.Tree.{Text}
-use Rattle.gj_json.specs.Text.{IsText}
-use Rattle.gj_json.specs.Refusal.{IsRefusal, IsAdmitted}
-use Rattle.gj_coords.specs.declared.fault.Fault.{Fault}
-use Rattle.gj_coords.specs.Fault.{least}
-use Rattle.gj_coords.specs.declared.warnings.Warnings.{Warnings}
-use Rattle.gj_coords.specs.Internal.KeptWarnings.{warnings_of}
-use Rattle.gj_rules.specs.TextWarnings.{text_warnings}
-use Rattle.gj_rules.specs.declared.verdict.Verdict.{Verdict}
-use Rattle.gj_rules.specs.declared.verdict.Verdict.TheVariants.{Valid, Broken, NotJson}
-use Rattle.gj_rules.specs.Faults.{text_faults}
-use Rattle.gj_rules.specs.Verdict.{IsVerdict}
-use Rattle.gj_rules.specs.Internal.VerdictParts.{verdict_of}
+use Rattle.gj_rules.proofs.Common.{Allowed, Broken, Fault, IsAdmitted, IsRefusal, IsText, IsVerdict, JsonFault, List, NotJson, Text, Valid, Verdict}
+use Rattle.gj_rules.proofs.Common.{Warnings, ap, inl, inr, least, refl, sym, text_faults, text_warnings, verdict_of, warnings_of, [], ◌∙◌}
+use Rattle.std.proofs.Common.{◌≡◌, ℕ, Some, None}
 use Rattle.gj_rules.specs.Internal.JudgementLaws.{said, says}
 use Rattle.gj_rules.proofs.Texts.LinterEvents.{text_verdict}
 use Rattle.gj_rules.proofs.verdict.one_verdict.Goals as goal

@@ -1,6 +1,5 @@
-use Rattle.std.proofs.Common.{arith, ◌≤◌, subst}
+use Rattle.gj_split.proofs.Common.{Appends, arith, subst, ◌≤◌}
 use Rattle.std.proofs.KnownBytes.{Appends-trans}
-use Rattle.std.specs.Io.KnownBytes.{Appends}
 use Rattle.gj_split.proofs.ReadParts.{part_read, more_between}
 use Rattle.gj_split.proofs.copy.copy_between.Goals as goal
 

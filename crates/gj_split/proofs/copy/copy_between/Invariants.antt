@@ -1,6 +1,5 @@
-use Rattle.std.proofs.Common.{◌-◌, ◌≡◌, ℕ, List, Some, max, ◌≤◌}
-use Rattle.std.specs.Io.KnownBytes.{Appends}
-use Rattle.gj_split.specs.Split.{bytes_between}
+use Rattle.gj_split.proofs.Common.{Appends, List, Some, bytes_between, ℕ, ◌-◌, ◌≡◌, ◌≤◌}
+use Rattle.std.proofs.Common.{max}
 use Rattle.gj_split.proofs.copy.copy_between.Given as goal
 
 abbrev pub invariant-loop-at : goal.invariant-loop-at

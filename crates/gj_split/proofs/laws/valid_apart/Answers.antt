@@ -1,6 +1,6 @@
+use Rattle.gj_split.proofs.Common.{split_of}
 use Rattle.gj_split.proofs.TextsAlone.{valid_alone, valid_by_itself}
 use Rattle.gj_split.proofs.SequencesOfTexts.{sound_lines, valid_sequence}
-use Rattle.gj_split.specs.Split.{split_of}
 use Rattle.gj_split.proofs.laws.valid_apart.Goals as goal
 
 pub returns-clause-alone : goal.returns-clause-alone

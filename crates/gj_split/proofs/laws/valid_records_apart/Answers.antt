@@ -1,4 +1,4 @@
-use Rattle.gj_split.specs.RecordSplit.{split_records}
+use Rattle.gj_split.proofs.Common.{split_records}
 use Rattle.gj_split.proofs.RecordsApart.{sound_records}
 use Rattle.gj_split.proofs.SequencesOfTexts.{valid_sequence}
 use Rattle.gj_split.proofs.laws.valid_records_apart.Goals as goal

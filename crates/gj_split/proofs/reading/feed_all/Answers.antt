@@ -1,10 +1,8 @@
-use Rattle.std.proofs.Common.{rules, arith, ◌≡◌, ◌+◌, ◌≤◌, ◌<◌, ℕ, List, ◌++◌, length, take, drop, refl, sym, ap, subst, ◌∙◌, drop_of_length-le}
-use Rattle.std.proofs.lemmas.List.{take-append-drop}
-use Rattle.gj_json.specs.Limits.{Allowed}
-use Rattle.gj_json.specs.Refusal.{IsRefusal}
+use Rattle.gj_split.proofs.Common.{Allowed, IsRefusal, List, StandsAt, ap, arith, drop, length, refl, rules, subst, sym, take, take-append-drop, ℕ}
+use Rattle.gj_split.proofs.Common.{◌++◌, ◌+◌, ◌<◌, ◌∙◌, ◌≡◌, ◌≤◌}
+use Rattle.std.proofs.Common.{drop_of_length-le}
 use Rattle.gj_rules.specs.FeatureLinter.{StandsFor, limits_of}
 use Rattle.gj_split.specs.Internal.HeldRecords.{IsEndAfter}
-use Rattle.gj_split.specs.Ranges.{StandsAt}
 use Rattle.gj_split.proofs.ReadParts.{part_read, ended_there, fed_more, within_more}
 use Rattle.gj_split.proofs.reading.feed_all.Goals as goal
 

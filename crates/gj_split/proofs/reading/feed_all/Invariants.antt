@@ -1,4 +1,4 @@
-use Rattle.std.proofs.Common.{◌≡◌, ◌≤◌, ℕ, List, [], length, take, Some, None}
+use Rattle.gj_split.proofs.Common.{List, None, Some, length, take, ℕ, [], ◌≡◌, ◌≤◌}
 use Rattle.gj_rules.specs.FeatureLinter.{StandsFor, limits_of, refusal_of}
 use Rattle.gj_split.proofs.reading.feed_all.Given as goal
 

@@ -1,6 +1,4 @@
-use Rattle.std.proofs.Common.{◌≡◌}
-use Rattle.gj_rules.specs.declared.verdict.Verdict.{Verdict}
-use Rattle.gj_split.specs.Split.{split_of}
+use Rattle.gj_split.proofs.Common.{Verdict, split_of, ◌≡◌}
 use Rattle.gj_split.proofs.KeptRecords.{held_kept}
 use Rattle.gj_split.proofs.Outcomes.{ok_gives, ok_on_both}
 use Rattle.gj_split.proofs.ToldFeatures.{held_apart}

@@ -1,9 +1,5 @@
-use Rattle.std.proofs.Common.{length, refl, sym, subst, ◌∙◌}
-use Rattle.std.proofs.lemmas.Option.{same_Some}
+use Rattle.gj_split.proofs.Common.{Allowed, IsAdmitted, IsValidSequence, length, refl, same_Some, split_of, subst, sym, ◌∙◌}
 use Rattle.std.proofs.lemmas.Result.{IfOk-from_err}
-use Rattle.gj_json.specs.Limits.{Allowed}
-use Rattle.gj_json.specs.Refusal.{IsAdmitted}
-use Rattle.gj_split.specs.Split.{split_of, IsValidSequence}
 use Rattle.gj_split.proofs.Outcomes.{ok_both, on_map}
 use Rattle.gj_split.proofs.WholeReadings.{verdict_read, whole_read}
 use Rattle.gj_split.proofs.reading.split.Goals as goal

@@ -1,10 +1,10 @@
-use Rattle.std.proofs.Common.{rules, arith, ◌≡◌, ◌+◌, ◌≤◌, ◌<◌, ℕ, List, [], ◌++◌, length, take, drop, refl, sym, ap, subst, ◌∙◌, IsTrue}
-use Rattle.std.proofs.lemmas.List.{take-append-drop, take_all}
+use Rattle.gj_split.proofs.Common.{List, Record, StandsAt, ap, arith, drop, length, refl, rules, subst, sym, take, take-append-drop, ℕ, [], ◌++◌, ◌+◌}
+use Rattle.gj_split.proofs.Common.{◌<◌, ◌∙◌, ◌≡◌, ◌≤◌}
+use Rattle.std.proofs.Common.{IsTrue}
+use Rattle.std.proofs.lemmas.List.{take_all}
 use Rattle.gj_rules.specs.declared.records.Records.{Records}
-use Rattle.gj_rules.specs.declared.records.record.Record.{Record}
 use Rattle.gj_rules.specs.RecordsStand.{StandsFor, HaveTold}
 use Rattle.gj_split.specs.Internal.HeldOfRecords.{AreRead}
-use Rattle.gj_split.specs.Ranges.{StandsAt}
 use Rattle.gj_split.proofs.ReadParts.{part_read, ended_there, fed_more, within_more}
 use Rattle.gj_split.proofs.records.feed_records.Goals as goal
 

@@ -1,4 +1,4 @@
-use Rattle.std.proofs.Common.{◌≡◌, ◌≤◌, ℕ, List, [], length, take, Some}
+use Rattle.gj_split.proofs.Common.{List, Some, length, take, ℕ, [], ◌≡◌, ◌≤◌}
 use Rattle.gj_rules.specs.RecordsStand.{StandsFor, framing_of, limits_of}
 use Rattle.gj_split.specs.Internal.HeldOfRecords.{AreRead}
 use Rattle.gj_split.proofs.records.feed_records.Given as goal

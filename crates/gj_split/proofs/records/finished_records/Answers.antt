@@ -1,7 +1,4 @@
-use Rattle.std.proofs.Common.{◌++◌, [], List, subst}
-use Rattle.gj_rules.specs.declared.records.record.Record.{Record}
-use Rattle.gj_split.specs.Holding.{AreHeld}
-use Rattle.gj_split.specs.RecordSplit.{split_records}
+use Rattle.gj_split.proofs.Common.{AreHeld, List, Record, split_records, subst, [], ◌++◌}
 use Rattle.gj_split.proofs.HeldOfRecords.{held_records}
 use Rattle.gj_split.proofs.KeptRecords.{held_kept}
 use Rattle.gj_split.proofs.Outcomes.{ok_gives, ok_on_both}

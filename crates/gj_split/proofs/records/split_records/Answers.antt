@@ -1,11 +1,7 @@
-use Rattle.std.proofs.Common.{◌<◌, ◌↔◌, length, IsTrue, refl, sym, subst, ◌∙◌}
-use Rattle.std.proofs.lemmas.Option.{same_Some}
-use Rattle.gj_json.specs.Limits.{Allowed}
-use Rattle.gj_rules.specs.declared.records.framing.Framing.{Framing}
+use Rattle.gj_split.proofs.Common.{Allowed, Framing, IsValidSequence, length, refl, same_Some, split_records, subst, sym, ◌<◌, ◌∙◌}
+use Rattle.std.proofs.Common.{◌↔◌, IsTrue}
 use Rattle.gj_rules.specs.RecordFindings.{AreAllFindings, IsWholeVerdict}
 use Rattle.gj_rules.specs.RecordsStand.{framing_of, limits_of}
-use Rattle.gj_split.specs.RecordSplit.{split_records}
-use Rattle.gj_split.specs.Split.{IsValidSequence}
 use Rattle.gj_split.proofs.Outcomes.{if_map, on_map}
 use Rattle.gj_split.proofs.records.split_records.Goals as goal
 

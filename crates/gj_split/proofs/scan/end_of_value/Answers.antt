@@ -1,6 +1,4 @@
-use Rattle.std.proofs.Common.{arith, ◌≡◌, ◌+◌, true, length, take, drop, sym, ap, ◌∙◌}
-use Rattle.gj_split.specs.Internal.ScannedValues.{scan_length, is_running}
-use Rattle.gj_split.specs.declared.scan.Scan.{Scan}
+use Rattle.gj_split.proofs.Common.{Scan, ap, arith, drop, is_running, length, scan_length, sym, take, true, ◌+◌, ◌∙◌, ◌≡◌}
 use Rattle.gj_split.proofs.ReadParts.{part_read}
 use Rattle.gj_split.proofs.ScannedValues.{running_rest, ended_rest, not_ended, length_on}
 use Rattle.gj_split.proofs.scan.end_of_value.Goals as goal

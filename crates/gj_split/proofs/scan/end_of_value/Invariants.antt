@@ -1,6 +1,4 @@
-use Rattle.std.proofs.Common.{◌≡◌, ℕ, ◌+◌, ◌≤◌, List, drop, Some, true}
-use Rattle.gj_split.specs.Internal.ScannedValues.{scan_length, is_running}
-use Rattle.gj_split.specs.declared.scan.Scan.{Scan}
+use Rattle.gj_split.proofs.Common.{List, Scan, Some, drop, is_running, scan_length, true, ℕ, ◌+◌, ◌≡◌, ◌≤◌}
 use Rattle.gj_split.proofs.scan.end_of_value.Given as goal
 
 abbrev pub invariant-loop-turn : goal.invariant-loop-turn

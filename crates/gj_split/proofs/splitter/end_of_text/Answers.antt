@@ -1,7 +1,7 @@
-use Rattle.std.proofs.Common.{rules, arith, ◌≡◌, ◌+◌, ◌-◌, ◌≤◌, length, get_or, true, false, nat_eq, if◌then◌else◌, sym, ap, ◌∙◌}
-use Rattle.std.proofs.lemmas.Bool.{eq-eqb, ne_eqb}
-use Rattle.gj_json.specs.Bytes.{line_feed}
-use Rattle.gj_split.specs.Split.{bytes_between}
+use Rattle.gj_split.proofs.Common.{ap, arith, bytes_between, false, if◌then◌else◌, length, line_feed, ne_eqb, rules, sym, true, ◌+◌, ◌-◌, ◌∙◌, ◌≡◌}
+use Rattle.gj_split.proofs.Common.{◌≤◌}
+use Rattle.std.proofs.Common.{get_or, nat_eq}
+use Rattle.std.proofs.lemmas.Bool.{eq-eqb}
 use Rattle.gj_split.proofs.RecordTexts.{read_text}
 use Rattle.gj_split.proofs.splitter.end_of_text.Goals as goal
 

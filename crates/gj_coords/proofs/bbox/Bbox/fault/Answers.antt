@@ -1,4 +1,4 @@
-use Rattle.std.proofs.Common.{◌∙◌, ap}
+use Rattle.gj_coords.proofs.Common.{ap, ◌∙◌}
 use Rattle.gj_coords.proofs.Readers.BboxLaws.{box_fault}
 use Rattle.gj_coords.proofs.bbox.Bbox.fault.Goals as goal
 

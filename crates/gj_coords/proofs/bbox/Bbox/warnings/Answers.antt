@@ -1,5 +1,4 @@
-use Rattle.std.proofs.Common.{sym, ◌∙◌, ap}
-use Rattle.gj_coords.specs.declared.kind.Kind.TheVariants.{W8}
+use Rattle.gj_coords.proofs.Common.{W8, ap, sym, ◌∙◌}
 use Rattle.gj_coords.specs.Internal.KeptWarnings.{added}
 use Rattle.gj_coords.proofs.Readers.BboxLaws.{box_warned, some_warned, none_warned}
 use Rattle.gj_coords.proofs.bbox.Bbox.warnings.Goals as goal

@@ -1,4 +1,4 @@
-use Rattle.std.proofs.Common.{arith}
+use Rattle.gj_coords.proofs.Common.{arith}
 use Rattle.gj_coords.proofs.Walks.AnswersOfWalks.{steady_on, steady_goes_on}
 use Rattle.gj_coords.proofs.coordinates.Coordinates.ends_by_flat.Goals as goal
 

@@ -1,4 +1,4 @@
-use Rattle.std.proofs.Common.{◌∙◌}
+use Rattle.gj_coords.proofs.Common.{◌∙◌}
 use Rattle.gj_coords.proofs.Walks.AnswersOfWalks.{walk_least, whole_least}
 use Rattle.gj_coords.proofs.coordinates.Coordinates.fault.Goals as goal
 

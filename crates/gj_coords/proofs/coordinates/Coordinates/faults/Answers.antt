@@ -1,4 +1,4 @@
-use Rattle.std.proofs.Common.{◌∙◌}
+use Rattle.gj_coords.proofs.Common.{◌∙◌}
 use Rattle.gj_coords.proofs.Walks.AnswersOfWalks.{walk_faults, whole_faults}
 use Rattle.gj_coords.proofs.coordinates.Coordinates.faults.Goals as goal
 

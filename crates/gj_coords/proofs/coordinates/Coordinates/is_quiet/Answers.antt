@@ -1,4 +1,4 @@
-use Rattle.std.proofs.Common.{sym, ◌∙◌}
+use Rattle.gj_coords.proofs.Common.{sym, ◌∙◌}
 use Rattle.gj_coords.proofs.Walks.AnswersOfWalks.{walk_quiet, whole_quiet}
 use Rattle.gj_coords.proofs.coordinates.Coordinates.is_quiet.Goals as goal
 

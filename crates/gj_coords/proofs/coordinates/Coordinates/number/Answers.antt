@@ -1,5 +1,4 @@
-use Rattle.gj_json.specs.declared.event.What.{What}
-use Rattle.gj_coords.specs.Internal.SentEvents.{event_at}
+use Rattle.gj_coords.proofs.Common.{What, event_at}
 use Rattle.gj_coords.proofs.Walks.AnswersOfWalks.{stands_more}
 use Rattle.gj_coords.proofs.coordinates.Coordinates.number.Goals as goal
 

@@ -1,4 +1,5 @@
-use Rattle.std.proofs.Common.{ap, refl, arith}
+use Rattle.gj_coords.proofs.Common.{ap, arith}
+use Rattle.std.proofs.Common.{refl}
 use Rattle.gj_coords.specs.Internal.WalkProgress.{progress}
 use Rattle.gj_coords.proofs.Walks.AnswersOfWalks.{holds_more, flat_read}
 use Rattle.gj_coords.proofs.Walks.FlatLaws.{flat_value}

@@ -1,6 +1,6 @@
 -- The arrays in turn.
-use Rattle.std.proofs.Common.{◌<◌, arith}
-use Rattle.std.proofs.lemmas.Bool.Decides.{nat_tests}
+use Rattle.gj_coords.proofs.Common.{arith, nat_tests}
+use Rattle.std.proofs.Common.{◌<◌}
 use Rattle.gj_coords.specs.Internal.WalkProgress.{never}
 use Rattle.gj_coords.proofs.Walks.AnswersOfWalks.{steady_all, none_end}
 use Rattle.gj_coords.proofs.Walks.CutPositions.{all_after}

@@ -1,9 +1,6 @@
-use Rattle.std.proofs.Common.{◌∙◌, ap}
+use Rattle.gj_coords.proofs.Common.{all_in, ap, taken_is, warned_as, ◌∙◌}
 use Rattle.gj_coords.specs.Internal.KeptWarnings.{joined}
-use Rattle.gj_coords.specs.Internal.LevelGather.{warned_as}
-use Rattle.gj_coords.specs.Internal.GatheredWarnings.{all_in}
 use Rattle.gj_coords.specs.Internal.WalkProgress.{answer_of}
-use Rattle.gj_coords.specs.Internal.GatheredWarningLaws.{taken_is}
 use Rattle.gj_coords.proofs.Walks.AnswersOfWalks.{walk_kept, whole_kept}
 use Rattle.gj_coords.proofs.coordinates.Coordinates.warn.Goals as goal
 

@@ -1,5 +1,4 @@
-use Rattle.std.proofs.Common.{◌∙◌, ap}
-use Rattle.gj_coords.specs.Internal.GatheredWarnings.{all_in}
+use Rattle.gj_coords.proofs.Common.{all_in, ap, ◌∙◌}
 use Rattle.gj_coords.proofs.Walks.AnswersOfWalks.{walk_kept, whole_kept}
 use Rattle.gj_coords.proofs.Lists.KeptOfShortValues.{kept_is, countable}
 use Rattle.gj_coords.proofs.coordinates.Coordinates.warnings.Goals as goal

@@ -1,6 +1,5 @@
-use Rattle.std.specs.Int.{w32, w64}
-use Rattle.std.proofs.Common.{◌≡◌, ◌∙◌, sym, ap, is_none, FitsSigned, of_z, rules}
-use Rattle.std.proofs.lemmas.Int.{to_z-of_z}
+use Rattle.gj_coords.proofs.Common.{FitsSigned, ap, of_z, rules, sym, to_z-of_z, w32, w64, ◌∙◌}
+use Rattle.std.proofs.Common.{◌≡◌, is_none}
 use Rattle.gj_coords.proofs.Walks.PreciseNumbers.{counted_more}
 use Rattle.gj_coords.proofs.cuts.AddedCuts.adds.Goals as goal
 

@@ -1,6 +1,6 @@
-use Rattle.std.proofs.Common.{zero, suc, ◌≡◌, ◌&&◌, ℕ, eqb, ap, arith}
+use Rattle.gj_coords.proofs.Common.{ap, arith, nat_tests, ◌&&◌}
+use Rattle.std.proofs.Common.{zero, suc, ◌≡◌, ℕ, eqb}
 use lib.Bits.{bit_or}
-use Rattle.std.proofs.lemmas.Bool.Decides.{nat_tests}
 use Rattle.std.proofs.lemmas.Nat.{le_or_l}
 use Rattle.std.specs.Int.Bits.{or_zero_l}
 use Rattle.gj_coords.proofs.kind_warnings.KindWarnings.is_nothing.Goals as goal

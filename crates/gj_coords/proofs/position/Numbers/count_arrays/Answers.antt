@@ -1,7 +1,6 @@
 -- One array more, and the end of the count.
-use Rattle.std.proofs.Common.{◌∙◌, ◌<◌, ◌-◌, arith, subst, sym, ap}
-use Rattle.gj_coords.specs.Internal.PositionGather.{arrays_counted}
-use Rattle.gj_coords.specs.Internal.SteadyWalk.{IsCounted}
+use Rattle.gj_coords.proofs.Common.{IsCounted, ap, arith, arrays_counted, subst, sym, ◌∙◌}
+use Rattle.std.proofs.Common.{◌<◌, ◌-◌}
 use Rattle.gj_coords.proofs.Walks.SteadyLaws.{counted_still, counted_one, counted_enough}
 use Rattle.gj_coords.proofs.position.Numbers.count_arrays.Goals as goal
 

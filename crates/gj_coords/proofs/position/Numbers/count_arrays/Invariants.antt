@@ -1,6 +1,5 @@
+use Rattle.gj_coords.proofs.Common.{IsCounted, arrays_counted}
 use Rattle.std.proofs.Common.{◌≡◌}
-use Rattle.gj_coords.specs.Internal.PositionGather.{arrays_counted}
-use Rattle.gj_coords.specs.Internal.SteadyWalk.{IsCounted}
 use Rattle.gj_coords.proofs.position.Numbers.count_arrays.Given as goal
 
 abbrev pub invariant-loop-self : goal.invariant-loop-self

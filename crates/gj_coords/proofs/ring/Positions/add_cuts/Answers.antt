@@ -1,8 +1,6 @@
 -- One position more, and what is written at the end.
-use Rattle.std.specs.Int.{w64}
-use Rattle.std.proofs.Common.{◌≡◌, ◌∙◌, ◌<◌, length, None, rules, sym, ap, subst, arith, FitsSigned}
-use Rattle.std.proofs.lemmas.Int.{to_z-of_z}
-use Rattle.gj_json.specs.CutPosition.{IsCutPosition}
+use Rattle.gj_coords.proofs.Common.{FitsSigned, IsCutPosition, ap, arith, rules, subst, sym, to_z-of_z, w64, ◌∙◌}
+use Rattle.std.proofs.Common.{◌≡◌, ◌<◌, length, None}
 use Rattle.gj_coords.specs.Internal.CutPositionGather.{IsAdded}
 use Rattle.gj_coords.proofs.Walks.CutPositions.{first_of_both, cuts_more, cuts_written, with_cuts}
 use Rattle.gj_coords.proofs.ring.Positions.add_cuts.Goals as goal

@@ -1,6 +1,5 @@
-use Rattle.std.proofs.Common.{◌≡◌, ◌≤◌, ◌-◌, ◌*◌, List, take}
-use Rattle.gj_json.specs.declared.flat.Flat.{Flat}
-use Rattle.gj_json.specs.CutPosition.{AreCutPositions}
+use Rattle.gj_coords.proofs.Common.{AreCutPositions, Flat, take, ◌*◌}
+use Rattle.std.proofs.Common.{◌≡◌, ◌≤◌, ◌-◌, List}
 use Rattle.gj_coords.specs.Internal.AddedPositions.{positions_added}
 use Rattle.gj_coords.specs.Internal.CutPositionGather.{HasLeast}
 use Rattle.gj_coords.proofs.Walks.CutPositions.{with_cuts}

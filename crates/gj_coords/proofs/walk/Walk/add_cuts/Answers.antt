@@ -1,8 +1,4 @@
-use Rattle.std.proofs.Common.{sym, subst}
-use Rattle.gj_coords.specs.declared.walk.level.Level.{Level}
-use Rattle.gj_coords.specs.declared.walk.outermost.Outermost.{Outermost}
-use Rattle.gj_coords.specs.declared.walk.Depth.TheVariants.{First, Second, Third}
-use Rattle.gj_coords.specs.Internal.AddedPositions.{StayAll}
+use Rattle.gj_coords.proofs.Common.{First, Level, Outermost, Second, StayAll, Third, subst, sym}
 use Rattle.gj_coords.proofs.Walks.SteadySteps.{innermost_at, stay_first, stay_second, stay_third}
 use Rattle.gj_coords.proofs.walk.Walk.add_cuts.Goals as goal
 

@@ -1,4 +1,4 @@
-use Rattle.std.proofs.Common.{sym}
+use Rattle.gj_coords.proofs.Common.{sym}
 use Rattle.gj_coords.proofs.Walks.FlatLaws.{flat_in_first, flat_in_second, flat_in_third, flat_in_fourth}
 use Rattle.gj_coords.proofs.Walks.SteadyLaws.{steady_first, steady_second, steady_third}
 use Rattle.gj_coords.specs.Internal.LevelGather.{line_of}

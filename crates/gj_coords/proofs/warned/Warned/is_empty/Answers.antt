@@ -1,6 +1,5 @@
-use Rattle.std.proofs.Common.{ap, sym}
+use Rattle.gj_coords.proofs.Common.{ap, sym, warnings_in}
 use Rattle.gj_coords.specs.Internal.KeptWarnings.{no_warnings, none_in}
-use Rattle.gj_coords.specs.Internal.GatheredWarnings.{warnings_in}
 use Rattle.gj_coords.proofs.warned.Warned.is_empty.Goals as goal
 
 pub returns-in-None : goal.returns-in-None

@@ -1,6 +1,5 @@
-use Rattle.std.proofs.Common.{ap, sym, ◌∙◌}
+use Rattle.gj_coords.proofs.Common.{all_in, ap, sym, warnings_in, ◌∙◌}
 use Rattle.gj_coords.specs.Internal.KeptWarnings.{joined}
-use Rattle.gj_coords.specs.Internal.GatheredWarnings.{all_in, warnings_in}
 use Rattle.gj_coords.specs.Internal.WarningLaws.{joined_none_last}
 use Rattle.gj_coords.proofs.warned.Warned.take.Goals as goal
 

@@ -1,9 +1,6 @@
-use Rattle.std.proofs.Common.{ap, sym, ◌∙◌, Some}
-use Rattle.gj_coords.specs.declared.warned.Warned.{Warned}
-use Rattle.gj_coords.specs.declared.warnings.Warnings.{Warnings}
+use Rattle.gj_coords.proofs.Common.{Warned, Warnings, ap, joined_none_first, sym, warnings_in, ◌∙◌}
+use Rattle.std.proofs.Common.{Some}
 use Rattle.gj_coords.specs.Internal.KeptWarnings.{joined}
-use Rattle.gj_coords.specs.Internal.GatheredWarnings.{warnings_in}
-use Rattle.gj_coords.specs.Internal.WarningLaws.{joined_none_first}
 use Rattle.gj_coords.proofs.warned.Warned.take_all.Goals as goal
 
 pub returns-in-None : goal.returns-in-None

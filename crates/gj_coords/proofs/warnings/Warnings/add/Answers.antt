@@ -1,4 +1,4 @@
-use Rattle.std.proofs.Common.{◌∙◌}
+use Rattle.gj_coords.proofs.Common.{◌∙◌}
 use Rattle.gj_coords.proofs.Lists.ListsStoodFor.{added_stands}
 use Rattle.gj_coords.proofs.warnings.Warnings.add.Goals as goal
 

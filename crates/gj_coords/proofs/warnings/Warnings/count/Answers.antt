@@ -1,4 +1,4 @@
-use Rattle.std.proofs.Common.{◌∙◌, ap}
+use Rattle.gj_coords.proofs.Common.{ap, ◌∙◌}
 use Rattle.gj_coords.proofs.Lists.ListsStoodFor.{kept_of}
 use Rattle.gj_coords.proofs.warnings.Warnings.count.Goals as goal
 

@@ -1,4 +1,4 @@
-use Rattle.std.proofs.Common.{arith, ◌∙◌}
+use Rattle.gj_coords.proofs.Common.{arith, ◌∙◌}
 use Rattle.gj_coords.proofs.Lists.ListsStoodFor.{first_is, first_is_none, kept_of}
 use Rattle.gj_coords.proofs.warnings.Warnings.first.Goals as goal
 

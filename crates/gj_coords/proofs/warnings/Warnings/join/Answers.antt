@@ -1,4 +1,4 @@
-use Rattle.std.proofs.Common.{◌∙◌}
+use Rattle.gj_coords.proofs.Common.{◌∙◌}
 use Rattle.gj_coords.proofs.Lists.ListsStoodFor.{joined_stands}
 use Rattle.gj_coords.proofs.warnings.Warnings.join.Goals as goal
 

@@ -1,5 +1,5 @@
-use Rattle.std.proofs.Common.{arith, ◌+◌, ◌≤◌, ◌^◌}
-use Rattle.gj_coords.specs.Internal.KeptWarnings.{kept}
+use Rattle.gj_coords.proofs.Common.{arith, kept}
+use Rattle.std.proofs.Common.{◌+◌, ◌≤◌, ◌^◌}
 use Rattle.gj_coords.proofs.Lists.ShiftedWarnings.{within_reach}
 use Rattle.gj_coords.proofs.warnings.Warnings.kept_shifted.Goals as goal
 

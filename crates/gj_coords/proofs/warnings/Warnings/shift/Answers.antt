@@ -1,9 +1,6 @@
-use Rattle.std.proofs.Common.{arith, ap, sym, ◌∙◌, ◌≡◌, ◌==◌, get_or, Option, Some, None, if◌then◌else◌, ℕ}
-use Rattle.gj_coords.specs.declared.kind.Kind.{Kind}
-use Rattle.gj_coords.specs.declared.kind.Kind.TheVariants.{W1}
-use Rattle.gj_coords.specs.declared.kind_warnings.KindWarnings.{KindWarnings}
-use Rattle.gj_coords.specs.Warnings.{kinds, index_of}
-use Rattle.gj_coords.specs.Internal.KeptWarnings.{kept, shifted_noted, shifted, replaced}
+use Rattle.gj_coords.proofs.Common.{Kind, KindWarnings, W1, ap, arith, index_of, kept, kinds, shifted_noted, sym, ◌∙◌}
+use Rattle.std.proofs.Common.{◌≡◌, ◌==◌, get_or, Option, Some, None, if◌then◌else◌, ℕ}
+use Rattle.gj_coords.specs.Internal.KeptWarnings.{shifted, replaced}
 use Rattle.gj_coords.specs.Internal.ByKind.{index_at}
 use Rattle.gj_coords.proofs.Lists.KindsInTurn.{all_turned, not_turned, one_turned}
 use Rattle.gj_coords.proofs.warnings.Warnings.shift.Goals as goal

@@ -1,5 +1,5 @@
+use Rattle.gj_coords.proofs.Common.{kept, shifted_noted}
 use Rattle.std.proofs.Common.{◌≡◌}
-use Rattle.gj_coords.specs.Internal.KeptWarnings.{kept, shifted_noted}
 use Rattle.gj_coords.proofs.Lists.KindsInTurn.{turned}
 use Rattle.gj_coords.proofs.warnings.Warnings.shift.Given as goal
 

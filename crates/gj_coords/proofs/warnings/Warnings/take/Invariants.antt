@@ -1,5 +1,5 @@
+use Rattle.gj_coords.proofs.Common.{joined_noted, kept}
 use Rattle.std.proofs.Common.{◌≡◌}
-use Rattle.gj_coords.specs.Internal.KeptWarnings.{kept, joined_noted}
 use Rattle.gj_coords.proofs.Lists.KindsInTurn.{turned}
 use Rattle.gj_coords.proofs.warnings.Warnings.take.Given as goal
 

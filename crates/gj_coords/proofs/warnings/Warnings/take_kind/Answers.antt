@@ -1,5 +1,6 @@
-use Rattle.std.proofs.Common.{◌≡◌, sym, ◌∙◌, ap, true}
-use Rattle.gj_coords.specs.Internal.KeptWarnings.{kept, joined_noted, replaced, is_nothing}
+use Rattle.gj_coords.proofs.Common.{ap, joined_noted, kept, sym, ◌∙◌}
+use Rattle.std.proofs.Common.{◌≡◌, true}
+use Rattle.gj_coords.specs.Internal.KeptWarnings.{replaced, is_nothing}
 use Rattle.gj_coords.specs.Internal.KeptWarningLaws.{joined_noted_none, nothing_at_zero}
 use Rattle.gj_coords.specs.Internal.WarningLaws.{replaced_by_itself}
 use Rattle.gj_coords.proofs.warnings.Warnings.take_kind.Goals as goal

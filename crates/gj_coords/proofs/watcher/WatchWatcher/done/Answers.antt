@@ -1,4 +1,4 @@
-use Rattle.gj_coords.specs.Internal.SixReaders.{type_answer}
+use Rattle.gj_coords.proofs.Common.{type_answer}
 use Rattle.gj_coords.proofs.Readers.RestsOfValues.{ended_at_end}
 use Rattle.gj_coords.proofs.watcher.WatchWatcher.done.Goals as goal
 

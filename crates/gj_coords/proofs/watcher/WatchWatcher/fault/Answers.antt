@@ -1,5 +1,4 @@
-use Rattle.std.proofs.Common.{ap, ◌∙◌}
-use Rattle.gj_coords.specs.Internal.SixReaders.{type_answer}
+use Rattle.gj_coords.proofs.Common.{ap, type_answer, ◌∙◌}
 use Rattle.gj_coords.proofs.Readers.RestsOfValues.{answer_at_end}
 use Rattle.gj_coords.proofs.Readers.SixFaults.{type_least}
 use Rattle.gj_coords.proofs.watcher.WatchWatcher.fault.Goals as goal

@@ -1,6 +1,4 @@
-use Rattle.std.proofs.Common.{ap, ◌∙◌}
-use Rattle.gj_coords.specs.Internal.GatheredWarnings.{all_in}
-use Rattle.gj_coords.specs.Internal.SixReaders.{type_answer}
+use Rattle.gj_coords.proofs.Common.{all_in, ap, type_answer, ◌∙◌}
 use Rattle.gj_coords.proofs.Lists.KeptOfShortValues.{short, countable}
 use Rattle.gj_coords.proofs.Readers.RestsOfValues.{answer_at_end}
 use Rattle.gj_coords.proofs.Readers.SixWarnings.{type_warned}

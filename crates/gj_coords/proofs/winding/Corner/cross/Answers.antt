@@ -1,8 +1,7 @@
+use Rattle.gj_coords.proofs.Common.{FitsSigned, arith, ints, of_z, pos, rules, to_z-of_z, w32, w64, ℤ, ◌*◌}
 use Rattle.std.specs.Prelude.{◌-ℤ◌, ◌*ℤ◌, negsuc, neg_ℤ}
-use Rattle.std.specs.Int.{w32, w64}
-use Rattle.std.proofs.Common.{◌≡◌, ℕ, suc, refl, to_z, of_z, ◌-◌, ◌*◌, ◌^◌, ◌<◌, ◌≤◌, ◌≤ℤ◌, ◌<ℤ◌, ℤ, pos, FitsSigned, rules, arith}
+use Rattle.std.proofs.Common.{◌≡◌, ℕ, suc, refl, to_z, ◌-◌, ◌^◌, ◌<◌, ◌≤◌, ◌≤ℤ◌, ◌<ℤ◌}
 use Rattle.std.proofs.lemmas.Nat.{mul-le}
-use Rattle.std.proofs.lemmas.Int.{ints, to_z-of_z}
 use Rattle.gj_coords.proofs.winding.Corner.cross.Goals as goal
 
 -- the product of two numbers of 32 bits lies above -2^62, and is 2^62 at most

@@ -1,5 +1,5 @@
-use Rattle.std.proofs.Common.{Some, None, rules, FitsSigned}
-use Rattle.std.specs.Int.{w32}
+use Rattle.gj_coords.proofs.Common.{FitsSigned, rules, w32}
+use Rattle.std.proofs.Common.{Some, None}
 use Rattle.gj_coords.specs.Internal.WindingGather.{IsSmall}
 use Rattle.gj_coords.specs.Internal.WindingLaws.{stands-append}
 use Rattle.gj_coords.proofs.winding.Winding.add.Goals as goal

@@ -1,6 +1,5 @@
-use Rattle.std.proofs.Common.{◌∙◌, FitsSigned, rules}
+use Rattle.gj_coords.proofs.Common.{FitsSigned, rules, to_z-of_z, ◌∙◌}
 use Rattle.std.specs.Int.{w128}
-use Rattle.std.proofs.lemmas.Int.{to_z-of_z}
 use Rattle.gj_coords.specs.Internal.WindingLaws.{judged_turn, stands_turn}
 use Rattle.gj_coords.proofs.winding.Winding.turn.Goals as goal
 

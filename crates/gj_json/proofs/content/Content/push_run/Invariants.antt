@@ -1,5 +1,5 @@
-use Rattle.std.proofs.Common.{ℕ, ◌-◌, ◌≤◌, List, ◌++◌, length, take}
-use Rattle.gj_json.specs.Internal.KeptContent.{Holds}
+use Rattle.gj_json.proofs.Common.{Holds, List, length, ℕ, ◌++◌, ◌-◌, ◌≤◌}
+use Rattle.std.proofs.Common.{take}
 use Rattle.gj_json.proofs.content.Content.push_run.Given as goal
 
 abbrev pub invariant-loop-at : goal.invariant-loop-at

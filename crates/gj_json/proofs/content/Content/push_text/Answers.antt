@@ -1,5 +1,5 @@
 -- A few ASCII bytes are kept; others are no known name and no type.
-use Rattle.std.proofs.Common.{inl, inr, arith}
+use Rattle.gj_json.proofs.Common.{arith, inl, inr}
 use Rattle.gj_json.proofs.Grammar.Utf8Characters.{few_holds, other_text}
 use Rattle.gj_json.proofs.content.Content.push_text.Goals as goal
 use Rattle.gj_json.proofs.content.Content.push_text.Goals.{else-text-le-MOST_LETTERS-via-then-text-le-MOST_LETTERS+else-is_ascii}

@@ -1,5 +1,5 @@
 -- Each level has a bit in one of the words.
-use Rattle.std.proofs.Common.{sym}
+use Rattle.gj_json.proofs.Common.{sym}
 use Rattle.gj_json.proofs.Readers.LevelWords.{length-levels}
 use Rattle.gj_json.proofs.levels.Levels.len.Goals as goal
 

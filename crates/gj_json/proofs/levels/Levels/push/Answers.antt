@@ -1,5 +1,5 @@
 -- The full word goes to the others.
-use Rattle.std.proofs.Common.{rules, arith}
+use Rattle.gj_json.proofs.Common.{arith, rules}
 use Rattle.gj_json.specs.Internal.OpenLevels.{levels_in}
 use Rattle.gj_json.proofs.Readers.LevelWords.{pushed_full}
 use Rattle.gj_json.proofs.levels.Levels.push.Goals as goal

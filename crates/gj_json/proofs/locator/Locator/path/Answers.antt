@@ -1,5 +1,5 @@
 -- The steps that are kept are the path.
-use Rattle.std.proofs.Common.{refl, sym, ◌∙◌}
+use Rattle.gj_json.proofs.Common.{refl, sym, ◌∙◌}
 use Rattle.gj_json.proofs.Paths.LocatorSteps.{path_told, path_taken, path_refused}
 use Rattle.gj_json.proofs.locator.Locator.path.Goals as goal
 

@@ -1,5 +1,5 @@
 -- The step that is added stands innermost.
-use Rattle.std.proofs.Common.{rules}
+use Rattle.gj_json.proofs.Common.{rules}
 use Rattle.gj_json.proofs.Paths.PathSteps.{steps_pushed}
 use Rattle.gj_json.proofs.path.Path.open.Goals as goal
 

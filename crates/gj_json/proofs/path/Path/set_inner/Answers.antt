@@ -1,5 +1,5 @@
 -- The innermost step is replaced.
-use Rattle.std.proofs.Common.{rules}
+use Rattle.gj_json.proofs.Common.{rules}
 use Rattle.gj_json.proofs.Paths.PathSteps.{steps_set}
 use Rattle.gj_json.proofs.path.Path.set_inner.Goals as goal
 

@@ -1,7 +1,6 @@
 -- The steps follow one more event.
-use Rattle.std.proofs.Common.{List, [], ◌∷◌, subst}
-use Rattle.gj_json.specs.declared.path.PathStep.{PathStep}
-use Rattle.gj_json.specs.Internal.PathTrail.{inner_steps, Follows}
+use Rattle.gj_json.proofs.Common.{List, PathStep, inner_steps, subst, [], ◌∷◌}
+use Rattle.gj_json.specs.Internal.PathTrail.{Follows}
 use Rattle.gj_json.proofs.Paths.EventTrails.{follows_on}
 use Rattle.gj_json.proofs.path.PathEventSink.tell.Goals as goal
 

@@ -1,6 +1,5 @@
 -- Whichever events closed the innermost level, the steps around it are left.
-use Rattle.std.proofs.Common.{[]}
-use Rattle.gj_json.specs.Internal.PathTrail.{inner_steps}
+use Rattle.gj_json.proofs.Common.{inner_steps, []}
 use Rattle.gj_json.proofs.Paths.EventTrails.{follows_on}
 use Rattle.gj_json.proofs.Paths.ClosedLevels.{follows_closed}
 use Rattle.gj_json.proofs.path.PathEventSink.tell_closed.Goals as goal

@@ -1,7 +1,5 @@
 -- An array of numbers is one more element.
-use Rattle.std.proofs.Common.{[]}
-use Rattle.gj_json.specs.Flat.{flat_events}
-use Rattle.gj_json.specs.Internal.PathTrail.{inner_steps}
+use Rattle.gj_json.proofs.Common.{flat_events, inner_steps, []}
 use Rattle.gj_json.proofs.Paths.EventTrails.{follows_on, follows_flat}
 use Rattle.gj_json.proofs.path.PathEventSink.tell_flat.Goals as goal
 

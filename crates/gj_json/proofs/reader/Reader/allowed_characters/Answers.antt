@@ -1,6 +1,6 @@
 -- The whole piece, or what is allowed of it.
-use Rattle.std.proofs.Common.{ℕ, ◌-◌, min, take, subst, arith}
-use Rattle.gj_json.specs.Runs.{IsLongestUtf8, plain_run_of}
+use Rattle.gj_json.proofs.Common.{IsLongestUtf8, arith, min, plain_run_of, subst, ℕ, ◌-◌}
+use Rattle.std.proofs.Common.{take}
 use Rattle.gj_json.proofs.Grammar.Utf8Characters.{longest_all, longest_upto}
 use Rattle.gj_json.proofs.reader.Reader.allowed_characters.Goals as goal
 

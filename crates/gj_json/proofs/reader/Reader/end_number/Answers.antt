@@ -1,13 +1,8 @@
 -- A number and the byte after it.
-use Rattle.std.proofs.Common.{◌≡◌, get_or, refl, sym, ap, ◌∙◌, Some, append_assoc}
+use Rattle.gj_json.proofs.Common.{Array, Close, Go, Item, Level, NameDue, Object, Some, ValueDue, after_move, ap, append_assoc, get_or, inner_of}
+use Rattle.gj_json.proofs.Common.{refl, sym, ◌∙◌, ◌≡◌}
 use Rattle.gj_json.specs.Internal.ByteClasses.{class_of}
-use Rattle.gj_json.specs.Internal.OpenLevels.{levels_in, inner_of}
-use Rattle.gj_json.specs.Internal.Transitions.{after_move}
-use Rattle.gj_json.specs.declared.levels.Level.{Level}
-use Rattle.gj_json.specs.declared.levels.Level.TheVariants.{Array, Object}
-use Rattle.gj_json.specs.declared.mode.Ending.TheVariants.{Item}
-use Rattle.gj_json.specs.declared.mode.Mode.TheVariants.{ValueDue, NameDue}
-use Rattle.gj_json.specs.declared.mode.Move.TheVariants.{Go, Close}
+use Rattle.gj_json.specs.Internal.OpenLevels.{levels_in}
 use Rattle.gj_json.proofs.Pieces.TokensInLevels.{comma_ends, number_token, ended_token, token_none}
 use Rattle.gj_json.proofs.reader.Reader.end_number.Goals as goal
 

@@ -1,6 +1,5 @@
 -- The piece up to what is allowed, and the byte after it.
-use Rattle.std.proofs.Common.{◌-◌, ◌<◌, length, arith}
-use Rattle.gj_json.specs.Internal.FedReader.{FeedsTo}
+use Rattle.gj_json.proofs.Common.{FeedsTo, arith, length, ◌-◌, ◌<◌}
 use Rattle.gj_json.proofs.Readers.CallsInTurn
 use Rattle.gj_json.proofs.reader.Reader.feed.Goals as goal
 

@@ -1,5 +1,5 @@
 -- What the end of the text answers.
-use Rattle.std.proofs.Common.{sym, ◌∙◌}
+use Rattle.gj_json.proofs.Common.{sym, ◌∙◌}
 use Rattle.gj_json.proofs.Events.FinishedTexts.{ends}
 use Rattle.gj_json.proofs.reader.Reader.finish.Goals as goal
 

@@ -1,5 +1,5 @@
 -- A value that is done, and no level around it.
-use Rattle.std.proofs.Common.{◌≡◌, false, sym, ◌∙◌}
+use Rattle.gj_json.proofs.Common.{false, sym, ◌∙◌, ◌≡◌}
 use Rattle.std.specs.Option.{is_some}
 use Rattle.gj_json.proofs.Machine.EmptyRests.{ended_whole, none_told}
 use Rattle.gj_json.proofs.Events.FinishedTexts.{none_is, whole_ends}

@@ -1,5 +1,5 @@
 -- The levels that are kept are the containers that are open.
-use Rattle.std.proofs.Common.{◌∙◌}
+use Rattle.gj_json.proofs.Common.{◌∙◌}
 use Rattle.gj_json.proofs.Events.FinishedTexts.{levels_are}
 use Rattle.gj_json.proofs.reader.Reader.levels.Goals as goal
 

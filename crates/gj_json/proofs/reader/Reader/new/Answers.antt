@@ -1,5 +1,5 @@
 -- Before the first byte nothing is complete.
-use Rattle.std.proofs.Common.{refl, arith}
+use Rattle.gj_json.proofs.Common.{arith, refl}
 use Rattle.gj_json.specs.Internal.TextMachine.{text_due}
 use Rattle.gj_json.proofs.Events.FinishedTexts.{none_at_first}
 use Rattle.gj_json.proofs.reader.Reader.new.Goals as goal

@@ -1,5 +1,5 @@
 -- A name, and the value after it.
-use Rattle.std.proofs.Common.{length, ap, arith}
+use Rattle.gj_json.proofs.Common.{ap, arith, length}
 use Rattle.gj_json.specs.Internal.OpenLevels.{levels_in}
 use Rattle.gj_json.proofs.Pieces.TokensInLevels.{any_then}
 use Rattle.gj_json.proofs.reader.Reader.pass_any_member.Goals as goal

@@ -1,7 +1,6 @@
 -- What was passed over does not matter to the sink.
-use Rattle.std.proofs.Common.{◌≡◌, ◌-◌, take, subst, sym, arith}
-use Rattle.gj_json.specs.Internal.FedReader.{above}
-use Rattle.gj_json.specs.Ignored.{Leaves}
+use Rattle.gj_json.proofs.Common.{Leaves, above, arith, subst, sym, ◌-◌, ◌≡◌}
+use Rattle.std.proofs.Common.{take}
 use Rattle.gj_json.proofs.Events.IgnoredEvents.{all_as}
 use Rattle.gj_json.proofs.Pieces.PassedMembers.{names_all}
 use Rattle.gj_json.proofs.reader.Reader.pass_ignored.Goals as goal

@@ -1,5 +1,5 @@
 -- The members, one after another.
-use Rattle.std.proofs.Common.{refl, arith}
+use Rattle.gj_json.proofs.Common.{arith, refl}
 use Rattle.gj_json.proofs.Pieces.PieceRests.{more_within}
 use Rattle.gj_json.proofs.Pieces.TokensInLevels.{any_then}
 use Rattle.gj_json.proofs.reader.Reader.pass_members.Goals as goal

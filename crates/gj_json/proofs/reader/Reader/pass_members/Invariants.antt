@@ -1,7 +1,6 @@
-use Rattle.std.proofs.Common.{◌≡◌, ◌≤◌, ◌-◌, true, length, take}
-use Rattle.gj_json.specs.Internal.FedReader.{FeedsAny}
+use Rattle.gj_json.proofs.Common.{FeedsAny, length, names, true, ◌-◌, ◌≡◌, ◌≤◌}
+use Rattle.std.proofs.Common.{take}
 use Rattle.gj_json.specs.Internal.OpenLevels.{levels_in}
-use Rattle.gj_json.specs.Internal.WholeTokens.{names}
 use Rattle.gj_json.proofs.reader.Reader.pass_members.Given as goal
 
 abbrev pub invariant-loop-at : goal.invariant-loop-at

@@ -1,10 +1,8 @@
 -- A name and its colon open and close nothing.
-use Rattle.std.proofs.Common.{◌≡◌, ◌+◌, List, [], ◌∷◌, take, refl, ap, arith}
-use Rattle.gj_json.specs.declared.event.Event.{Event}
-use Rattle.gj_json.specs.declared.event.What.{What}
+use Rattle.gj_json.proofs.Common.{Event, List, What, ap, arith, event_at, refl, [], ◌+◌, ◌∷◌, ◌≡◌}
+use Rattle.std.proofs.Common.{take}
 use Rattle.gj_json.specs.Names.{known_of}
 use Rattle.gj_json.specs.Internal.OpenLevels.{levels_in}
-use Rattle.gj_json.specs.Internal.ToldEvents.{event_at}
 use Rattle.gj_json.proofs.Pieces.TakenTokens.{named_taken}
 use Rattle.gj_json.proofs.Pieces.TokensInLevels.{from_none, any_level}
 use Rattle.gj_json.proofs.reader.Reader.pass_name.Goals as goal

@@ -1,13 +1,8 @@
 -- A name, the value after it, and the byte after that.
-use Rattle.std.proofs.Common.{◌≡◌, ◌∙◌, ℕ, List, Some, ◌+◌, ◌-◌, ◌<◌, true, get_or, length, take, drop, refl, sym, ap, subst, arith, length-drop}
-use Rattle.std.proofs.lemmas.List.{get_or-drop}
-use Rattle.gj_json.specs.Bytes.{close_brace}
-use Rattle.gj_json.specs.Internal.FedReader.{Passed, FeedsAny}
-use Rattle.gj_json.specs.declared.levels.Level.TheVariants.{Object}
-use Rattle.gj_json.specs.declared.mode.Ending.TheVariants.{Item, Nothing}
-use Rattle.gj_json.specs.declared.mode.Mode.TheVariants.{NameDue, ValueDone}
-use Rattle.gj_json.specs.Internal.QuietBytes.{is_white}
-use Rattle.gj_json.specs.Internal.OpenLevels.{levels_in, inner_of}
+use Rattle.gj_json.proofs.Common.{FeedsAny, Item, List, NameDue, Nothing, Object, Passed, Some, ValueDone, ap, arith, close_brace, drop, get_or}
+use Rattle.gj_json.proofs.Common.{get_or-drop, inner_of, is_white, length, refl, subst, sym, true, ℕ, ◌+◌, ◌-◌, ◌<◌, ◌∙◌, ◌≡◌}
+use Rattle.std.proofs.Common.{take, length-drop}
+use Rattle.gj_json.specs.Internal.OpenLevels.{levels_in}
 use Rattle.gj_json.proofs.Pieces.PassedMembers.{name_to, named_goes, named_closes, brace_closes, before_space, to_space, space_any}
 use Rattle.gj_json.proofs.Pieces.PieceRests.{rest_of}
 use Rattle.gj_json.proofs.Pieces.TokensInLevels.{any_closes, any_then, comma_ends, white_goes}

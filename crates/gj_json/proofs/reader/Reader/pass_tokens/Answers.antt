@@ -1,6 +1,6 @@
 -- The tokens, one after another.
-use Rattle.std.proofs.Common.{◌≡◌, ℕ, ◌+◌, ◌<◌, length, take, subst, arith}
-use Rattle.gj_json.specs.Internal.FedReader.{FeedsWithin}
+use Rattle.gj_json.proofs.Common.{FeedsWithin, arith, length, subst, ℕ, ◌+◌, ◌<◌, ◌≡◌}
+use Rattle.std.proofs.Common.{take}
 use Rattle.gj_json.specs.Internal.OpenLevels.{levels_in}
 use Rattle.gj_json.proofs.Pieces.PieceRests.{more_within}
 use Rattle.gj_json.proofs.Pieces.TokensInLevels.{both_within}

@@ -1,5 +1,5 @@
-use Rattle.std.proofs.Common.{◌≤◌, ◌-◌, length, take}
-use Rattle.gj_json.specs.Internal.FedReader.{FeedsWithin}
+use Rattle.gj_json.proofs.Common.{FeedsWithin, length, ◌-◌, ◌≤◌}
+use Rattle.std.proofs.Common.{take}
 use Rattle.gj_json.specs.Internal.OpenLevels.{levels_in}
 use Rattle.gj_json.proofs.reader.Reader.pass_tokens.Given as goal
 

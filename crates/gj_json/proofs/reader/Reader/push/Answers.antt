@@ -1,7 +1,5 @@
 -- The pair has room for all events of a byte.
-use Rattle.std.proofs.Common.{◌≡◌, ◌+◌, ◌++◌, ◌∷◌, [], List, length, sym, subst}
-use Rattle.gj_json.specs.declared.event.Event.{Event}
-use Rattle.gj_json.specs.Reader.{Completed}
+use Rattle.gj_json.proofs.Common.{Completed, Event, List, length, subst, sym, [], ◌++◌, ◌+◌, ◌∷◌, ◌≡◌}
 use Rattle.gj_json.proofs.reader.Reader.push.Goals as goal
 
 pub returns-in-Ok-clause-events : goal.returns-in-Ok-clause-events

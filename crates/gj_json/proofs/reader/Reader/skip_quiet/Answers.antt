@@ -1,7 +1,7 @@
 -- The bytes that complete nothing, by the mode.
-use Rattle.std.proofs.Common.{inl, inr, take, refl}
-use Rattle.std.proofs.lemmas.List.{length-take-le}
-use Rattle.gj_json.specs.declared.mode.Mode.TheVariants.{StringOn, NameOn}
+use Rattle.gj_json.proofs.Common.{NameOn, inl, inr, length-take-le, refl}
+use Rattle.std.proofs.Common.{take}
+use Rattle.gj_json.specs.declared.mode.Mode.TheVariants.{StringOn}
 use Rattle.gj_json.proofs.Pieces.QuietModes.{quiet_leads, other_mode, no_text}
 use Rattle.gj_json.proofs.Pieces.SkippedRuns.{leads_skips, text_skips}
 use Rattle.gj_json.proofs.reader.Reader.skip_quiet.Goals as goal

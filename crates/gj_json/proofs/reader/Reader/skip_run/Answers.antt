@@ -1,9 +1,7 @@
 -- The run is passed over where a byte of a character may follow what was taken, and nowhere else.
-use Rattle.std.proofs.Common.{◌≡◌, ℕ, ◌-◌, ◌≤◌, ◌+◌, min, [], ◌++◌, take, length, refl, sym, subst, ◌∙◌, arith}
-use Rattle.std.proofs.lemmas.List.{length-take-le}
-use Rattle.gj_json.specs.Internal.FedReader.{Skips}
-use Rattle.gj_json.specs.Reader.{Completed}
-use Rattle.gj_json.specs.Runs.{plain_run_of}
+use Rattle.gj_json.proofs.Common.{Completed, Skips, arith, length, length-take-le, min, plain_run_of, refl, subst, sym, ℕ, [], ◌++◌, ◌+◌, ◌-◌, ◌∙◌}
+use Rattle.gj_json.proofs.Common.{◌≡◌, ◌≤◌}
+use Rattle.std.proofs.Common.{take}
 use Rattle.gj_json.proofs.Pieces.StringRuns.{viable_between, not_viable_elsewhere, run_skips, skipped_stands, skipped_silent}
 use Rattle.gj_json.proofs.Grammar.Utf8Characters.{front_utf8, front_unescaped, front_within, allowed_within}
 use Rattle.gj_json.proofs.reader.Reader.skip_run.Goals as goal

@@ -1,7 +1,6 @@
 -- A space before a token leaves the mode as it is.
-use Rattle.std.proofs.Common.{◌≡◌, ℕ, List, [], ◌∷◌, take, refl, sym, subst, arith}
-use Rattle.std.proofs.lemmas.Bool.Decides.{nat_tests}
-use Rattle.gj_json.specs.Bytes.{space}
+use Rattle.gj_json.proofs.Common.{List, arith, nat_tests, refl, space, subst, sym, ℕ, [], ◌∷◌, ◌≡◌}
+use Rattle.std.proofs.Common.{take}
 use Rattle.gj_json.specs.Internal.QuietBytes.{Leads}
 use Rattle.gj_json.proofs.Pieces.QuietModes.{awaits_other, awaits_no_text, quiet_white}
 use Rattle.gj_json.proofs.Pieces.SkippedRuns.{leads_skips}

@@ -1,6 +1,6 @@
 -- White space leaves the mode as it is.
+use Rattle.gj_json.proofs.Common.{length-take-le}
 use Rattle.std.proofs.Common.{take}
-use Rattle.std.proofs.lemmas.List.{length-take-le}
 use Rattle.gj_json.proofs.Pieces.QuietModes.{quiet_leads, other_mode, no_text}
 use Rattle.gj_json.proofs.Pieces.SkippedRuns.{leads_skips}
 use Rattle.gj_json.proofs.reader.Reader.skip_white.Goals as goal

@@ -1,5 +1,6 @@
 -- What was read is a number, since it may end there, and its value is that of these bytes.
-use Rattle.std.proofs.Common.{take, [], sym}
+use Rattle.gj_json.proofs.Common.{sym, []}
+use Rattle.std.proofs.Common.{take}
 use Rattle.gj_json.proofs.Pieces.TokensInLevels.{token_none}
 use Rattle.gj_json.proofs.reader.Reader.take_any_number.Goals as goal
 

@@ -1,5 +1,5 @@
 -- No array of numbers, and then a bracket.
-use Rattle.std.proofs.Common.{arith}
+use Rattle.gj_json.proofs.Common.{arith}
 use Rattle.gj_json.proofs.Pieces.TakenTokens.{nothing_then}
 use Rattle.gj_json.proofs.reader.Reader.take_array.Goals as goal
 

@@ -1,5 +1,5 @@
 -- A byte while nothing but a literal name is under way: a number or a string may begin with it.
-use Rattle.std.proofs.Common.{inl, inr, refl, sym, ◌∙◌}
+use Rattle.gj_json.proofs.Common.{inl, inr, refl, sym, ◌∙◌}
 use Rattle.gj_json.proofs.Readers.StepsAlike
 use Rattle.gj_json.proofs.Pieces.QuietModes.{other_mode, no_text}
 use Rattle.gj_json.proofs.reader.Reader.take_between.Goals as goal

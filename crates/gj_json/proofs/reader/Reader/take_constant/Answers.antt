@@ -1,6 +1,6 @@
 -- A literal name, and the byte after it.
-use Rattle.std.proofs.Common.{length, take, ap, arith}
-use Rattle.gj_json.specs.Internal.FedReader.{FeedsAny}
+use Rattle.gj_json.proofs.Common.{FeedsAny, ap, arith, length}
+use Rattle.std.proofs.Common.{take}
 use Rattle.gj_json.specs.Internal.OpenLevels.{levels_in}
 use Rattle.gj_json.proofs.Readers.CallsInTurn.{piece_all, rest_all}
 use Rattle.gj_json.proofs.Pieces.TakenTokens.{constant_taken}

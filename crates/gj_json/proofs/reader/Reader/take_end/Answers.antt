@@ -1,13 +1,8 @@
 -- The byte after a value.
-use Rattle.std.proofs.Common.{◌≡◌, get_or, refl, sym, ap, ◌∙◌, Some, arith}
+use Rattle.gj_json.proofs.Common.{Array, Close, Go, Item, Level, NameDue, Object, Some, ValueDue, after_move, ap, arith, get_or, inner_of, refl, sym}
+use Rattle.gj_json.proofs.Common.{◌∙◌, ◌≡◌}
 use Rattle.gj_json.specs.Internal.ByteClasses.{class_of}
-use Rattle.gj_json.specs.Internal.OpenLevels.{levels_in, inner_of}
-use Rattle.gj_json.specs.Internal.Transitions.{after_move}
-use Rattle.gj_json.specs.declared.levels.Level.{Level}
-use Rattle.gj_json.specs.declared.levels.Level.TheVariants.{Array, Object}
-use Rattle.gj_json.specs.declared.mode.Ending.TheVariants.{Item}
-use Rattle.gj_json.specs.declared.mode.Mode.TheVariants.{ValueDue, NameDue}
-use Rattle.gj_json.specs.declared.mode.Move.TheVariants.{Go, Close}
+use Rattle.gj_json.specs.Internal.OpenLevels.{levels_in}
 use Rattle.gj_json.proofs.Pieces.TakenTokens.{end_goes, end_closes}
 use Rattle.gj_json.proofs.Pieces.TokensInLevels.{comma_ends, any_goes, any_closes, then_skipped, any_skipped}
 use Rattle.gj_json.proofs.reader.Reader.take_end.Goals as goal

@@ -1,7 +1,6 @@
 -- The end of a feature right after its last member, and the beginning of the next.
-use Rattle.std.proofs.Common.{◌≡◌, ◌∷◌, ◌++◌, [], List, subst, append_assoc, ap, ◌∙◌, arith}
-use Rattle.gj_json.specs.declared.event.Event.{Event}
-use Rattle.gj_json.specs.Internal.OpenLevels.{levels_in, outer_of}
+use Rattle.gj_json.proofs.Common.{Event, List, ap, append_assoc, arith, outer_of, subst, [], ◌++◌, ◌∙◌, ◌∷◌, ◌≡◌}
+use Rattle.gj_json.specs.Internal.OpenLevels.{levels_in}
 use Rattle.gj_json.proofs.Pieces.TakenHeads.{following_taken}
 use Rattle.gj_json.proofs.reader.Reader.take_feature_end.Goals as goal
 

@@ -1,7 +1,5 @@
 -- What was passed over does not matter to the sink.
-use Rattle.std.proofs.Common.{◌≡◌, ◌-◌, subst, sym, arith}
-use Rattle.gj_json.specs.Internal.FedReader.{above}
-use Rattle.gj_json.specs.Ignored.{Leaves}
+use Rattle.gj_json.proofs.Common.{Leaves, above, arith, subst, sym, ◌-◌, ◌≡◌}
 use Rattle.gj_json.proofs.Events.IgnoredEvents.{ignored_by}
 use Rattle.gj_json.proofs.reader.Reader.take_ignored.Goals as goal
 

@@ -1,8 +1,8 @@
 -- A byte while a number is under way: the number goes on with it, or it has ended before it, or neither.
-use Rattle.std.proofs.Common.{None, Err, refl, append-nil}
-use Rattle.gj_json.specs.Internal.ReaderStep.{move_by}
+use Rattle.gj_json.proofs.Common.{Err, None, Refuses, move_by, refl}
+use Rattle.std.proofs.Common.{append-nil}
 use Rattle.gj_json.proofs.Readers.StepsAlike
-use Rattle.gj_json.specs.Internal.ToldEvents.{Goes, Ends, Refuses}
+use Rattle.gj_json.specs.Internal.ToldEvents.{Goes, Ends}
 use Rattle.gj_json.proofs.reader.Reader.take_in_number.Goals as goal
 
 pub returns-in-Goes : goal.returns-in-Goes

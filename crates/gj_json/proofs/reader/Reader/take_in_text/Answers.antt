@@ -1,8 +1,7 @@
 -- A byte while a string or a name is under way: a character ends with it, or none does.
-use Rattle.std.proofs.Common.{◌≡◌, ◌∷◌, [], None, refl, sym, ◌∙◌, append-nil}
+use Rattle.gj_json.proofs.Common.{None, Plain, refl, string_next, sym, [], ◌∙◌, ◌∷◌, ◌≡◌}
+use Rattle.std.proofs.Common.{append-nil}
 use Rattle.gj_json.specs.Internal.ToldEvents.{Ends}
-use Rattle.gj_json.specs.declared.mode.StringState.TheVariants.{Plain}
-use Rattle.gj_json.specs.Internal.TextMachine.{string_next}
 use Rattle.gj_json.proofs.Readers.StepsAlike
 use Rattle.gj_json.proofs.Grammar.OneCharacter.{one_character, reads_is}
 use Rattle.gj_json.proofs.reader.Reader.take_in_text.Goals as goal

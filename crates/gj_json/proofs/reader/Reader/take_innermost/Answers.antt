@@ -1,5 +1,6 @@
 -- A level was open, and has closed.
-use Rattle.std.proofs.Common.{◌-◌, take, arith}
+use Rattle.gj_json.proofs.Common.{arith, ◌-◌}
+use Rattle.std.proofs.Common.{take}
 use Rattle.gj_json.proofs.Events.IgnoredEvents.{innermost_closed}
 use Rattle.gj_json.proofs.reader.Reader.take_innermost.Goals as goal
 

@@ -1,6 +1,5 @@
 -- A whole Point whose coordinates stand before its type.
-use Rattle.std.proofs.Common.{◌+◌, ◌-◌, arith}
-use Rattle.gj_json.specs.declared.mode.Mode.TheVariants.{ValueDone}
+use Rattle.gj_json.proofs.Common.{ValueDone, arith, ◌+◌, ◌-◌}
 use Rattle.gj_json.proofs.Pieces.LatePoints.{late_point_taken}
 use Rattle.gj_json.proofs.Pieces.TakenTokens.{passed_lands}
 use Rattle.gj_json.proofs.reader.Reader.take_late_point.Goals as goal

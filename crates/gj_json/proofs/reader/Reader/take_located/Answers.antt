@@ -1,5 +1,5 @@
 -- The name of a geometry, and what comes before its coordinates.
-use Rattle.std.proofs.Common.{ap, ◌∙◌}
+use Rattle.gj_json.proofs.Common.{ap, ◌∙◌}
 use Rattle.gj_json.specs.Internal.OpenLevels.{levels_in}
 use Rattle.gj_json.proofs.Pieces.TakenHeads.{found_taken}
 use Rattle.gj_json.proofs.reader.Reader.take_located.Goals as goal

@@ -1,5 +1,6 @@
 -- The innermost level has closed and its events are heard as missed, or nothing was taken and nothing is heard.
-use Rattle.std.proofs.Common.{refl, take, arith}
+use Rattle.gj_json.proofs.Common.{arith, refl}
+use Rattle.std.proofs.Common.{take}
 use Rattle.gj_json.proofs.Events.IgnoredEvents.{all_as}
 use Rattle.gj_json.proofs.Readers.CallsInTurn.{feeds_nothing}
 use Rattle.gj_json.proofs.reader.Reader.take_missed.Goals as goal

@@ -1,6 +1,6 @@
 -- A usual name, and its colon.
-use Rattle.std.proofs.Common.{◌≡◌, ◌+◌, ◌-◌, drop, take, get_or, length, ap, ◌∙◌, arith}
-use Rattle.std.proofs.lemmas.List.{get_or-drop}
+use Rattle.gj_json.proofs.Common.{ap, arith, drop, get_or, get_or-drop, length, ◌+◌, ◌-◌, ◌∙◌, ◌≡◌}
+use Rattle.std.proofs.Common.{take}
 use Rattle.gj_json.specs.Bytes.{colon as colon_byte}
 use Rattle.gj_json.proofs.Grammar.SpelledTokens.{first_colon_cut}
 use Rattle.gj_json.proofs.Pieces.PieceRests.{rest_of}

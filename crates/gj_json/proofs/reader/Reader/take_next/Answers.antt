@@ -1,5 +1,5 @@
 -- What a byte leaves and answers, from the step that it makes.
-use Rattle.std.proofs.Common.{◌<◌, ◌++◌, ◌∷◌, [], ◌∙◌, arith}
+use Rattle.gj_json.proofs.Common.{arith, [], ◌++◌, ◌<◌, ◌∙◌, ◌∷◌}
 use Rattle.gj_json.proofs.Readers.ReadBytes.{pushed}
 use Rattle.gj_json.proofs.Readers.CallsInTurn
 use Rattle.gj_json.proofs.reader.Reader.take_next.Goals as goal

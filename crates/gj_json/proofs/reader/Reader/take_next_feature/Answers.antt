@@ -1,12 +1,8 @@
 -- The end of the last member of a feature, and what follows it.
-use Rattle.std.proofs.Common.{◌≡◌, get_or, refl, ap, ◌∙◌}
-use Rattle.gj_json.specs.Bytes.{close_brace}
+use Rattle.gj_json.proofs.Common.{Close, Object, after_move, ap, close_brace, get_or, inner_of, refl, ◌∙◌, ◌≡◌}
 use Rattle.gj_json.specs.declared.class.Class.TheVariants.{CloseObject as close_class}
-use Rattle.gj_json.specs.declared.levels.Level.TheVariants.{Object}
-use Rattle.gj_json.specs.declared.mode.Move.TheVariants.{Close}
 use Rattle.gj_json.specs.Internal.ByteClasses.{class_of}
-use Rattle.gj_json.specs.Internal.OpenLevels.{levels_in, inner_of}
-use Rattle.gj_json.specs.Internal.Transitions.{after_move}
+use Rattle.gj_json.specs.Internal.OpenLevels.{levels_in}
 use Rattle.gj_json.proofs.Grammar.ClassOfBytes.{class_is}
 use Rattle.gj_json.proofs.Pieces.TakenTokens.{end_closes}
 use Rattle.gj_json.proofs.Readers.CallsInTurn.{piece_all, rest_all}

@@ -1,5 +1,5 @@
 -- No positions, and then some with integers.
-use Rattle.std.proofs.Common.{arith}
+use Rattle.gj_json.proofs.Common.{arith}
 use Rattle.gj_json.proofs.Pieces.TakenTokens.{nothing_then}
 use Rattle.gj_json.proofs.reader.Reader.take_next_positions.Goals as goal
 

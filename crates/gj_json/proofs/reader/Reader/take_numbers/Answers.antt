@@ -1,8 +1,6 @@
 -- A number and the comma, or the bracket, after it.
-use Rattle.std.proofs.Common.{◌≡◌, ◌∙◌, ap, arith, append_assoc, Some}
-use Rattle.gj_json.specs.Internal.FlatParts.{awaits}
-use Rattle.gj_json.specs.Internal.OpenLevels.{levels_in, inner_of}
-use Rattle.gj_json.specs.declared.levels.Level.TheVariants.{Array}
+use Rattle.gj_json.proofs.Common.{Array, Some, ap, append_assoc, arith, awaits, inner_of, ◌∙◌, ◌≡◌}
+use Rattle.gj_json.specs.Internal.OpenLevels.{levels_in}
 use Rattle.gj_json.proofs.Pieces.NumberRows.{row_goes_on, row_ends, row_within}
 use Rattle.gj_json.proofs.reader.Reader.take_numbers.Goals as goal
 use Rattle.gj_json.proofs.reader.Reader.take_numbers.Goals.{else-end-ne44-via-then-end-ne44+else-end-ne93, else-end-ne44-via-else-end-ne44}

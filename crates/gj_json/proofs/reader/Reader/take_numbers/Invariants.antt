@@ -1,6 +1,5 @@
-use Rattle.std.proofs.Common.{◌≡◌, ◌≤◌, ◌-◌, true, length, take}
-use Rattle.gj_json.specs.Internal.FedReader.{FeedsAll}
-use Rattle.gj_json.specs.Internal.FlatParts.{awaits}
+use Rattle.gj_json.proofs.Common.{FeedsAll, awaits, length, true, ◌-◌, ◌≡◌, ◌≤◌}
+use Rattle.std.proofs.Common.{take}
 use Rattle.gj_json.proofs.reader.Reader.take_numbers.Given as goal
 
 abbrev pub invariant-loop-at : goal.invariant-loop-at

@@ -1,8 +1,7 @@
 -- An opening bracket.
-use Rattle.std.proofs.Common.{◌≡◌, List, [], ◌∷◌, take, ap, ◌∙◌, arith}
-use Rattle.gj_json.specs.declared.event.Event.{Event}
+use Rattle.gj_json.proofs.Common.{Event, List, ap, arith, event_at, opening_of, [], ◌∙◌, ◌∷◌, ◌≡◌}
+use Rattle.std.proofs.Common.{take}
 use Rattle.gj_json.specs.Internal.OpenLevels.{levels_in}
-use Rattle.gj_json.specs.Internal.ToldEvents.{event_at, opening_of}
 use Rattle.gj_json.proofs.Pieces.TakenTokens.{open_taken}
 use Rattle.gj_json.proofs.Pieces.TokensInLevels.{from_none, any_opened}
 use Rattle.gj_json.proofs.reader.Reader.take_open.Goals as goal

@@ -1,5 +1,5 @@
 -- The piece, prefix by prefix, and after each what does not matter to the sink.
-use Rattle.std.proofs.Common.{◌+◌}
+use Rattle.gj_json.proofs.Common.{◌+◌}
 use Rattle.gj_json.proofs.Readers.CallsInTurn
 use Rattle.gj_json.proofs.Pieces.PieceRests.{more_within}
 use Rattle.gj_json.proofs.reader.Reader.take_piece.Goals as goal

@@ -1,5 +1,5 @@
 -- A name, and its colon.
-use Rattle.std.proofs.Common.{arith}
+use Rattle.gj_json.proofs.Common.{arith}
 use Rattle.gj_json.proofs.Pieces.TakenTokens.{as_string, named_taken}
 use Rattle.gj_json.proofs.reader.Reader.take_plain_name.Goals as goal
 

@@ -1,6 +1,5 @@
 -- A whole Point, and what follows it.
-use Rattle.std.proofs.Common.{◌+◌, arith}
-use Rattle.gj_json.specs.declared.mode.Mode.TheVariants.{ValueDone}
+use Rattle.gj_json.proofs.Common.{ValueDone, arith, ◌+◌}
 use Rattle.gj_json.proofs.Pieces.TakenHeads.{point_taken}
 use Rattle.gj_json.proofs.Pieces.TakenTokens.{passed_lands}
 use Rattle.gj_json.proofs.Readers.CallsInTurn.{piece_all, rest_all}

@@ -1,13 +1,10 @@
 -- The positions that the sink takes, as their arrays in turn.
-use Rattle.std.proofs.Common.{◌≡◌, ◌∙◌, [], ◌-◌, ◌<◌, ◌≤◌, List, ℕ, append-nil, get_or, length, take, length-drop, sym, ap, subst, arith}
-use Rattle.std.proofs.lemmas.List.{get_or-drop, get_or-take, length-take}
-use Rattle.gj_json.specs.Bytes.{open_bracket}
-use Rattle.gj_json.specs.declared.cut_position.CutPosition.{CutPosition}
+use Rattle.gj_json.proofs.Common.{CutPosition, FeedsAll, List, Passed, SpellsPositions, ValueDue, ap, arith, awaits, get_or, get_or-drop, length}
+use Rattle.gj_json.proofs.Common.{open_bracket, place_after, place_after_all, subst, sym, ℕ, [], ◌-◌, ◌<◌, ◌∙◌, ◌≡◌, ◌≤◌}
+use Rattle.std.proofs.Common.{append-nil, take, length-drop}
+use Rattle.std.proofs.lemmas.List.{get_or-take, length-take}
 use Rattle.gj_json.specs.CutPosition.{AreCutPositions}
-use Rattle.gj_json.specs.declared.mode.Mode.TheVariants.{ValueDue}
-use Rattle.gj_json.specs.Internal.FedReader.{FeedsAll, Passed}
-use Rattle.gj_json.specs.Internal.FlatParts.{awaits}
-use Rattle.gj_json.specs.Internal.SpelledPositions.{gap_of, place_after, place_after_all, SpellsPositions}
+use Rattle.gj_json.specs.Internal.SpelledPositions.{gap_of}
 use Rattle.gj_json.proofs.Readers.CallsInTurn.{piece_left}
 use Rattle.gj_json.proofs.Pieces.PieceRests.{rest_of, left_within, left_is}
 use Rattle.gj_json.proofs.Pieces.FlatsInTurn.{depth_left, room_left}

@@ -1,6 +1,5 @@
-use Rattle.std.proofs.Common.{◌≡◌, ◌≤◌, ◌-◌, length, take, drop}
-use Rattle.gj_json.specs.Internal.FedReader.{FeedsAll}
-use Rattle.gj_json.specs.Internal.FlatParts.{IsDueAt}
+use Rattle.gj_json.proofs.Common.{FeedsAll, IsDueAt, drop, length, ◌-◌, ◌≡◌, ◌≤◌}
+use Rattle.std.proofs.Common.{take}
 use Rattle.gj_json.proofs.reader.Reader.take_positions.Given as goal
 
 abbrev pub invariant-loop-taken : goal.invariant-loop-taken

@@ -1,5 +1,5 @@
 -- The name of properties and the bracket after it, and what is passed in their object.
-use Rattle.std.proofs.Common.{ap, ◌∙◌, arith}
+use Rattle.gj_json.proofs.Common.{ap, arith, ◌∙◌}
 use Rattle.gj_json.specs.Internal.OpenLevels.{levels_in}
 use Rattle.gj_json.proofs.Pieces.TakenHeads.{opened_taken}
 use Rattle.gj_json.proofs.Readers.CallsInTurn.{piece_all, rest_all}

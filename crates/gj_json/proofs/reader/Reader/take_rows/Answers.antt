@@ -1,5 +1,5 @@
 -- The arrays, one after another.
-use Rattle.std.proofs.Common.{◌+◌}
+use Rattle.gj_json.proofs.Common.{◌+◌}
 use Rattle.gj_json.proofs.Readers.CallsInTurn
 use Rattle.gj_json.proofs.Pieces.PieceRests.{more_within}
 use Rattle.gj_json.proofs.reader.Reader.take_rows.Goals as goal

@@ -1,8 +1,7 @@
 -- The arrays, one after another.
-use Rattle.std.proofs.Common.{◌≡◌, ◌∙◌, List, refl, sym, ap, ◌+◌, ◌-◌, ◌<◌, ℕ, length, take, drop, subst, arith}
-use Rattle.gj_json.specs.Internal.FedReader.{FeedsAll}
+use Rattle.gj_json.proofs.Common.{FeedsAll, IsDueAt, List, ap, arith, drop, length, refl, subst, sym, ℕ, ◌+◌, ◌-◌, ◌<◌, ◌∙◌, ◌≡◌}
+use Rattle.std.proofs.Common.{take}
 use Rattle.gj_json.proofs.Readers.CallsInTurn
-use Rattle.gj_json.specs.Internal.FlatParts.{IsDueAt}
 use Rattle.gj_json.proofs.Readers.CallsInTurn.{piece_left}
 use Rattle.gj_json.proofs.Pieces.PieceRests.{rest_of, more_within, left_within, left_is}
 use Rattle.gj_json.proofs.Pieces.FlatsInTurn.{goes_on, ends}

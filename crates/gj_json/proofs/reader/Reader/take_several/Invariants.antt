@@ -1,6 +1,5 @@
-use Rattle.std.proofs.Common.{◌≡◌, IsTrue, ◌≤◌, ◌-◌, length, take, drop}
-use Rattle.gj_json.specs.Internal.FedReader.{FeedsAll}
-use Rattle.gj_json.specs.Internal.FlatParts.{IsDueAt}
+use Rattle.gj_json.proofs.Common.{FeedsAll, IsDueAt, drop, length, ◌-◌, ◌≡◌, ◌≤◌}
+use Rattle.std.proofs.Common.{IsTrue, take}
 use Rattle.gj_json.proofs.reader.Reader.take_several.Given as goal
 
 abbrev pub invariant-loop-begins : goal.invariant-loop-begins

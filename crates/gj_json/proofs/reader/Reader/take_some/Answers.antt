@@ -1,6 +1,6 @@
 -- Quiet bytes, and then whole tokens or one byte.
-use Rattle.std.proofs.Common.{◌≡◌, ◌<◌, ◌+◌, ℕ, length, take, subst, arith}
-use Rattle.gj_json.specs.Internal.FedReader.{FeedsAll}
+use Rattle.gj_json.proofs.Common.{FeedsAll, arith, length, subst, ℕ, ◌+◌, ◌<◌, ◌≡◌}
+use Rattle.std.proofs.Common.{take}
 use Rattle.gj_json.proofs.Readers.CallsInTurn
 use Rattle.gj_json.proofs.Pieces.PieceRests.{more_within}
 use Rattle.gj_json.proofs.reader.Reader.take_some.Goals as goal

@@ -1,8 +1,6 @@
 -- Quiet bytes, and then one byte, within levels that are open.
-use Rattle.std.proofs.Common.{◌<◌, List, length, take, arith}
-use Rattle.gj_json.specs.declared.event.Event.{Event}
-use Rattle.gj_json.specs.Internal.FedReader.{above}
-use Rattle.gj_json.specs.Ignored.{Leaves}
+use Rattle.gj_json.proofs.Common.{Event, Leaves, List, above, arith, length, ◌<◌}
+use Rattle.std.proofs.Common.{take}
 use Rattle.gj_json.proofs.Readers.CallsInTurn
 use Rattle.gj_json.proofs.Events.IgnoredEvents.{byte_floor, takes_within, all_from, to_from}
 use Rattle.gj_json.proofs.reader.Reader.take_some_within.Goals as goal

@@ -1,5 +1,5 @@
 -- A usual string.
-use Rattle.std.proofs.Common.{arith}
+use Rattle.gj_json.proofs.Common.{arith}
 use Rattle.gj_json.proofs.Pieces.TakenTokens.{as_string, text_taken}
 use Rattle.gj_json.proofs.reader.Reader.take_text.Goals as goal
 

@@ -1,6 +1,6 @@
 -- The tokens, one after another.
-use Rattle.std.proofs.Common.{◌≡◌, ◌+◌, ℕ, take, subst, arith}
-use Rattle.gj_json.specs.Internal.FedReader.{FeedsAll}
+use Rattle.gj_json.proofs.Common.{FeedsAll, arith, subst, ℕ, ◌+◌, ◌≡◌}
+use Rattle.std.proofs.Common.{take}
 use Rattle.gj_json.proofs.Readers.CallsInTurn
 use Rattle.gj_json.proofs.Pieces.PieceRests.{more_within}
 use Rattle.gj_json.proofs.reader.Reader.take_tokens.Goals as goal

@@ -1,5 +1,5 @@
-use Rattle.std.proofs.Common.{◌≤◌, ◌-◌, length, take}
-use Rattle.gj_json.specs.Internal.FedReader.{FeedsAll}
+use Rattle.gj_json.proofs.Common.{FeedsAll, length, ◌-◌, ◌≤◌}
+use Rattle.std.proofs.Common.{take}
 use Rattle.gj_json.proofs.reader.Reader.take_tokens.Given as goal
 
 abbrev pub invariant-loop-at : goal.invariant-loop-at

@@ -1,5 +1,5 @@
 -- An opening bracket, and the type after it.
-use Rattle.std.proofs.Common.{ap, ◌∙◌, arith}
+use Rattle.gj_json.proofs.Common.{ap, arith, ◌∙◌}
 use Rattle.gj_json.specs.Internal.OpenLevels.{levels_in}
 use Rattle.gj_json.proofs.Pieces.TakenHeads.{typed_taken}
 use Rattle.gj_json.proofs.reader.Reader.take_typed.Goals as goal

@@ -1,5 +1,5 @@
 -- A string and the byte after it.
-use Rattle.std.proofs.Common.{ap, arith, length}
+use Rattle.gj_json.proofs.Common.{ap, arith, length}
 use Rattle.gj_json.specs.Internal.OpenLevels.{levels_in}
 use Rattle.gj_json.proofs.Pieces.TokensInLevels.{token_of, token_then}
 use Rattle.gj_json.proofs.reader.Reader.take_value.Goals as goal

@@ -1,5 +1,5 @@
 -- The piece, prefix by prefix, within levels that are open.
-use Rattle.std.proofs.Common.{◌+◌}
+use Rattle.gj_json.proofs.Common.{◌+◌}
 use Rattle.gj_json.proofs.Readers.CallsInTurn
 use Rattle.gj_json.proofs.Events.IgnoredEvents.{all_more, to_more}
 use Rattle.gj_json.proofs.Pieces.PieceRests.{more_within}

@@ -1,5 +1,5 @@
 -- The colon, and the white space around it.
-use Rattle.std.proofs.Common.{arith}
+use Rattle.gj_json.proofs.Common.{arith}
 use Rattle.gj_json.proofs.Grammar.SpelledTokens.{colon_cut, first_colon_cut}
 use Rattle.gj_json.proofs.reader.tokens.colon_run.Goals as goal
 

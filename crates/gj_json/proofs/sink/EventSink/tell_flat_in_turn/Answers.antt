@@ -1,6 +1,5 @@
 -- The events, one after another.
-use Rattle.std.proofs.Common.{List, subst}
-use Rattle.gj_json.specs.declared.event.Event.{Event}
+use Rattle.gj_json.proofs.Common.{Event, List, subst}
 use Rattle.gj_json.proofs.sink.EventSink.tell_flat_in_turn.Goals as goal
 use Rattle.gj_json.proofs.sink.EventSink.tell_flat_in_turn.Goals.{in-Some, in_default}
 use Rattle.gj_json.proofs.Events.EventsInTurn.{four, five}

@@ -1,6 +1,5 @@
 -- The events, one after another.
-use Rattle.std.proofs.Common.{List, subst}
-use Rattle.gj_json.specs.declared.event.Event.{Event}
+use Rattle.gj_json.proofs.Common.{Event, List, subst}
 use Rattle.gj_json.proofs.sink.EventSink.tell_head.Goals as goal
 use Rattle.gj_json.proofs.Events.EventsInTurn.{around_three}
 

@@ -1,7 +1,5 @@
 -- A whole Point whose coordinates stand before its type, by its events, one after another.
-use Rattle.std.proofs.Common.{◌≡◌, ◌∷◌, ◌++◌, [], List, subst, append_assoc}
-use Rattle.gj_json.specs.declared.event.Event.{Event}
-use Rattle.gj_json.specs.Flat.{flat_events}
+use Rattle.gj_json.proofs.Common.{Event, List, append_assoc, flat_events, subst, [], ◌++◌, ◌∷◌, ◌≡◌}
 use Rattle.gj_json.proofs.sink.EventSink.tell_late_point_in_turn.Goals as goal
 
 by_parts : (xs fs : List Event) (a b c d e f : Event)

@@ -1,7 +1,5 @@
 -- A whole Point, by its beginning, its position and its end.
-use Rattle.std.proofs.Common.{◌≡◌, ◌∷◌, ◌++◌, [], List, subst, append_assoc}
-use Rattle.gj_json.specs.declared.event.Event.{Event}
-use Rattle.gj_json.specs.Flat.{flat_events}
+use Rattle.gj_json.proofs.Common.{Event, List, append_assoc, flat_events, subst, [], ◌++◌, ◌∷◌, ◌≡◌}
 use Rattle.gj_json.specs.Head.{located_events}
 use Rattle.gj_json.proofs.sink.EventSink.tell_point.Goals as goal
 

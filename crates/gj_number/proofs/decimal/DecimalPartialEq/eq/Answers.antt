@@ -1,4 +1,4 @@
-use Rattle.std.proofs.Common.{◌≡◌, rules}
+use Rattle.gj_number.proofs.Common.{rules, ◌≡◌}
 use Rattle.gj_number.specs.Exact.{same_parts}
 use Rattle.gj_number.proofs.Value.SameDecimals.{same_parts_value}
 use Rattle.gj_number.proofs.decimal.DecimalPartialEq.eq.Goals as goal

@@ -1,4 +1,4 @@
-use Rattle.std.proofs.Common.{inr}
+use Rattle.gj_number.proofs.Common.{inr}
 use Rattle.gj_number.proofs.Literals.OneDigitMore.{zero_natural, past_natural}
 use Rattle.gj_number.proofs.digits.Digits.add_zero.Goals as goal
 

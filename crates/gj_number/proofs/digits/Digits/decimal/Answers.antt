@@ -1,6 +1,5 @@
-use Rattle.std.proofs.Common.{◌≡◌, ◌<◌, ◌≤◌, arith, ◌⊎◌, inl, inr, refl, sym, ◌∙◌, ap, Some, rules, w16}
-use mir.Val.{SFits}
-use Rattle.std.proofs.lemmas.Int.{to_z-of_z}
+use Rattle.gj_number.proofs.Common.{SFits, Some, ap, arith, inl, inr, refl, rules, sym, to_z-of_z, ◌<◌, ◌∙◌, ◌≡◌, ◌≤◌, ◌⊎◌}
+use Rattle.std.proofs.Common.{w16}
 use Rattle.gj_number.proofs.Value.HeldDecimals.{decimal_limits, zero_held, far_not_held, power_not_held, decimal_held}
 use Rattle.gj_number.proofs.Literals.LastDigits.{last_is}
 use Rattle.gj_number.proofs.Value.HeldLimits.{exact_of}

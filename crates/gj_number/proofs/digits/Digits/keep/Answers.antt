@@ -1,4 +1,4 @@
-use Rattle.std.proofs.Common.{◌+◌, refl, arith}
+use Rattle.gj_number.proofs.Common.{arith, refl, ◌+◌}
 use Rattle.gj_number.proofs.Literals.DigitBounds.{kept_below}
 use Rattle.gj_number.proofs.Literals.LastDigits.{last_of}
 use Rattle.gj_number.proofs.digits.Digits.keep.Goals as goal

@@ -1,6 +1,5 @@
 -- Where the number is not held digits change nothing, nor do zeros past the places that are counted.
-use Rattle.std.proofs.Common.{◌≡◌, ◌+◌, take, length, arith}
-use Rattle.std.proofs.lemmas.List.{length-take-le}
+use Rattle.gj_number.proofs.Common.{arith, length, length-take-le, take, ◌+◌, ◌≡◌}
 use Rattle.gj_number.proofs.Value.UnheldNumbers.{passed_fraction}
 use Rattle.gj_number.proofs.Literals.RunsOfZeros.{passed_zeros}
 use Rattle.gj_number.proofs.digits.Digits.pass_fraction.Goals as goal

@@ -1,5 +1,5 @@
 -- Where the number is not held, digits change nothing.
-use Rattle.std.proofs.Common.{take, arith}
+use Rattle.gj_number.proofs.Common.{arith, take}
 use Rattle.gj_number.proofs.Value.UnheldNumbers.{passed_natural}
 use Rattle.gj_number.proofs.digits.Digits.pass_natural.Goals as goal
 

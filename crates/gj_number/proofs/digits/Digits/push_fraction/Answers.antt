@@ -1,4 +1,4 @@
-use Rattle.std.proofs.Common.{◌+◌, inr, arith}
+use Rattle.gj_number.proofs.Common.{arith, inr, ◌+◌}
 use Rattle.gj_number.proofs.Literals.OneDigitMore.{keep_fraction, zero_fraction, past_fraction}
 use Rattle.gj_number.proofs.digits.Digits.push_fraction.Goals as goal
 

@@ -1,4 +1,4 @@
-use Rattle.std.proofs.Common.{arith}
+use Rattle.gj_number.proofs.Common.{arith}
 use Rattle.gj_number.proofs.Literals.OneDigitMore.{keep_natural, none_natural}
 use Rattle.gj_number.proofs.digits.Digits.push_natural.Goals as goal
 

@@ -1,6 +1,6 @@
 -- A magnitude past the limit stays past it.
-use Rattle.std.proofs.Common.{◌≡◌, take, fold, arith}
-use Rattle.gj_number.specs.Value.{with_digit}
+use Rattle.gj_number.proofs.Common.{arith, take, with_digit, ◌≡◌}
+use Rattle.std.proofs.Common.{fold}
 use Rattle.gj_number.proofs.Shorts.RunEnds.{fold_grows}
 use Rattle.gj_number.proofs.exponent.Exponent.pass_run.Goals as goal
 

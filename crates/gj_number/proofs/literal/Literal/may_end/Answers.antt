@@ -1,5 +1,4 @@
-use Rattle.std.proofs.Common.{◌≡◌, ◌∙◌, ap}
-use Rattle.gj_number.specs.Internal.NumberMachine.{may_end_in}
+use Rattle.gj_number.proofs.Common.{ap, may_end_in, ◌∙◌, ◌≡◌}
 use Rattle.gj_number.specs.Literal.{StandsFor}
 use Rattle.gj_number.proofs.Literals.LiteralBytes.{may_end_is}
 use Rattle.gj_number.proofs.literal.Literal.may_end.Goals as goal

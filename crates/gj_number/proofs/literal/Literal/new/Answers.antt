@@ -1,5 +1,4 @@
-use Rattle.std.proofs.Common.{refl}
-use Rattle.gj_number.specs.Internal.NumberMachine.{start}
+use Rattle.gj_number.proofs.Common.{refl, start}
 use Rattle.gj_number.specs.Literal.{StandsFor}
 use Rattle.gj_number.proofs.literal.Literal.new.Goals as goal
 

@@ -1,8 +1,6 @@
-use Rattle.std.proofs.Common.{◌≡◌, ◌+◌, take, fold, length, true, false, refl, sym, ◌∙◌, arith}
-use Rattle.std.proofs.lemmas.List.{length-take-le}
-use Rattle.gj_number.specs.Value.{with_digit}
+use Rattle.gj_number.proofs.Common.{Scan, arith, false, length, length-take-le, refl, start, sym, take, true, with_digit, ◌+◌, ◌∙◌, ◌≡◌}
+use Rattle.std.proofs.Common.{fold}
 use Rattle.gj_number.specs.Literal.{StandsFor}
-use Rattle.gj_number.specs.Internal.NumberMachine.{Scan, start}
 use Rattle.gj_number.proofs.Grammar.ScanPaths.{reaches_on}
 use Rattle.gj_number.proofs.Literals.LiteralBytes.{natural_on, fraction_on, exponent_on}
 use Rattle.gj_number.proofs.literal.Literal.pass_run.Goals as goal

@@ -1,5 +1,5 @@
-use Rattle.std.proofs.Common.{◌≡◌, Some, None, sym, ◌∙◌}
-use Rattle.gj_number.specs.Internal.NumberMachine.{class_of, next_of, taken, start}
+use Rattle.gj_number.proofs.Common.{None, Some, next_of, start, sym, taken, ◌∙◌, ◌≡◌}
+use Rattle.gj_number.specs.Internal.NumberMachine.{class_of}
 use Rattle.gj_number.specs.Literal.{StandsFor}
 use Rattle.gj_number.proofs.Grammar.ScanPaths.{reaches_one}
 use Rattle.gj_number.proofs.Literals.LiteralBytes.{begins, begins_none}

@@ -1,7 +1,5 @@
 -- A prefix of the piece, byte by byte, and runs that change nothing.
-use Rattle.std.proofs.Common.{ℕ, ◌+◌, ◌≤◌, List, ◌++◌, take, length, sym, subst, arith}
-use Rattle.std.proofs.lemmas.List.{take_more}
-use Rattle.gj_number.specs.Grammar.{BeginsNumber}
+use Rattle.gj_number.proofs.Common.{BeginsNumber, List, arith, length, subst, sym, take, take_more, ℕ, ◌++◌, ◌+◌, ◌≤◌}
 use Rattle.gj_number.specs.Literal.{StandsFor}
 use Rattle.gj_number.proofs.Literals.LiteralPieces.{one_more, run_stands, stands_begin}
 use Rattle.gj_number.proofs.literal.Literal.push_piece.Goals as goal

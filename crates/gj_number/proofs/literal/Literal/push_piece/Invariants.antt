@@ -1,4 +1,4 @@
-use Rattle.std.proofs.Common.{ℕ, ◌-◌, ◌≤◌, List, ◌++◌, take, length}
+use Rattle.gj_number.proofs.Common.{List, length, take, ℕ, ◌++◌, ◌-◌, ◌≤◌}
 use Rattle.gj_number.specs.Literal.{StandsFor}
 use Rattle.gj_number.proofs.literal.Literal.push_piece.Given as goal
 

@@ -1,10 +1,8 @@
-use Rattle.std.proofs.Common.{◌≡◌, ℕ, Some, refl, arith}
-use Rattle.gj_number.specs.Internal.NumberMachine.{Scan, class_of, next_of, taken}
+use Rattle.gj_number.proofs.Common.{AfterLetter, AfterMinus, AfterPoint, AfterSign, AfterZero, InExponent, InFraction, InNatural, Scan, Some, Start}
+use Rattle.gj_number.proofs.Common.{State, arith, next_of, refl, taken, ℕ, ◌≡◌}
+use Rattle.gj_number.specs.Internal.NumberMachine.{class_of}
 use Rattle.gj_number.specs.Literal.{KeepsScan}
 use Rattle.gj_number.specs.declared.literal.Literal.{Literal}
-use Rattle.gj_number.specs.declared.state.State.{State}
-use Rattle.gj_number.specs.declared.state.State.TheVariants.{Start, AfterMinus, AfterZero, InNatural, AfterPoint, InFraction, AfterLetter, AfterSign}
-use Rattle.gj_number.specs.declared.state.State.TheVariants.{InExponent}
 use Rattle.gj_number.proofs.Grammar.StateMoves.{digit_into, before_fraction_from}
 use Rattle.gj_number.proofs.literal.Literal.take.Goals as goal
 

@@ -1,4 +1,4 @@
-use Rattle.std.proofs.Common.{sym, ◌∙◌}
+use Rattle.gj_number.proofs.Common.{sym, ◌∙◌}
 use Rattle.gj_number.specs.Literal.{StandsFor}
 use Rattle.gj_number.proofs.Literals.LiteralBytes.{value_by}
 use Rattle.gj_number.proofs.literal.Literal.value.Goals as goal

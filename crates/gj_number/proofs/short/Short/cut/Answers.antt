@@ -1,6 +1,4 @@
-use Rattle.std.proofs.Common.{Some, ap, sym, ◌∙◌, rules, w64}
-use mir.Val.{SFits}
-use Rattle.std.proofs.lemmas.Int.{to_z-of_z}
+use Rattle.gj_number.proofs.Common.{SFits, Some, ap, rules, sym, to_z-of_z, w64, ◌∙◌}
 use Rattle.gj_number.proofs.Shorts.ShortDecimals.{cut_some}
 use Rattle.gj_number.proofs.short.Short.cut.Goals as goal
 

@@ -1,8 +1,5 @@
-use Rattle.std.proofs.Common.{◌≡◌, ◌*◌, Some, ap, sym, ◌∙◌, rules, w32, arith}
-use Rattle.std.specs.Prelude.{option_map}
-use mir.Val.{SFits}
-use Rattle.std.proofs.lemmas.Int.{to_z-of_z}
-use Rattle.gj_number.specs.Exact.{signed, cut_within, cut_of}
+use Rattle.gj_number.proofs.Common.{SFits, Some, ap, arith, cut_of, cut_within, option_map, rules, signed, sym, to_z-of_z, ◌*◌, ◌∙◌, ◌≡◌}
+use Rattle.std.proofs.Common.{w32}
 use Rattle.gj_number.specs.Short.{exact_of}
 use Rattle.gj_number.proofs.Shorts.ShortDecimals.{cut_within_is}
 use Rattle.gj_number.proofs.short.Short.cut_within.Goals as goal

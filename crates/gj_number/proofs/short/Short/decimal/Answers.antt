@@ -1,5 +1,4 @@
-use Rattle.std.proofs.Common.{sym, ◌∙◌, arith}
-use Rattle.std.proofs.lemmas.Int.{ints}
+use Rattle.gj_number.proofs.Common.{arith, ints, sym, ◌∙◌}
 use Rattle.gj_number.proofs.Shorts.ShortDecimals.{short_zero, short_made}
 use Rattle.gj_number.proofs.short.Short.decimal.Goals as goal
 

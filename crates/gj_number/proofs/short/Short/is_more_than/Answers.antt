@@ -1,4 +1,4 @@
-use Rattle.std.proofs.Common.{◌≡◌, ◌*◌, ◌/◌, ◌-◌, ◌^◌, ◌∙◌, arith}
+use Rattle.gj_number.proofs.Common.{arith, ◌*◌, ◌-◌, ◌/◌, ◌^◌, ◌∙◌, ◌≡◌}
 use Rattle.std.proofs.Math.Nat.{div-mul-le_self}
 use Rattle.gj_number.proofs.Shorts.ShortDecimals.{cut_lowered, precise_is, not_precise, unequal_iff, differ_iff}
 use Rattle.gj_number.proofs.short.Short.is_more_than.Goals as goal

@@ -1,4 +1,4 @@
-use Rattle.std.proofs.Common.{◌*◌, ◌/◌, ◌-◌, ◌^◌, arith}
+use Rattle.gj_number.proofs.Common.{arith, ◌*◌, ◌-◌, ◌/◌, ◌^◌}
 use Rattle.gj_number.proofs.Shorts.ShortDecimals.{precise_is, not_precise, unequal_iff, differ_iff}
 use Rattle.gj_number.proofs.short.Short.is_precise.Goals as goal
 

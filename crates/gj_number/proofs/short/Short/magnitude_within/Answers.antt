@@ -1,5 +1,4 @@
-use Rattle.std.proofs.Common.{◌*◌, ◌-◌, sym, ◌∙◌, ap, arith}
-use Rattle.gj_number.specs.Internal.KeptParts.{limited_to}
+use Rattle.gj_number.proofs.Common.{ap, arith, limited_to, sym, ◌*◌, ◌-◌, ◌∙◌}
 use Rattle.gj_number.proofs.Shorts.ShortDecimals.{cut_raised, cut_lowered}
 use Rattle.gj_number.proofs.short.Short.magnitude_within.Goals as goal
 

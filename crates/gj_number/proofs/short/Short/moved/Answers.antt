@@ -1,4 +1,4 @@
-use Rattle.std.proofs.Common.{◌≡◌, ◌≤◌, ◌*◌, ◌-◌, ◌<◌, ◌^◌, ℕ, sym, arith}
+use Rattle.gj_number.proofs.Common.{arith, sym, ℕ, ◌*◌, ◌-◌, ◌<◌, ◌^◌, ◌≡◌, ◌≤◌}
 use Rattle.gj_number.proofs.Literals.DigitBounds.{scaled_below}
 use Rattle.gj_number.proofs.Value.NormalForm.{ten_above_zero}
 use Rattle.gj_number.proofs.short.Short.moved.Goals as goal

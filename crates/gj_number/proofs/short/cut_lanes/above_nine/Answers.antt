@@ -1,6 +1,5 @@
-use Rattle.std.proofs.Common.{◌≡◌, Bool, List, replicate, ltb, sym, subst, w8}
-use lib.Lanes.{Each1, zip2, sel_l}
-use Rattle.std.proofs.lemmas.Simd.{tops_compared}
+use Rattle.gj_number.proofs.Common.{Bool, List, ltb, replicate, subst, sym, tops_compared, w8, zip2, ◌≡◌}
+use lib.Lanes.{Each1, sel_l}
 use Rattle.gj_number.proofs.Shorts.CutLanes.{less_nine, nine_only, nine_off}
 use Rattle.gj_number.proofs.short.cut_lanes.above_nine.Goals as goal
 

@@ -1,4 +1,4 @@
-use Rattle.std.proofs.Common.{◌<◌, ◌∙◌, ℕ, List, sym, subst}
+use Rattle.gj_number.proofs.Common.{List, subst, sym, ℕ, ◌<◌, ◌∙◌}
 use lib.Lanes.{Each1}
 use Rattle.gj_number.proofs.Shorts.CutLanes.{greater_is, digits_in_both, all_below_ten}
 use Rattle.gj_number.proofs.short.cut_lanes.are_digits.Goals as goal

@@ -1,6 +1,5 @@
-use Rattle.std.proofs.Common.{◌<◌, ℕ, List, subst}
-use lib.Bits.{bit_and}
-use lib.Lanes.{Each1, zip2}
+use Rattle.gj_number.proofs.Common.{List, bit_and, subst, zip2, ℕ, ◌<◌}
+use lib.Lanes.{Each1}
 use Rattle.gj_number.proofs.Shorts.CutLanes.{greater_is}
 use Rattle.gj_number.proofs.Shorts.LastDigits.{three_lanes, both_small, lanes_long, lanes_fit, digits_before}
 use Rattle.gj_number.proofs.short.cut_lanes.are_last_digits.Goals as goal

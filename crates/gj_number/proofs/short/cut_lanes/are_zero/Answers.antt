@@ -1,5 +1,4 @@
-use Rattle.std.proofs.Common.{refl, arith}
-use Rattle.std.proofs.lemmas.Bool.Decides.{nat_tests}
+use Rattle.gj_number.proofs.Common.{arith, nat_tests, refl}
 use Rattle.gj_number.proofs.Shorts.CutLanes.{all_zero, zero_of_all}
 use Rattle.gj_number.proofs.short.cut_lanes.are_zero.Goals as goal
 

@@ -1,4 +1,4 @@
-use Rattle.std.proofs.Common.{ap, ◌∙◌, ◌++◌, get_or}
+use Rattle.gj_number.proofs.Common.{ap, get_or, ◌++◌, ◌∙◌}
 use Rattle.gj_number.specs.Internal.CutLanes.{by_parts}
 use Rattle.gj_number.proofs.Shorts.CutLanes.{cut_at, cut_below, first_cut, second_cut, sevens_small}
 use Rattle.gj_number.proofs.short.cut_lanes.cuts_of.Goals as goal

@@ -1,7 +1,5 @@
-use Rattle.std.proofs.Common.{◌≡◌, ◌+◌, ◌*◌, get_or, length, take, ap, ◌∙◌, arith}
-use Rattle.std.proofs.lemmas.List.{get_or-map, get_or-take, length-map, length-take-le}
-use Rattle.gj_number.specs.Internal.DigitLanes.{lane_of}
-use Rattle.gj_number.specs.Internal.CutLanes.{before_point, after_point, in_lanes}
+use Rattle.gj_number.proofs.Common.{after_point, ap, arith, before_point, get_or, get_or-map, get_or-take, in_lanes, lane_of, length, length-map}
+use Rattle.gj_number.proofs.Common.{length-take-le, take, ◌*◌, ◌+◌, ◌∙◌, ◌≡◌}
 use Rattle.gj_number.proofs.Shorts.CutLanes.{placed, placed_ok, placed_is, integer_is, digits_there}
 use Rattle.gj_number.proofs.short.cut_lanes.placed_digits.Goals as goal
 

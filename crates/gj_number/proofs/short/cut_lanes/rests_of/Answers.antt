@@ -1,6 +1,5 @@
-use Rattle.std.proofs.Common.{◌≡◌, ℕ, List, subst}
+use Rattle.gj_number.proofs.Common.{List, rests_in, subst, ℕ, ◌≡◌}
 use lib.Lanes.{Each1}
-use Rattle.gj_number.specs.Internal.CutLanes.{rests_in}
 use Rattle.gj_number.proofs.Shorts.CutLanes.{rests_in_both, greater_is}
 use Rattle.gj_number.proofs.short.cut_lanes.rests_of.Goals as goal
 

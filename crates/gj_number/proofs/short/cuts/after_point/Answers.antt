@@ -1,5 +1,4 @@
-use Rattle.std.proofs.Common.{◌≡◌, ◌∙◌, ap, sym, arith, get_or}
-use Rattle.gj_number.specs.Bytes.{decimal_point}
+use Rattle.gj_number.proofs.Common.{ap, arith, decimal_point, get_or, sym, ◌∙◌, ◌≡◌}
 use Rattle.gj_number.proofs.Shorts.FirstMarks.{lowest_at}
 use Rattle.gj_number.proofs.short.cuts.after_point.Goals as goal
 use Rattle.gj_number.proofs.short.cuts.after_point.Goals.{else-integers-via-then-integers+then-lowest-piece+else-piece-lowest}

@@ -1,7 +1,4 @@
-use Rattle.std.proofs.Common.{◌∙◌, sym, ap, rules, w64}
-use mir.Val.{SFits}
-use Rattle.std.proofs.lemmas.Int.{to_z-of_z}
-use Rattle.gj_number.specs.Exact.{signed}
+use Rattle.gj_number.proofs.Common.{SFits, ap, rules, signed, sym, to_z-of_z, w64, ◌∙◌}
 use Rattle.gj_number.proofs.Shorts.CutPairs.{cut_there, usual_small}
 use Rattle.gj_number.proofs.short.cuts.cuts_before.Goals as goal
 

@@ -1,7 +1,5 @@
-use Rattle.std.proofs.Common.{◌∙◌, ap, arith, length, take}
-use Rattle.std.proofs.lemmas.List.{length-map, length-take-le}
-use Rattle.gj_number.specs.Bytes.{comma}
-use Rattle.gj_number.specs.Internal.CutLanes.{is_mark, number_marks}
+use Rattle.gj_number.proofs.Common.{ap, arith, comma, length, length-map, length-take-le, number_marks, take, ◌∙◌}
+use Rattle.gj_number.specs.Internal.CutLanes.{is_mark}
 use Rattle.gj_number.proofs.Shorts.FirstMarks.{left_by, marks_found, marks_small, more_marks, number_length, point_first}
 use Rattle.gj_number.proofs.short.cuts.first_marks.Goals as goal
 

@@ -1,8 +1,5 @@
-use Rattle.std.proofs.Common.{◌%◌, ◌^◌, map, take, drop, ap, ◌∙◌, arith, length-drop}
-use lib.Lanes.{mask_l}
-use Rattle.std.proofs.lemmas.List.{length-map, length-take-le}
+use Rattle.gj_number.proofs.Common.{ap, arith, drop, is_mark_by, length-drop, length-map, length-take-le, map, mask_l, take, ◌%◌, ◌^◌, ◌∙◌}
 use Rattle.std.proofs.lemmas.Simd.{mask_l-mod}
-use Rattle.gj_number.specs.Internal.CutLanes.{is_mark_by}
 use Rattle.gj_number.proofs.Shorts.FirstMarks.{two_tests}
 use Rattle.gj_number.proofs.short.cuts.marks_at.Goals as goal
 

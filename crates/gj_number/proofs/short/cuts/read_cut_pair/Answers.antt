@@ -1,8 +1,7 @@
-use Rattle.std.proofs.Common.{◌+◌, ◌-◌, ◌%◌, ◌∙◌, ℕ, drop, refl, ap, subst, arith}
+use Rattle.gj_number.proofs.Common.{StartsSigned, StartsWithNumber, ap, arith, drop, refl, subst, ℕ, ◌%◌, ◌+◌, ◌-◌, ◌∙◌}
 use Rattle.gj_number.specs.Cuts.{second_after}
-use Rattle.gj_number.specs.Short.{exact_of, StartsWithNumber}
+use Rattle.gj_number.specs.Short.{exact_of}
 use Rattle.gj_number.specs.Internal.NumberMachine.{class_of}
-use Rattle.gj_number.specs.Internal.DigitRuns.{StartsSigned}
 use Rattle.gj_number.proofs.Shorts.CutPairs.{after_other, span_on}
 use Rattle.gj_number.proofs.Shorts.NumberPairs.{comma_other}
 use Rattle.gj_number.proofs.Shorts.UsualMarks.{pair_marks, first_mark, second_mark, one_integer, other_integer, one_span}

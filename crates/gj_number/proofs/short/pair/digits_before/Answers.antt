@@ -1,10 +1,6 @@
-use Rattle.std.proofs.Common.{◌≡◌, ◌+◌, ◌≤◌, List, ℕ, ◌-◌, ◌∙◌, get_or, length, drop, ap, length-drop, subst, arith}
-use Rattle.std.proofs.lemmas.List.{length-take, take_rest}
+use Rattle.gj_number.proofs.Common.{List, SpellsUnsigned, ap, arith, bool_byte, drop, get_or, length, length-drop, length-take, subst, take_rest}
+use Rattle.gj_number.proofs.Common.{with_value, zero_digit, ℕ, ◌+◌, ◌-◌, ◌∙◌, ◌≡◌, ◌≤◌}
 use Rattle.std.specs.List.{fold}
-use mir.Val.{bool_byte}
-use Rattle.gj_number.specs.Bytes.{zero_digit}
-use Rattle.gj_number.specs.Internal.DigitLanes.{with_value}
-use Rattle.gj_number.specs.Internal.DigitRuns.{SpellsUnsigned}
 use Rattle.gj_number.proofs.Shorts.NumberPrefixes.{sign_at, sign_length, one_of, short_small, short_plain}
 use Rattle.gj_number.proofs.Shorts.PointedNumbers.{slice_pointed, usual_one, usual_length, one_before_point, point_after_one}
 use Rattle.gj_number.proofs.short.pair.digits_before.Goals as goal

@@ -1,5 +1,5 @@
-use Rattle.std.proofs.Common.{◌≡◌, ◌+◌, ◌++◌, ℕ, List, length, drop, replicate, sym, subst, arith}
-use Rattle.gj_number.specs.Short.{exact_of, StartsUsualPair, StartsWithPair}
+use Rattle.gj_number.proofs.Common.{List, StartsUsualPair, StartsWithPair, arith, drop, length, replicate, subst, sym, ℕ, ◌++◌, ◌+◌, ◌≡◌}
+use Rattle.gj_number.specs.Short.{exact_of}
 use Rattle.gj_number.proofs.Shorts.CopiedNumbers.{pair_there, usual_pair_more, usual_pair_end}
 use Rattle.gj_number.proofs.short.pair.read_last_pair.Goals as goal
 

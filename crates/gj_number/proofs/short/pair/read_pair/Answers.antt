@@ -1,9 +1,5 @@
-use Rattle.std.proofs.Common.{◌≡◌, ◌∙◌, ap, List, ◌+◌, ◌-◌, ◌==◌, ◌^◌, ◌<◌, ◌≤◌, ℕ, get_or, take, drop, length, subst, sym, arith}
-use Rattle.std.proofs.lemmas.List.{take_rest}
-use mir.Val.{bool_byte}
-use Rattle.gj_number.specs.Bytes.{minus_sign, space, close_bracket}
-use Rattle.gj_number.specs.Short.{StartsUsual, StartsUsualPair}
-use Rattle.gj_number.specs.Internal.MovedPoint.{SpellsPlain}
+use Rattle.gj_number.proofs.Common.{List, SpellsPlain, StartsUsual, StartsUsualPair, ap, arith, bool_byte, close_bracket, drop, get_or, length}
+use Rattle.gj_number.proofs.Common.{minus_sign, space, subst, sym, take, take_rest, ℕ, ◌+◌, ◌-◌, ◌<◌, ◌==◌, ◌^◌, ◌∙◌, ◌≡◌, ◌≤◌}
 use Rattle.gj_number.proofs.Shorts.NumberPrefixes.{sign_length}
 use Rattle.gj_number.proofs.Shorts.PointedNumbers.{second_is}
 use Rattle.gj_number.proofs.Shorts.NumberPairs.{pair_front}

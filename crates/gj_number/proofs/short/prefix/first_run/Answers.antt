@@ -1,8 +1,7 @@
-use Rattle.std.proofs.Common.{All, ℕ, take, subst, ◌≡◌, ◌+◌, ◌-◌, ◌<◌, length, get_or, refl, arith}
+use Rattle.gj_number.proofs.Common.{IsDigit, arith, get_or, length, refl, subst, take, with_digit, ℕ, ◌+◌, ◌-◌, ◌<◌, ◌≡◌}
+use Rattle.std.proofs.Common.{All}
 use Rattle.std.proofs.lemmas.List.Elements.{All-more}
 use Rattle.std.proofs.lemmas.List.Sums.{fold_more}
-use Rattle.gj_number.specs.Bytes.{IsDigit}
-use Rattle.gj_number.specs.Value.{with_digit}
 use Rattle.gj_number.proofs.Shorts.RunEnds.{run_found}
 use Rattle.gj_number.proofs.Shorts.NumberPrefixes.{digit_room, digit_byte, other_byte, room_left}
 use Rattle.gj_number.proofs.short.prefix.first_run.Goals as goal

@@ -1,5 +1,4 @@
-use Rattle.std.proofs.Common.{◌≡◌, ◌+◌, ◌-◌, ◌*◌, ◌^◌, ℕ, subst, arith}
-use Rattle.gj_number.specs.Internal.DigitRuns.{SpellsOn}
+use Rattle.gj_number.proofs.Common.{SpellsOn, arith, subst, ℕ, ◌*◌, ◌+◌, ◌-◌, ◌^◌, ◌≡◌}
 use Rattle.gj_number.proofs.Literals.DigitBounds.{scaled_below}
 use Rattle.gj_number.proofs.Shorts.RunEnds.{rest_of_run}
 use Rattle.gj_number.proofs.Shorts.NumberPrefixes.{natural_fits, none_spells, joined_fits, joined_below, joined_spells, spells_more, spells_rest}

@@ -1,6 +1,4 @@
-use Rattle.std.proofs.Common.{◌≡◌, ◌+◌, ◌≤◌, ℕ, subst, get_or, length, sym, ◌∙◌, true, false, arith}
-use mir.Val.{bool_byte}
-use Rattle.gj_number.specs.Bytes.{IsNumberByte}
+use Rattle.gj_number.proofs.Common.{IsNumberByte, arith, bool_byte, false, get_or, length, subst, sym, true, ℕ, ◌+◌, ◌∙◌, ◌≡◌, ◌≤◌}
 use Rattle.gj_number.proofs.Shorts.OrdinaryNumbers.{laid, run_rest, natural_allowed, whole_ends, point_goes_on}
 use Rattle.gj_number.proofs.Shorts.NumberPrefixes.{sign_at, sign_length, spells_rest, below_power, one_of, whole_plain, point_plain}
 use Rattle.gj_number.proofs.short.prefix.long_number.Goals as goal

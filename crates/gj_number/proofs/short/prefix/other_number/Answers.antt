@@ -1,4 +1,4 @@
-use Rattle.std.proofs.Common.{refl, arith}
+use Rattle.gj_number.proofs.Common.{arith, refl}
 use Rattle.gj_number.proofs.Shorts.WrittenExponents.{plain_front}
 use Rattle.gj_number.proofs.short.prefix.other_number.Goals as goal
 use Rattle.gj_number.proofs.short.prefix.other_number.Goals.{then-count-eq0-via-then-count-eq0, then-count-eq0-via-else-count-eq0+then-not-may_stand}

@@ -1,5 +1,5 @@
-use Rattle.std.proofs.Common.{◌++◌, ℕ, List, length, drop, replicate, subst}
-use Rattle.gj_number.specs.Short.{exact_of, StartsWithNumber}
+use Rattle.gj_number.proofs.Common.{List, StartsWithNumber, drop, length, replicate, subst, ℕ, ◌++◌}
+use Rattle.gj_number.specs.Short.{exact_of}
 use Rattle.gj_number.proofs.Shorts.CopiedNumbers.{number_there}
 use Rattle.gj_number.proofs.short.prefix.read_copied.Goals as goal
 

@@ -1,7 +1,4 @@
-use Rattle.std.proofs.Common.{◌+◌, ◌≤◌, List, ℕ, subst, arith}
-use Rattle.std.proofs.lemmas.List.{take_rest}
-use mir.Val.{bool_byte}
-use Rattle.gj_number.specs.Internal.DigitRuns.{SpellsUnsigned}
+use Rattle.gj_number.proofs.Common.{List, SpellsUnsigned, arith, bool_byte, subst, take_rest, ℕ, ◌+◌, ◌≤◌}
 use Rattle.gj_number.proofs.Shorts.NumberPrefixes.{sign_at, sign_length, one_of, first_some, short_small, short_plain}
 use Rattle.gj_number.proofs.Shorts.WrittenExponents.{plain_front}
 use Rattle.gj_number.proofs.short.prefix.short_number.Goals as goal

@@ -1,5 +1,5 @@
-use Rattle.std.proofs.Common.{◌+◌, Bool, refl, sym, subst, arith}
-use Rattle.gj_number.specs.Short.{short_value, StartsWithNumber}
+use Rattle.gj_number.proofs.Common.{Bool, StartsWithNumber, arith, refl, subst, sym, ◌+◌}
+use Rattle.gj_number.specs.Short.{short_value}
 use Rattle.gj_number.proofs.Shorts.NumberPrefixes.{spells_rest}
 use Rattle.gj_number.proofs.Shorts.WrittenExponents.{exponent_front, few_written}
 use Rattle.gj_number.proofs.short.prefix.with_exponent.Goals as goal

@@ -1,7 +1,5 @@
-use Rattle.std.proofs.Common.{◌≡◌, ℕ, ◌+◌, ◌-◌, ◌<◌, ◌≤◌, ◌∙◌, get_or, length, map, take, drop, sym, ap, subst, arith, length-drop}
-use lib.Lanes.{mask_l}
-use Rattle.std.proofs.lemmas.List.{drop-drop, get_or-drop, length-map, length-take-le, take_rest}
-use Rattle.gj_number.specs.Internal.CutLanes.{is_mark_by, point_of, IsFirstMark}
+use Rattle.gj_number.proofs.Common.{IsFirstMark, ap, arith, drop, drop-drop, get_or, get_or-drop, is_mark_by, length, length-drop, length-map}
+use Rattle.gj_number.proofs.Common.{length-take-le, map, mask_l, point_of, subst, sym, take, take_rest, ℕ, ◌+◌, ◌-◌, ◌<◌, ◌∙◌, ◌≡◌, ◌≤◌}
 use Rattle.gj_number.proofs.Shorts.FirstMarks.{left_by, marks_small, more_marks, number_length, point_first, one_found}
 use Rattle.gj_number.proofs.short.spread.first_ends.Goals as goal
 

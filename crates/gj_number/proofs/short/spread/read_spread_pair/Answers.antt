@@ -1,5 +1,5 @@
-use Rattle.std.proofs.Common.{◌+◌, ℕ, subst, arith}
-use Rattle.gj_number.specs.Short.{exact_of, StartsWithNumber}
+use Rattle.gj_number.proofs.Common.{StartsWithNumber, arith, subst, ℕ, ◌+◌}
+use Rattle.gj_number.specs.Short.{exact_of}
 use Rattle.gj_number.proofs.Shorts.CutPairs.{line_feed_other, span_on}
 use Rattle.gj_number.proofs.Shorts.NumberPairs.{comma_other}
 use Rattle.gj_number.proofs.Shorts.UsualSpreads.{marks_there, first_mark, is_integer, marked_span, is_usual, one, other, other_signed}

@@ -1,12 +1,8 @@
 -- The runs are found by the bits of the lanes that are no digits.
-use Rattle.std.proofs.Common.{◌≡◌, ◌<◌, ◌≤◌, ◌+◌, ℕ, zero, suc, true, false, sym, List, [], take, get_or}
-use Rattle.std.proofs.Common.{length, refl, inl, arith, subst, append-nil, zero-add, ◌∙◌}
+use Rattle.gj_number.proofs.Common.{IsDigit, IsNumber, List, SpellsPlain, SpellsSign, SpellsUnsigned, append-nil, arith, false, get_or, inl, length}
+use Rattle.gj_number.proofs.Common.{refl, subst, suc, sym, take, true, zero, zero_digit, ℕ, [], ◌+◌, ◌<◌, ◌∙◌, ◌≡◌, ◌≤◌}
+use Rattle.std.proofs.Common.{zero-add}
 use Rattle.std.specs.Prelude.{pos}
-use Rattle.gj_number.specs.Grammar.{IsNumber}
-use Rattle.gj_number.specs.Bytes.{zero_digit, IsDigit}
-use Rattle.gj_number.specs.Denotation.{SpellsSign}
-use Rattle.gj_number.specs.Internal.DigitRuns.{SpellsUnsigned}
-use Rattle.gj_number.specs.Internal.MovedPoint.{SpellsPlain}
 use Rattle.gj_number.proofs.Grammar.SpelledParts.{number_from}
 use Rattle.gj_number.proofs.Shorts.NumberPrefixes.{short_plain}
 use Rattle.gj_number.proofs.Shorts.SixteenLanes.{natural_few, natural_ends, natural_spell, both_few, both_spell}

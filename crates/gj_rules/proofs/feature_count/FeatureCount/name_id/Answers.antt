@@ -1,5 +1,5 @@
 -- Within a value that holds no feature, a name changes nothing.
-use Rattle.std.proofs.Common.{refl}
+use Rattle.gj_rules.proofs.Common.{refl}
 use Rattle.gj_rules.proofs.Features.CleanFeatures.{named_within}
 use Rattle.gj_rules.proofs.feature_count.FeatureCount.name_id.Goals as goal
 

@@ -1,12 +1,7 @@
 -- The verdict, and all features of an admitted text.
-use Rattle.std.proofs.Common.{◌≡◌, ◌++◌, [], sym, ap, subst, ◌∙◌, arith, append-nil}
-use Rattle.std.specs.Option.{option_to_list}
-use Rattle.gj_json.specs.Events.{all_events}
-use Rattle.gj_json.specs.Text.{IsText}
-use Rattle.gj_json.specs.Tree.{Text}
-use Rattle.gj_rules.specs.FeatureFindings.{features_of}
+use Rattle.gj_rules.proofs.Common.{IsText, Stand, Text, all_events, ap, arith, features_from, features_of, option_to_list, subst, sym, [], ◌++◌, ◌∙◌}
+use Rattle.std.proofs.Common.{◌≡◌, append-nil}
 use Rattle.gj_rules.specs.FeatureLinter.{StandsFor}
-use Rattle.gj_rules.specs.Internal.FeatureSteps.{Stand, features_from}
 use Rattle.gj_rules.proofs.Features.FeaturesSaid.{all_told_says}
 use Rattle.gj_rules.proofs.Features.FeaturesSoFar.{all_features_are}
 use Rattle.gj_rules.proofs.Texts.LinterEvents

@@ -1,7 +1,6 @@
 -- What the piece leaves.
-use Rattle.std.proofs.Common.{sym, subst}
+use Rattle.gj_rules.proofs.Common.{Stand, subst, sym}
 use Rattle.gj_rules.specs.FeatureLinter.{StandsFor}
-use Rattle.gj_rules.specs.Internal.FeatureSteps.{Stand}
 use Rattle.gj_rules.proofs.Texts.LinterEvents
 use Rattle.gj_rules.proofs.feature_linter.FeatureLinter.feed.Goals as goal
 

@@ -1,6 +1,5 @@
 -- What the features were reported to is handed out as it lies.
-use Rattle.std.proofs.Common.{sym, subst, ◌∙◌}
-use Rattle.gj_rules.specs.FeatureFindings.{feature_findings}
+use Rattle.gj_rules.proofs.Common.{feature_findings, subst, sym, ◌∙◌}
 use Rattle.gj_rules.specs.FeaturesTold.{TellFindings}
 use Rattle.gj_rules.proofs.feature_linter.FeatureLinter.finish.Goals as goal
 

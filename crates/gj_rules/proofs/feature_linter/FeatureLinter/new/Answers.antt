@@ -1,6 +1,6 @@
 -- Before the first byte no event has come.
+use Rattle.gj_rules.proofs.Common.{Stand}
 use Rattle.gj_rules.specs.FeatureLinter.{StandsFor}
-use Rattle.gj_rules.specs.Internal.FeatureSteps.{Stand}
 use Rattle.gj_rules.proofs.Texts.LinterEvents.{new_told}
 use Rattle.gj_rules.proofs.feature_linter.FeatureLinter.new.Goals as goal
 

@@ -1,7 +1,6 @@
 -- The features that are complete in the bytes that were taken, as each text has them that goes on so.
-use Rattle.std.proofs.Common.{sym, subst, arith}
+use Rattle.gj_rules.proofs.Common.{Stand, arith, features_by, subst, sym}
 use Rattle.gj_rules.specs.FeatureLinter.{StandsFor}
-use Rattle.gj_rules.specs.Internal.FeatureSteps.{Stand, features_by}
 use Rattle.gj_rules.proofs.feature_linter.FeatureLinter.sink.Goals as goal
 
 pub returns-clause-told : goal.returns-clause-told

@@ -1,8 +1,7 @@
 -- The feature that ends is reported as the definition says.
-use Rattle.std.proofs.Common.{Some, sym, ◌∙◌}
+use Rattle.gj_rules.proofs.Common.{core_of, starts_at, sym, ◌∙◌}
+use Rattle.std.proofs.Common.{Some}
 use Rattle.gj_rules.specs.CleanFeature.{feature_of}
-use Rattle.gj_rules.specs.Internal.FeatureSteps.{starts_at}
-use Rattle.gj_rules.specs.Internal.RulesState.{core_of}
 use Rattle.gj_rules.proofs.Features.CleanFeatures.{closes, closes_clean}
 use Rattle.gj_rules.proofs.Features.FeaturesSoFar.{told_more}
 use Rattle.gj_rules.proofs.feature_rules.FeatureRules.tell_clean.Goals as goal

@@ -1,4 +1,4 @@
-use Rattle.std.proofs.Common.{sym, ◌∙◌}
+use Rattle.gj_rules.proofs.Common.{sym, ◌∙◌}
 use Rattle.gj_rules.proofs.Features.EventsPassed.{ends_outside}
 use Rattle.gj_rules.proofs.feature_rules.FeatureRules.tell_close_object.Goals as goal
 

@@ -1,7 +1,6 @@
 -- One event more reports what the definition says that it completes.
-use Rattle.std.proofs.Common.{◌++◌, sym, ap, subst, ◌∙◌, append-nil}
-use Rattle.std.specs.Option.{option_to_list}
-use Rattle.gj_rules.specs.Internal.FeatureSteps.{count_at}
+use Rattle.gj_rules.proofs.Common.{ap, count_at, option_to_list, subst, sym, ◌++◌, ◌∙◌}
+use Rattle.std.proofs.Common.{append-nil}
 use Rattle.gj_rules.proofs.Features.FeaturesSoFar.{told_more}
 use Rattle.gj_rules.proofs.feature_rules.FeatureRules.tell_concerned.Goals as goal
 

@@ -1,7 +1,5 @@
 -- The name, the beginning of the object, and the name in it.
-use Rattle.std.proofs.Common.{List, subst}
-use Rattle.gj_json.specs.declared.event.Event.{Event}
-use Rattle.gj_rules.specs.Internal.FeatureSteps.{Stand}
+use Rattle.gj_rules.proofs.Common.{Event, List, Stand, subst}
 use Rattle.gj_rules.proofs.feature_rules.FeatureRules.tell_each_located.Goals as goal
 use Rattle.gj_json.proofs.Events.EventsInTurn.{around_three}
 

@@ -1,7 +1,5 @@
 -- The name, and the bracket after it.
-use Rattle.std.proofs.Common.{◌∷◌, [], List, subst, append_assoc}
-use Rattle.gj_json.specs.declared.event.Event.{Event}
-use Rattle.gj_rules.specs.Internal.FeatureSteps.{Stand}
+use Rattle.gj_rules.proofs.Common.{Event, List, Stand, append_assoc, subst, [], ◌∷◌}
 use Rattle.gj_rules.proofs.feature_rules.FeatureRules.tell_each_opened.Goals as goal
 
 pub returns : goal.returns

@@ -1,7 +1,5 @@
 -- The events, one after another.
-use Rattle.std.proofs.Common.{List, subst}
-use Rattle.gj_json.specs.declared.event.Event.{Event}
-use Rattle.gj_rules.specs.Internal.FeatureSteps.{Stand}
+use Rattle.gj_rules.proofs.Common.{Event, List, Stand, subst}
 use Rattle.gj_rules.proofs.feature_rules.FeatureRules.tell_each_typed.Goals as goal
 use Rattle.gj_json.proofs.Events.EventsInTurn.{three}
 

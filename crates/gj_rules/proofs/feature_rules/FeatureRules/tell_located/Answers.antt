@@ -1,6 +1,5 @@
 -- The beginning of a geometry within a feature adds a level.
-use Rattle.std.proofs.Common.{arith, ◌++◌}
-use Rattle.gj_json.specs.Head.{located_events}
+use Rattle.gj_rules.proofs.Common.{arith, located_events, ◌++◌}
 use Rattle.gj_rules.proofs.Features.EventsPassed.{opened, located_inside, same_count}
 use Rattle.gj_rules.proofs.feature_rules.FeatureRules.tell_located.Goals as goal
 

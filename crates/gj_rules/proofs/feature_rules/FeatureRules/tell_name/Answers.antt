@@ -1,7 +1,5 @@
-use Rattle.std.proofs.Common.{◌∷◌, ◌++◌, [], sym, subst}
-use Rattle.gj_json.specs.declared.event.What.{What}
+use Rattle.gj_rules.proofs.Common.{Stand, What, subst, sym, [], ◌++◌, ◌∷◌}
 use Rattle.gj_json.specs.declared.names.Known.{Known}
-use Rattle.gj_rules.specs.Internal.FeatureSteps.{Stand}
 use Rattle.gj_rules.proofs.feature_rules.FeatureRules.tell_name.Goals as goal
 
 pub returns-in-Id : goal.returns-in-Id

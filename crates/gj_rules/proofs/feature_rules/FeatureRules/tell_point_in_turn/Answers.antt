@@ -1,9 +1,6 @@
 -- The beginning, the position and the end, one after another.
-use Rattle.std.proofs.Common.{◌≡◌, ◌++◌, List, subst, append_assoc, ◌∙◌}
-use Rattle.gj_json.specs.declared.event.Event.{Event}
-use Rattle.gj_json.specs.Flat.{flat_events}
-use Rattle.gj_json.specs.Head.{located_events}
-use Rattle.gj_rules.specs.Internal.FeatureSteps.{Stand}
+use Rattle.gj_rules.proofs.Common.{Event, List, Stand, append_assoc, flat_events, located_events, subst, ◌++◌, ◌∙◌}
+use Rattle.std.proofs.Common.{◌≡◌}
 use Rattle.gj_rules.proofs.feature_rules.FeatureRules.tell_point_in_turn.Goals as goal
 
 by_parts : (xs ys zs ws : List Event) → ((xs ++ ys) ++ zs) ++ ws ≡ xs ++ (ys ++ (zs ++ ws))

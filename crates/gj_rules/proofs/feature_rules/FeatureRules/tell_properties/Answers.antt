@@ -1,5 +1,5 @@
 -- The beginning of the properties of a feature adds a level.
-use Rattle.std.proofs.Common.{arith, ◌++◌}
+use Rattle.gj_rules.proofs.Common.{arith, ◌++◌}
 use Rattle.gj_json.specs.Head.{opened_events}
 use Rattle.gj_rules.proofs.Features.EventsPassed.{opened, opened_inside, same_count}
 use Rattle.gj_rules.proofs.feature_rules.FeatureRules.tell_properties.Goals as goal

@@ -1,8 +1,6 @@
 -- A name that concerns no feature changes nothing, and reports none.
-use Rattle.std.proofs.Common.{None, sym, subst, append-nil}
-use Rattle.gj_json.specs.declared.event.What.{What}
-use Rattle.gj_rules.specs.Internal.FeatureSteps.{starts_at}
-use Rattle.gj_rules.specs.Internal.RulesState.{core_of}
+use Rattle.gj_rules.proofs.Common.{What, core_of, starts_at, subst, sym}
+use Rattle.std.proofs.Common.{None, append-nil}
 use Rattle.gj_rules.proofs.Features.EventsPassed.{counts_quiet, tells_quiet}
 use Rattle.gj_rules.proofs.Features.FeaturesSoFar.{told_more}
 use Rattle.gj_rules.proofs.feature_rules.FeatureRules.tell_quiet_name.Goals as goal

@@ -1,7 +1,6 @@
 -- The value of an `id` begins, and no feature has ended.
-use Rattle.std.proofs.Common.{None, sym, subst, ◌∙◌, append-nil}
-use Rattle.gj_rules.specs.Internal.FeatureSteps.{starts_at}
-use Rattle.gj_rules.specs.Internal.RulesState.{core_of}
+use Rattle.gj_rules.proofs.Common.{core_of, starts_at, subst, sym, ◌∙◌}
+use Rattle.std.proofs.Common.{None, append-nil}
 use Rattle.gj_rules.proofs.Features.CleanFeatures.{begins_id, id_untold}
 use Rattle.gj_rules.proofs.Features.FeaturesSoFar.{told_more}
 use Rattle.gj_rules.proofs.feature_rules.FeatureRules.tell_scalar.Goals as goal

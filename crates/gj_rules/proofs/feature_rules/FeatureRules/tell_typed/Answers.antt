@@ -1,7 +1,6 @@
 -- The beginning of an object in the list begins a feature, and within a feature it adds a level.
-use Rattle.std.proofs.Common.{arith, ◌++◌, sym, subst}
+use Rattle.gj_rules.proofs.Common.{FeaturesAre, arith, subst, sym, ◌++◌}
 use Rattle.gj_json.specs.Head.{typed_events}
-use Rattle.gj_rules.specs.Internal.FeatureSteps.{FeaturesAre}
 use Rattle.gj_rules.proofs.Features.EventsPassed.{opened, typed_element, typed_inside, same_count}
 use Rattle.gj_rules.proofs.feature_rules.FeatureRules.tell_typed.Goals as goal
 

@@ -1,5 +1,6 @@
 -- Levels that the rules ignore, and all of them in a value that holds no feature.
-use Rattle.std.proofs.Common.{◌≡◌, ◌+◌, ◌-◌, ◌<◌, ◌^◌, subst}
+use Rattle.gj_rules.proofs.Common.{subst, ◌+◌, ◌-◌, ◌<◌, ◌^◌}
+use Rattle.std.proofs.Common.{◌≡◌}
 use Rattle.gj_rules.proofs.Features.EventsPassed.{quiet_pass, leaves_all}
 use Rattle.gj_rules.proofs.feature_rules.FeatureRulesEventSink.pass.Goals as goal
 

@@ -1,8 +1,6 @@
 -- An event by its kind.
-use Rattle.std.proofs.Common.{◌≡◌, List, ◌∷◌, ◌++◌, [], sym, subst}
-use Rattle.gj_json.specs.declared.event.Event.{Event}
-use Rattle.gj_json.specs.declared.event.What.{What}
-use Rattle.gj_rules.specs.Internal.FeatureSteps.{Stand}
+use Rattle.gj_rules.proofs.Common.{Event, List, Stand, What, subst, sym, [], ◌++◌, ◌∷◌}
+use Rattle.std.proofs.Common.{◌≡◌}
 use Rattle.gj_rules.proofs.feature_rules.FeatureRulesEventSink.tell.Goals as goal
 
 -- the event is that of its kind at its place

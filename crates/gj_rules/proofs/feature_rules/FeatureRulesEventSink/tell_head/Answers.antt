@@ -1,7 +1,6 @@
-use Rattle.std.proofs.Common.{◌++◌, sym, subst}
+use Rattle.gj_rules.proofs.Common.{Stand, subst, sym, ◌++◌}
 use Rattle.gj_json.specs.declared.head.Head.{Head}
 use Rattle.gj_json.specs.Head.{head_events}
-use Rattle.gj_rules.specs.Internal.FeatureSteps.{Stand}
 use Rattle.gj_rules.proofs.feature_rules.FeatureRulesEventSink.tell_head.Goals as goal
 
 pub returns-in-Object : goal.returns-in-Object

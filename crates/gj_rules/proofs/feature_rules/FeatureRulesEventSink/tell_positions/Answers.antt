@@ -1,5 +1,5 @@
 -- Arrays of numbers within a value that holds no feature.
-use Rattle.gj_rules.specs.Internal.FeatureSteps.{Stand}
+use Rattle.gj_rules.proofs.Common.{Stand}
 use Rattle.gj_rules.proofs.Features.EventsPassed.{quiet_flats}
 use Rattle.gj_rules.proofs.Texts.PositionsMore.{none_more}
 use Rattle.gj_rules.proofs.feature_rules.FeatureRulesEventSink.tell_positions.Goals as goal

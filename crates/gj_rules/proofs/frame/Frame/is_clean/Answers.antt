@@ -1,6 +1,5 @@
 -- Nothing is found in the object where none of these looks shows anything.
-use Rattle.std.proofs.Common.{sym, ◌∙◌}
-use Rattle.gj_rules.specs.Internal.FrameReading.{frame_in}
+use Rattle.gj_rules.proofs.Common.{frame_in, sym, ◌∙◌}
 use Rattle.gj_rules.proofs.Objects.CleanFrames.{clean_is}
 use Rattle.gj_rules.proofs.Objects.MetRules.{none_by}
 use Rattle.gj_rules.proofs.frame.Frame.is_clean.Goals as goal

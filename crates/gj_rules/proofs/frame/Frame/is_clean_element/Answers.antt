@@ -1,8 +1,7 @@
 -- Nothing is found in the feature where none of these looks shows anything: it is no GeometryCollection of another's.
-use Rattle.std.proofs.Common.{◌≡◌, false, ap}
-use Rattle.gj_rules.specs.declared.role.Role.{Role}
+use Rattle.gj_rules.proofs.Common.{Role, ap, false, frame_in}
+use Rattle.std.proofs.Common.{◌≡◌}
 use Rattle.gj_rules.specs.Internal.FrameCalls.{is_nested}
-use Rattle.gj_rules.specs.Internal.FrameReading.{frame_in}
 use Rattle.gj_rules.proofs.Objects.CleanFrames.{clean_is}
 use Rattle.gj_rules.proofs.Objects.MetRules.{none_by}
 use Rattle.gj_rules.proofs.frame.Frame.is_clean_element.Goals as goal

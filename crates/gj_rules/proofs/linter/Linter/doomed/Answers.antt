@@ -1,6 +1,5 @@
 -- After a refusal no input is a text; before one, the events that each text has which begins so were reported to the rules.
-use Rattle.std.proofs.Common.{List, ◌++◌, length, arith, sym, subst, ◌∙◌}
-use Rattle.gj_json.specs.declared.event.Event.{Event}
+use Rattle.gj_rules.proofs.Common.{Event, List, arith, length, subst, sym, ◌++◌, ◌∙◌}
 use Rattle.gj_rules.specs.Linter.{StandsFor}
 use Rattle.gj_rules.specs.Rules.{StandsFor as RulesStandFor}
 use Rattle.gj_rules.proofs.Texts.LinterEvents.{taken_all}

@@ -1,5 +1,5 @@
 -- What the piece leaves.
-use Rattle.std.proofs.Common.{sym, subst}
+use Rattle.gj_rules.proofs.Common.{subst, sym}
 use Rattle.gj_rules.proofs.Texts.LinterEvents
 use Rattle.gj_rules.specs.Linter.{StandsFor}
 use Rattle.gj_rules.specs.Rules.{StandsFor as RulesStandFor}

@@ -1,6 +1,6 @@
 -- The verdict, where no event is left to the end.
-use Rattle.std.proofs.Common.{◌∙◌, List, None, Ok, ap, sym, subst, append-nil}
-use Rattle.gj_json.specs.declared.event.Event.{Event}
+use Rattle.gj_rules.proofs.Common.{Event, List, ap, subst, sym, ◌∙◌}
+use Rattle.std.proofs.Common.{None, Ok, append-nil}
 use Rattle.gj_rules.proofs.Texts.LinterEvents
 use Rattle.gj_rules.specs.Linter.{StandsFor}
 use Rattle.gj_rules.specs.Rules.{StandsFor as RulesStandFor}

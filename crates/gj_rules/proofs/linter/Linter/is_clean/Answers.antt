@@ -1,15 +1,10 @@
 -- A text in which nothing is found.
-use Rattle.std.proofs.Common.{◌≡◌, [], List, None, ap, sym, subst, append-nil}
-use Rattle.gj_json.specs.declared.event.Event.{Event}
+use Rattle.gj_rules.proofs.Common.{Event, Findings, IsVerdict, List, ap, subst, sym, text_warnings, verdict_of, warnings_of_none, []}
+use Rattle.std.proofs.Common.{◌≡◌, None, append-nil}
 use Rattle.gj_coords.specs.Internal.GatheredWarnings.{all_in}
-use Rattle.gj_coords.specs.Internal.WarningLaws.{warnings_of_none}
 use Rattle.gj_coords.proofs.Lists.ListsStoodFor.{empty_is}
 use Rattle.gj_rules.specs.Linter.{StandsFor, limits_of}
 use Rattle.gj_rules.specs.Rules.{StandsFor as RulesStandFor}
-use Rattle.gj_rules.specs.Internal.FrameMeaning.{Findings}
-use Rattle.gj_rules.specs.TextWarnings.{text_warnings}
-use Rattle.gj_rules.specs.Verdict.{IsVerdict}
-use Rattle.gj_rules.specs.Internal.VerdictParts.{verdict_of}
 use Rattle.gj_rules.proofs.Texts.LinterEvents
 use Rattle.gj_rules.proofs.Texts.OneEventMore.{answered}
 use Rattle.gj_rules.proofs.linter.Linter.is_clean.Goals as goal

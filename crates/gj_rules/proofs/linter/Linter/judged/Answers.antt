@@ -1,6 +1,5 @@
 -- The objects with a role are those of the events that were reported to the rules.
-use Rattle.std.proofs.Common.{List, sym, subst, arith}
-use Rattle.gj_json.specs.declared.event.Event.{Event}
+use Rattle.gj_rules.proofs.Common.{Event, List, arith, subst, sym}
 use Rattle.gj_rules.specs.Rules.{StandsFor as RulesStandFor}
 use Rattle.gj_rules.specs.Linter.{StandsFor}
 use Rattle.gj_rules.proofs.linter.Linter.judged.Goals as goal

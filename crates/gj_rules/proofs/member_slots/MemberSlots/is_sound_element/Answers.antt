@@ -1,11 +1,9 @@
 -- An object that stands as a feature and names itself something else has a fault.
+use Rattle.gj_rules.proofs.Common.{Role, Word, arith, false, is_allowed, refl, true, ◌∙◌}
 use denote.Enum.Bare.{true_same}
-use Rattle.std.proofs.Common.{◌≡◌, ◌≢◌, ◌∙◌, true, false, refl, arith}
+use Rattle.std.proofs.Common.{◌≡◌, ◌≢◌}
 use Rattle.std.proofs.lemmas.Grind.{common_steps}
-use Rattle.gj_json.specs.declared.names.Word.{Word}
 use Rattle.gj_json.specs.contracts.names.Word.{the_type}
-use Rattle.gj_rules.specs.declared.role.Role.{Role}
-use Rattle.gj_rules.specs.Role.{is_allowed}
 use Rattle.gj_rules.proofs.Objects.MetRules.{none_lesser}
 use Rattle.gj_rules.proofs.member_slots.MemberSlots.is_sound_element.Goals as goal
 

@@ -1,6 +1,6 @@
 -- The bits meet what is asked where nothing is wrong with the members, and only there.
-use Rattle.std.proofs.Common.{◌≡◌, bit_and, arith}
-use Rattle.std.proofs.lemmas.Bool.Decides.{nat_tests}
+use Rattle.gj_rules.proofs.Common.{arith, bit_and, nat_tests}
+use Rattle.std.proofs.Common.{◌≡◌}
 use Rattle.gj_rules.proofs.Objects.MetRules.{same_none, meets_is}
 use Rattle.gj_rules.proofs.member_slots.MemberSlots.meets.Goals as goal
 

@@ -1,10 +1,7 @@
 -- What is found for one type is what an object of that type asks for.
-use Rattle.std.proofs.Common.{Option, sym, ap, ◌∙◌}
-use Rattle.gj_coords.specs.declared.simple.Simple.{Simple}
-use Rattle.gj_rules.specs.Internal.FrameMeaning.{Findings, Shapes, MemberSlots}
-use Rattle.gj_rules.specs.Internal.FrameReading.{slots_in}
+use Rattle.gj_rules.proofs.Common.{Findings, MemberSlots, Shapes, Simple, alike, ap, asked_as, shapes_of, slots_in, sym, ◌∙◌}
+use Rattle.std.proofs.Common.{Option}
 use Rattle.gj_rules.specs.Internal.OpenMembers.{shapes_set}
-use Rattle.gj_rules.specs.Internal.Summaries.{shapes_of, alike, asked_as}
 use Rattle.gj_rules.proofs.Objects.AskedShapes.{asked_is}
 use Rattle.gj_rules.proofs.member_slots.MemberSlots.set_shape.Goals as goal
 

@@ -1,5 +1,5 @@
 -- A slot is set at the place of its name.
-use Rattle.std.proofs.Common.{arith}
+use Rattle.gj_rules.proofs.Common.{arith}
 use Rattle.gj_rules.proofs.Objects.SlotsByPlace.{faulty_set, sound_set}
 use Rattle.gj_rules.proofs.member_slots.MemberSlots.set_slot.Goals as goal
 

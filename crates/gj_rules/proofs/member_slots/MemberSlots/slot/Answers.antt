@@ -1,5 +1,5 @@
 -- The first member of a name lies at its place.
-use Rattle.gj_rules.specs.Internal.FrameReading.{slots_in}
+use Rattle.gj_rules.proofs.Common.{slots_in}
 use Rattle.gj_rules.proofs.Objects.SlotsByPlace.{slot_there, slot_not_there, slot_past}
 use Rattle.gj_rules.proofs.member_slots.MemberSlots.slot.Goals as goal
 use Rattle.gj_rules.proofs.member_slots.MemberSlots.slot.Goals.{else-index-lt-NAMES-via-then-index-lt-NAMES+else-self-index-eq1}

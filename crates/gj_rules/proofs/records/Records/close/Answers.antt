@@ -1,5 +1,5 @@
 -- A record is what its bytes are by themselves.
-use Rattle.gj_rules.specs.Records.{part_at}
+use Rattle.gj_rules.proofs.Common.{part_at}
 use Rattle.gj_rules.proofs.Parts.FoundRecords.{numbered_own}
 use Rattle.gj_rules.proofs.records.Records.close.Goals as goal
 

@@ -1,5 +1,6 @@
 -- The end of the input ends the open record, where it counts.
-use Rattle.std.proofs.Common.{◌≡◌, true, false, sym, ◌∙◌}
+use Rattle.gj_rules.proofs.Common.{false, sym, true, ◌∙◌}
+use Rattle.std.proofs.Common.{◌≡◌}
 use Rattle.gj_rules.proofs.Parts.RecordSteps.{finished_none, finished_some}
 use Rattle.gj_rules.proofs.records.Records.end.Goals as goal
 

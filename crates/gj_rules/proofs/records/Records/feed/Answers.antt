@@ -1,7 +1,6 @@
 -- The bytes up to the place were taken, and those beyond the limit change nothing.
-use Rattle.std.proofs.Common.{rules, ℕ, List, ◌++◌, take, append-nil, refl, sym, subst, arith}
-use Rattle.std.proofs.lemmas.List.{take_all}
-use Rattle.gj_rules.specs.RecordsStand.{HaveTold}
+use Rattle.gj_rules.proofs.Common.{HaveTold, List, arith, refl, rules, subst, sym, take, take_all, ◌++◌}
+use Rattle.std.proofs.Common.{ℕ, append-nil}
 use Rattle.gj_rules.proofs.Parts.RecordSteps.{none_told, then_told, over_rest, further, kept_on}
 use Rattle.gj_rules.proofs.records.Records.feed.Goals as goal
 

@@ -1,8 +1,8 @@
 -- What was reported of the bytes up to the place.
-use Rattle.std.proofs.Common.{ℕ, ◌-◌, ◌≤◌, List, ◌++◌, length, take}
-use Rattle.gj_rules.specs.declared.records.record.Record.{Record}
+use Rattle.gj_rules.proofs.Common.{HaveTold, List, Record, length, take, ◌++◌, ◌-◌, ◌≤◌}
+use Rattle.std.proofs.Common.{ℕ}
 use Rattle.gj_rules.specs.Internal.ToldRecords.{Keeps}
-use Rattle.gj_rules.specs.RecordsStand.{StandsFor, HaveTold}
+use Rattle.gj_rules.specs.RecordsStand.{StandsFor}
 use Rattle.gj_rules.proofs.records.Records.feed.Given as goal
 
 abbrev pub invariant-loop-at : goal.invariant-loop-at

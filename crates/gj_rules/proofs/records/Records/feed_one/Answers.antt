@@ -1,7 +1,6 @@
 -- The bytes up to the place were taken, and no record ended in them; those beyond the limit change nothing.
-use Rattle.std.proofs.Common.{rules, ℕ, ◌+◌, Bool, false, List, ◌++◌, length, take, append-nil, refl, sym, subst, ◌∙◌, arith}
-use Rattle.std.proofs.lemmas.List.{take_all}
-use Rattle.gj_rules.specs.RecordsStand.{HaveToldIf}
+use Rattle.gj_rules.proofs.Common.{Bool, HaveToldIf, List, arith, false, length, refl, rules, subst, sym, take, take_all, ◌++◌, ◌+◌, ◌∙◌}
+use Rattle.std.proofs.Common.{ℕ, append-nil}
 use Rattle.gj_rules.proofs.Parts.RecordSteps.{none_if, then_if, over_rest_if, further_at, kept_on}
 use Rattle.gj_rules.proofs.records.Records.feed_one.Goals as goal
 

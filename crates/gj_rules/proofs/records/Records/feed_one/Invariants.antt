@@ -1,8 +1,8 @@
 -- No record has ended in the bytes up to the place.
-use Rattle.std.proofs.Common.{ℕ, ◌-◌, ◌≤◌, false, List, ◌++◌, length, take}
-use Rattle.gj_rules.specs.declared.records.record.Record.{Record}
+use Rattle.gj_rules.proofs.Common.{HaveToldIf, List, Record, false, length, take, ◌++◌, ◌-◌, ◌≤◌}
+use Rattle.std.proofs.Common.{ℕ}
 use Rattle.gj_rules.specs.Internal.ToldRecords.{Keeps}
-use Rattle.gj_rules.specs.RecordsStand.{StandsFor, HaveToldIf}
+use Rattle.gj_rules.specs.RecordsStand.{StandsFor}
 use Rattle.gj_rules.proofs.records.Records.feed_one.Given as goal
 
 abbrev pub invariant-loop-at : goal.invariant-loop-at

@@ -1,5 +1,5 @@
 -- By what was reported so far.
-use Rattle.std.proofs.Common.{ap, sym, ◌∙◌}
+use Rattle.gj_rules.proofs.Common.{ap, sym, ◌∙◌}
 use Rattle.gj_rules.specs.SequenceStands.{is_valid_sequence}
 use Rattle.gj_rules.proofs.Parts.DecidedRecords.{decided_lasts, whole_so_far, fits_so_far}
 use Rattle.gj_rules.proofs.records.Records.is_decided.Goals as goal

@@ -1,7 +1,5 @@
 -- No part has ended, and the open one has no byte.
-use Rattle.std.proofs.Common.{[], refl, ap, sym, ◌∙◌, arith}
-use Rattle.gj_rules.specs.Records.{parts_from}
-use Rattle.gj_rules.specs.declared.sequence.verdict.SeqVerdict.{SeqVerdict}
+use Rattle.gj_rules.proofs.Common.{SeqVerdict, ap, arith, parts_from, refl, sym, [], ◌∙◌}
 use Rattle.gj_rules.proofs.Parts.PartCuts.{no_bytes_void}
 use Rattle.gj_rules.proofs.records.Records.new.Goals as goal
 

@@ -1,5 +1,5 @@
 -- Those before the limit.
-use Rattle.std.proofs.Common.{◌∙◌}
+use Rattle.gj_rules.proofs.Common.{◌∙◌}
 use Rattle.gj_rules.proofs.Parts.RecordSteps.{taken_so_far}
 use Rattle.gj_rules.proofs.records.Records.offset.Goals as goal
 

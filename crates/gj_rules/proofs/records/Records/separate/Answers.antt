@@ -1,7 +1,5 @@
 -- A separator begins a record, and ends the one before it.
-use Rattle.std.proofs.Common.{true, ◌+◌, [], ◌∷◌, ◌++◌, refl, ap, ◌∙◌, arith}
-use Rattle.gj_rules.specs.declared.records.framing.RecordEnd.TheVariants.{Separator}
-use Rattle.gj_rules.specs.Records.{separator_of}
+use Rattle.gj_rules.proofs.Common.{Separator, ap, arith, refl, separator_of, true, [], ◌++◌, ◌+◌, ◌∙◌, ◌∷◌}
 use Rattle.gj_rules.proofs.Parts.RecordSteps.{open_of, stand_open, next_open, passed_open, numbered, none_if, one_if, told_next}
 use Rattle.gj_rules.proofs.records.Records.separate.Goals as goal
 

@@ -1,5 +1,5 @@
 -- The bytes go to the open record.
-use Rattle.std.proofs.Common.{◌++◌, refl}
+use Rattle.gj_rules.proofs.Common.{refl, ◌++◌}
 use Rattle.gj_rules.proofs.Parts.RecordSteps.{open_of, stand_open, run_open}
 use Rattle.gj_rules.proofs.records.Records.take_run.Goals as goal
 

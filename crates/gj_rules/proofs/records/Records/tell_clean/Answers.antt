@@ -1,11 +1,5 @@
 -- The record that is reported has no warning.
-use Rattle.std.proofs.Common.{ap, refl, sym, subst, ◌∙◌}
-use Rattle.gj_coords.specs.declared.warnings.Warnings.{Warnings}
-use Rattle.gj_rules.specs.declared.records.framing.RecordEnd.TheVariants.{Separator}
-use Rattle.gj_rules.specs.declared.records.record.Record.{Record}
-use Rattle.gj_rules.specs.declared.verdict.Verdict.{Verdict}
-use Rattle.gj_rules.specs.RecordFindings.{IsNumberedVerdict}
-use Rattle.gj_rules.specs.Records.{part_at}
+use Rattle.gj_rules.proofs.Common.{IsNumberedVerdict, Record, Separator, Verdict, Warnings, ap, part_at, refl, subst, sym, ◌∙◌}
 use Rattle.gj_rules.proofs.Parts.FoundRecords.{numbered_own}
 use Rattle.gj_rules.proofs.records.Records.tell_clean.Goals as goal
 

@@ -1,7 +1,5 @@
 -- The record that is reported is the open one.
-use Rattle.std.proofs.Common.{ap, refl, sym, ◌∙◌}
-use Rattle.gj_rules.specs.declared.records.record.Record.{Record}
-use Rattle.gj_rules.specs.RecordFindings.{after}
+use Rattle.gj_rules.proofs.Common.{Record, after, ap, refl, sym, ◌∙◌}
 use Rattle.gj_rules.proofs.records.Records.tell_open.Goals as goal
 
 pub returns : goal.returns

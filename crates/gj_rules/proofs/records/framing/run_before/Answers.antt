@@ -1,7 +1,7 @@
 -- No byte before the place that was found is the wanted one.
-use Rattle.std.proofs.Common.{◌≡◌, ℕ, zero, suc, ◌<◌, ◌≤◌, Bool, true, false, nat_eq, List, [], ◌∷◌, length, take, Option, Some, None, refl, arith, unwrap_or}
+use Rattle.gj_rules.proofs.Common.{Bool, List, arith, false, has_byte, length, nat_eq, refl, suc, take, true, zero, [], ◌<◌, ◌∷◌, ◌≤◌}
+use Rattle.std.proofs.Common.{◌≡◌, ℕ, Option, Some, None, unwrap_or}
 use Rattle.memchr.specs.Find.{IsFirstByte, Passes, is_byte}
-use Rattle.gj_rules.specs.Internal.BytesBefore.{has_byte}
 use Rattle.gj_rules.proofs.records.framing.run_before.Goals as goal
 
 plain_head : (wanted byte : ℕ) (rest : List ℕ) (t : Bool) → nat_eq byte wanted ≡ t → (nat_eq byte wanted ≡ true → ⊥) → has_byte wanted rest ≡ false

@@ -1,9 +1,8 @@
 -- Nothing is found in the object that closes.
-use Rattle.std.proofs.Common.{◌≡◌, false, refl, sym, ap, ◌∙◌}
+use Rattle.gj_rules.proofs.Common.{Findings, ap, core_of, false, is_feeding, refl, sym, ◌∙◌}
+use Rattle.std.proofs.Common.{◌≡◌}
 use Rattle.gj_json.specs.declared.event.What.TheVariants as W
-use Rattle.gj_rules.specs.Internal.EventSteps.{is_feeding, popped}
-use Rattle.gj_rules.specs.Internal.FrameMeaning.{Findings}
-use Rattle.gj_rules.specs.Internal.RulesState.{core_of}
+use Rattle.gj_rules.specs.Internal.EventSteps.{popped}
 use Rattle.gj_rules.proofs.Objects.RestingSummaries.{names, rests}
 use Rattle.gj_rules.proofs.Texts.OneEventMore.{told_on, steps_taken}
 use Rattle.gj_rules.proofs.rules.FramedRules.close_clean.Goals as goal

@@ -1,5 +1,5 @@
 -- What the rules keep shows what the events do, and no more than the text has.
-use Rattle.std.proofs.Common.{sym, ◌∙◌}
+use Rattle.gj_rules.proofs.Common.{sym, ◌∙◌}
 use Rattle.gj_rules.proofs.Doom.DoomedTexts.{answers}
 use Rattle.gj_rules.proofs.rules.FramedRules.doomed.Goals as goal
 

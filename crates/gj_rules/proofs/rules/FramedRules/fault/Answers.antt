@@ -1,5 +1,4 @@
-use Rattle.std.proofs.Common.{ap}
-use Rattle.gj_rules.specs.Internal.FrameMeaning.{Findings}
+use Rattle.gj_rules.proofs.Common.{Findings, ap}
 use Rattle.gj_rules.proofs.Texts.OneEventMore.{answered}
 use Rattle.gj_rules.proofs.rules.FramedRules.fault.Goals as goal
 

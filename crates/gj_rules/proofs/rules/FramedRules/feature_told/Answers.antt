@@ -1,4 +1,5 @@
-use Rattle.std.proofs.Common.{◌≡◌, [], ◌∷◌, ap, arith}
+use Rattle.gj_rules.proofs.Common.{ap, arith, [], ◌∷◌}
+use Rattle.std.proofs.Common.{◌≡◌}
 use Rattle.gj_rules.proofs.rules.FramedRules.feature_told.Goals as goal
 
 pub returns-in-CloseObject : goal.returns-in-CloseObject

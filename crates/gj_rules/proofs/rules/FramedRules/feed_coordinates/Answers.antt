@@ -1,4 +1,4 @@
-use Rattle.std.proofs.Common.{refl, arith, ◌++◌, ◌∷◌, []}
+use Rattle.gj_rules.proofs.Common.{arith, refl, [], ◌++◌, ◌∷◌}
 use Rattle.gj_rules.proofs.Objects.FedSummaries.{not_whole, whole}
 use Rattle.gj_rules.proofs.rules.FramedRules.feed_coordinates.Goals as goal
 

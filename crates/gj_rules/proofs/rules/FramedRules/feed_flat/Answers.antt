@@ -1,5 +1,4 @@
-use Rattle.std.proofs.Common.{refl, arith, ◌++◌}
-use Rattle.gj_json.specs.Flat.{flat_events}
+use Rattle.gj_rules.proofs.Common.{arith, flat_events, refl, ◌++◌}
 use Rattle.gj_rules.proofs.Objects.FedSummaries.{not_whole, whole}
 use Rattle.gj_rules.proofs.rules.FramedRules.feed_flat.Goals as goal
 

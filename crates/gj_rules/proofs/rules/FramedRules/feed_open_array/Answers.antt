@@ -1,6 +1,4 @@
-use Rattle.std.proofs.Common.{refl, arith, ◌++◌, ◌∷◌, []}
-use Rattle.gj_json.specs.declared.event.What.{What}
-use Rattle.gj_coords.specs.Internal.SentEvents.{event_at}
+use Rattle.gj_rules.proofs.Common.{What, arith, event_at, refl, [], ◌++◌, ◌∷◌}
 use Rattle.gj_rules.proofs.Objects.FedSummaries.{not_whole, whole}
 use Rattle.gj_rules.proofs.rules.FramedRules.feed_open_array.Goals as goal
 

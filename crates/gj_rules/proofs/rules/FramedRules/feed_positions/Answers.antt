@@ -1,4 +1,4 @@
-use Rattle.std.proofs.Common.{refl}
+use Rattle.gj_rules.proofs.Common.{refl}
 use Rattle.gj_rules.proofs.Texts.PositionsMore.{positions_told}
 use Rattle.gj_rules.proofs.rules.FramedRules.feed_positions.Goals as goal
 

@@ -1,4 +1,4 @@
-use Rattle.std.proofs.Common.{◌∙◌}
+use Rattle.gj_rules.proofs.Common.{◌∙◌}
 use Rattle.gj_rules.proofs.Texts.OneEventMore.{judged_is}
 use Rattle.gj_rules.proofs.rules.FramedRules.judged.Goals as goal
 

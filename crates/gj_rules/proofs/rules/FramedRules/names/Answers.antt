@@ -1,4 +1,4 @@
-use Rattle.std.proofs.Common.{◌∙◌}
+use Rattle.gj_rules.proofs.Common.{◌∙◌}
 use Rattle.gj_rules.proofs.Objects.RestingSummaries.{rests}
 use Rattle.gj_rules.proofs.rules.FramedRules.names.Goals as goal
 

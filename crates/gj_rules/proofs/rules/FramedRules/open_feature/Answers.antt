@@ -1,5 +1,5 @@
-use Rattle.std.proofs.Common.{◌≡◌, false, refl, ◌∙◌}
-use Rattle.gj_rules.specs.Internal.EventSteps.{is_feeding}
+use Rattle.gj_rules.proofs.Common.{false, is_feeding, refl, ◌∙◌}
+use Rattle.std.proofs.Common.{◌≡◌}
 use Rattle.gj_rules.proofs.Objects.RestingSummaries.{rests, opens_feature}
 use Rattle.gj_rules.proofs.Texts.OneEventMore.{told_on, steps_taken}
 use Rattle.gj_rules.proofs.rules.FramedRules.open_feature.Goals as goal

@@ -1,5 +1,5 @@
 -- The outermost frame is the first.
-use Rattle.std.proofs.Common.{sym, arith}
+use Rattle.gj_rules.proofs.Common.{arith, sym}
 use Rattle.gj_rules.specs.Internal.RulesState.{no_frame}
 use Rattle.gj_rules.proofs.Doom.InsideValues.{first_root}
 use Rattle.gj_rules.proofs.rules.FramedRules.outermost.Goals as goal

@@ -1,9 +1,7 @@
 -- The frame that was kept before it is the innermost one, as it was.
-use Rattle.std.proofs.Common.{◌-◌, map, reverse, take, slice_index_or, ap, ◌∙◌, arith}
-use Rattle.gj_rules.specs.declared.mode.Mode.{Mode}
-use Rattle.gj_rules.specs.Internal.EventSteps.{Core, mode_behind}
-use Rattle.gj_rules.specs.Internal.FrameReading.{frame_in}
-use Rattle.gj_rules.specs.Internal.RulesState.{no_frame, core_of}
+use Rattle.gj_rules.proofs.Common.{Core, Mode, ap, arith, core_of, frame_in, map, mode_behind, reverse, take, ◌-◌, ◌∙◌}
+use Rattle.std.proofs.Common.{slice_index_or}
+use Rattle.gj_rules.specs.Internal.RulesState.{no_frame}
 use Rattle.gj_rules.proofs.Objects.CleanFrames.{left_clean}
 use Rattle.gj_rules.proofs.rules.FramedRules.pop_clean.Goals as goal
 

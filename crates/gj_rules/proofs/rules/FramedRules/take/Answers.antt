@@ -1,4 +1,4 @@
-use Rattle.std.proofs.Common.{refl, ◌∙◌}
+use Rattle.gj_rules.proofs.Common.{refl, ◌∙◌}
 use Rattle.gj_rules.proofs.Objects.RestingSummaries.{rests, skips}
 use Rattle.gj_rules.proofs.rules.FramedRules.take.Goals as goal
 

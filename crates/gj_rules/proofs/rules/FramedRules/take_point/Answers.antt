@@ -1,12 +1,7 @@
 -- A plain position adds no warning.
-use Rattle.std.proofs.Common.{◌∙◌, ap, sym, IsTrue}
-use Rattle.gj_json.specs.declared.names.Known.TheVariants.{Geometry}
-use Rattle.gj_coords.specs.declared.warnings.Warnings.{Warnings}
+use Rattle.gj_rules.proofs.Common.{Core, Frame, Geometry, IsTrue, Warnings, ap, sym, top_of, ◌∙◌}
 use Rattle.gj_coords.specs.Internal.KeptWarnings.{no_warnings}
-use Rattle.gj_rules.specs.Internal.EventSteps.{Core}
 use Rattle.gj_rules.specs.Internal.FrameCalls.{named}
-use Rattle.gj_rules.specs.Internal.FrameMeaning.{Frame}
-use Rattle.gj_rules.specs.Internal.RulesState.{top_of}
 use Rattle.gj_rules.proofs.Objects.WarningsInTurn.{with_none}
 use Rattle.gj_rules.proofs.rules.FramedRules.take_point.Goals as goal
 

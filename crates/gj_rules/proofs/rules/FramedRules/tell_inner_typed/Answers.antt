@@ -1,5 +1,4 @@
-use Rattle.std.proofs.Common.{List, subst}
-use Rattle.gj_json.specs.declared.event.Event.{Event}
+use Rattle.gj_rules.proofs.Common.{Event, List, subst}
 use Rattle.gj_rules.specs.Rules.{StandsFor}
 use Rattle.gj_rules.proofs.rules.FramedRules.tell_inner_typed.Goals as goal
 use Rattle.gj_json.proofs.Events.EventsInTurn.{three}

@@ -1,6 +1,6 @@
 -- The name, the beginning of the object, and the name in it.
-use Rattle.std.proofs.Common.{◌≡◌, ◌∷◌, ◌++◌, [], List, subst, append_assoc}
-use Rattle.gj_json.specs.declared.event.Event.{Event}
+use Rattle.gj_rules.proofs.Common.{Event, List, append_assoc, subst, [], ◌++◌, ◌∷◌}
+use Rattle.std.proofs.Common.{◌≡◌}
 use Rattle.gj_rules.specs.Rules.{StandsFor}
 use Rattle.gj_rules.proofs.rules.FramedRules.tell_located.Goals as goal
 use Rattle.gj_rules.proofs.rules.FramedRules.tell_located.Goals.{then-awaits, else-awaits}

@@ -1,6 +1,6 @@
-use Rattle.std.proofs.Common.{◌≡◌, false, refl, ◌∙◌}
+use Rattle.gj_rules.proofs.Common.{false, is_feeding, refl, ◌∙◌}
+use Rattle.std.proofs.Common.{◌≡◌}
 use Rattle.gj_json.specs.declared.event.What.TheVariants as W
-use Rattle.gj_rules.specs.Internal.EventSteps.{is_feeding}
 use Rattle.gj_rules.proofs.Objects.RestingSummaries.{names}
 use Rattle.gj_rules.proofs.Texts.OneEventMore.{told_on, steps_taken}
 use Rattle.gj_rules.proofs.rules.FramedRules.tell_member.Goals as goal

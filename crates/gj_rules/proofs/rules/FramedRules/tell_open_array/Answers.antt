@@ -1,5 +1,5 @@
-use Rattle.std.proofs.Common.{◌≡◌, true, refl}
-use Rattle.gj_rules.specs.Internal.EventSteps.{is_feeding}
+use Rattle.gj_rules.proofs.Common.{is_feeding, refl, true}
+use Rattle.std.proofs.Common.{◌≡◌}
 use Rattle.gj_rules.proofs.Texts.OneEventMore.{told_on, steps_fed}
 use Rattle.gj_rules.proofs.rules.FramedRules.tell_open_array.Goals as goal
 

@@ -1,5 +1,4 @@
-use Rattle.std.proofs.Common.{◌∷◌, [], List, subst, append_assoc}
-use Rattle.gj_json.specs.declared.event.Event.{Event}
+use Rattle.gj_rules.proofs.Common.{Event, List, append_assoc, subst, [], ◌∷◌}
 use Rattle.gj_rules.specs.Rules.{StandsFor}
 use Rattle.gj_rules.proofs.rules.FramedRules.tell_typed.Goals as goal
 

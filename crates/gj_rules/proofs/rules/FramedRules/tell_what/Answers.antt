@@ -1,4 +1,4 @@
-use Rattle.std.proofs.Common.{sym, ◌∙◌}
+use Rattle.gj_rules.proofs.Common.{sym, ◌∙◌}
 use Rattle.gj_rules.proofs.Texts.OneEventMore.{told_on, steps_fed, steps_taken}
 use Rattle.gj_rules.proofs.rules.FramedRules.tell_what.Goals as goal
 

@@ -1,6 +1,4 @@
-use Rattle.std.proofs.Common.{◌^◌, ◌<◌, ap, ◌∙◌, length, arith}
-use Rattle.gj_json.specs.Events.{value_events}
-use Rattle.gj_rules.specs.Internal.FrameMeaning.{Findings}
+use Rattle.gj_rules.proofs.Common.{Findings, ap, arith, length, value_events, ◌<◌, ◌^◌, ◌∙◌}
 use Rattle.gj_rules.proofs.Objects.WarningsKept.{text_is}
 use Rattle.gj_rules.proofs.Texts.LinterEvents.{fewer_of_value}
 use Rattle.gj_rules.proofs.Texts.OneEventMore.{answered}

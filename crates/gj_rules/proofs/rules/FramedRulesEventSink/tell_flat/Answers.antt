@@ -1,6 +1,5 @@
-use Rattle.std.proofs.Common.{◌≡◌, true, refl}
-use Rattle.gj_json.specs.Flat.{numbers_of}
-use Rattle.gj_rules.specs.Internal.EventSteps.{is_feeding}
+use Rattle.gj_rules.proofs.Common.{is_feeding, numbers_of, refl, true}
+use Rattle.std.proofs.Common.{◌≡◌}
 use Rattle.gj_rules.proofs.Texts.OneFlatMore.{told_flat}
 use Rattle.gj_rules.proofs.rules.FramedRulesEventSink.tell_flat.Goals as goal
 

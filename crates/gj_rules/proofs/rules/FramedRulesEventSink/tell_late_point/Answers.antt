@@ -1,7 +1,5 @@
 -- A whole Point adds the name of its member and its warnings, wherever its type stands.
-use Rattle.std.proofs.Common.{◌∙◌, ap}
-use Rattle.gj_rules.specs.Internal.FrameMeaning.{Frame}
-use Rattle.gj_rules.specs.Internal.RulesState.{core_of}
+use Rattle.gj_rules.proofs.Common.{Frame, ap, core_of, ◌∙◌}
 use Rattle.gj_rules.proofs.Texts.LatePoints.{told_late_point}
 use Rattle.gj_rules.proofs.rules.FramedRulesEventSink.tell_late_point.Goals as goal
 

@@ -1,5 +1,5 @@
 -- The end of the input ends the open record.
-use Rattle.std.proofs.Common.{sym, ◌∙◌, arith}
+use Rattle.gj_rules.proofs.Common.{arith, sym, ◌∙◌}
 use Rattle.gj_rules.proofs.Sequences.SequenceSteps.{live_of, in_of, was_valid, was_failing, ends_valid, ends_failing}
 use Rattle.gj_rules.proofs.sequence.Sequence.end.Goals as goal
 

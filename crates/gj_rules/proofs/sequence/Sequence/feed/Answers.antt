@@ -1,7 +1,7 @@
 -- The bytes up to the place were taken, and those after a byte that decided change nothing.
-use Rattle.std.proofs.Common.{rules, ◌≡◌, ℕ, true, false, List, ◌++◌, take, ap, sym, subst, ◌∙◌}
-use Rattle.std.proofs.lemmas.List.{take_all}
-use Rattle.gj_rules.specs.SequenceStands.{StandsFor, is_decided}
+use Rattle.gj_rules.proofs.Common.{List, ap, false, is_decided, rules, subst, sym, take, take_all, true, ◌++◌, ◌∙◌}
+use Rattle.std.proofs.Common.{◌≡◌, ℕ}
+use Rattle.gj_rules.specs.SequenceStands.{StandsFor}
 use Rattle.gj_rules.proofs.Sequences.SequenceSteps.{rest_fed, fed_decided, fed_answers, taken_further}
 use Rattle.gj_rules.proofs.sequence.Sequence.feed.Goals as goal
 

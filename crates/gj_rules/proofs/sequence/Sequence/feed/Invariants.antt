@@ -1,6 +1,7 @@
 -- The bytes up to the place were taken.
-use Rattle.std.proofs.Common.{◌≡◌, ℕ, ◌-◌, ◌≤◌, true, List, ◌++◌, length, take}
-use Rattle.gj_rules.specs.SequenceStands.{StandsFor, is_decided}
+use Rattle.gj_rules.proofs.Common.{List, is_decided, length, take, true, ◌++◌, ◌-◌, ◌≤◌}
+use Rattle.std.proofs.Common.{◌≡◌, ℕ}
+use Rattle.gj_rules.specs.SequenceStands.{StandsFor}
 use Rattle.gj_rules.proofs.sequence.Sequence.feed.Given as goal
 
 abbrev pub invariant-loop-at : goal.invariant-loop-at

@@ -1,6 +1,6 @@
 -- The objects with a role are those of the open record.
-use Rattle.std.proofs.Common.{ℕ, ◌++◌, List, length, ap, sym, subst, ◌∙◌, arith}
-use Rattle.gj_rules.specs.Judged.{judged_at}
+use Rattle.gj_rules.proofs.Common.{List, ap, arith, judged_at, length, subst, sym, ◌++◌, ◌∙◌}
+use Rattle.std.proofs.Common.{ℕ}
 use Rattle.gj_json.specs.Text.{IsTextWithin}
 use Rattle.gj_rules.proofs.Sequences.SequenceSteps.{live_of, in_of, last_record, some_record, no_record}
 use Rattle.gj_rules.proofs.sequence.Sequence.judged.Goals as goal

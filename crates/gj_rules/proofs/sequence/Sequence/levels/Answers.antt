@@ -1,7 +1,6 @@
 -- The containers that are open are those of the open record.
-use Rattle.std.proofs.Common.{ℕ, ◌++◌, List, length, ap, sym, subst, ◌∙◌, arith}
-use Rattle.gj_json.specs.Open.{open_at}
-use Rattle.gj_json.specs.Text.{IsText}
+use Rattle.gj_rules.proofs.Common.{IsText, List, ap, arith, length, open_at, subst, sym, ◌++◌, ◌∙◌}
+use Rattle.std.proofs.Common.{ℕ}
 use Rattle.gj_rules.proofs.Sequences.SequenceSteps.{live_of, in_of, last_record, some_record, no_record}
 use Rattle.gj_rules.proofs.sequence.Sequence.levels.Goals as goal
 

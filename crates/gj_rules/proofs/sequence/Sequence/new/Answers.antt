@@ -1,5 +1,5 @@
 -- No record has begun.
-use Rattle.std.proofs.Common.{refl, ap, ◌∙◌, arith}
+use Rattle.gj_rules.proofs.Common.{ap, arith, refl, ◌∙◌}
 use Rattle.gj_rules.proofs.sequence.Sequence.new.Goals as goal
 
 pub returns-clause-stands : goal.returns-clause-stands

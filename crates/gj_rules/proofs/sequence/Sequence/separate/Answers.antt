@@ -1,11 +1,10 @@
 -- A separator begins a record, and ends the one before it.
-use Rattle.std.proofs.Common.{◌≡◌, ⊎_elim, ℕ, ◌+◌, true, false, List, [], ◌∷◌, ◌++◌, length, length-append, refl, ap, sym, subst, ◌∙◌, arith}
-use Rattle.gj_rules.specs.declared.sequence.verdict.SeqVerdict.{SeqVerdict}
+use Rattle.gj_rules.proofs.Common.{List, SeqVerdict, Verdict, ap, arith, false, length, refl, separator, subst, sym, true, [], ⊎_elim, ◌++◌, ◌+◌, ◌∙◌}
+use Rattle.gj_rules.proofs.Common.{◌∷◌}
+use Rattle.std.proofs.Common.{◌≡◌, ℕ, length-append}
 use Rattle.gj_coords.specs.Internal.KeptWarnings.{no_warnings}
-use Rattle.gj_rules.specs.declared.verdict.Verdict.{Verdict}
 use Rattle.gj_rules.specs.Linter.{refusal_of}
 use Rattle.gj_rules.specs.Internal.OpenRecord.{StandsFor as RecordStandsFor}
-use Rattle.gj_rules.specs.Sequence.{separator}
 use Rattle.gj_rules.proofs.Sequences.DecidingBytes.{begun_more}
 use Rattle.gj_rules.proofs.Sequences.SequenceSteps.{live_of, before_or_in, at_in, live_stands, settled_stands, empty_viable, first_begun, first_valid}
 use Rattle.gj_rules.proofs.Sequences.SequenceSteps.{first_counted, run_valid, run_counted, no_given, in_some, some_given, was_valid, was_failing, more_valid}

@@ -1,9 +1,6 @@
 -- One byte decides or begins a record, or a run goes to the open record.
-use Rattle.std.proofs.Common.{ℕ, List, ◌++◌, get_or, take, ap, sym, subst, ◌∙◌}
-use Rattle.gj_json.specs.declared.fault.Cause.TheVariants.{Length}
-use Rattle.gj_rules.specs.declared.sequence.verdict.SeqVerdict.{SeqVerdict}
-use Rattle.gj_rules.specs.Sequence.{not_json}
-use Rattle.gj_rules.specs.SequenceStands.{IsSettled}
+use Rattle.gj_rules.proofs.Common.{IsSettled, Length, List, SeqVerdict, ap, get_or, not_json, subst, sym, take, ◌++◌, ◌∙◌}
+use Rattle.std.proofs.Common.{ℕ}
 use Rattle.gj_rules.proofs.Sequences.DecidingBytes.{take_one}
 use Rattle.gj_rules.proofs.Sequences.SequenceSteps.{live_of, settled_stands, long_run}
 use Rattle.gj_rules.proofs.sequence.Sequence.take.Goals as goal

@@ -1,9 +1,7 @@
 -- The bytes go to the open record, which may refuse one of them.
-use Rattle.std.proofs.Common.{ℕ, ◌++◌, length-append, ap, subst, ◌∙◌, arith}
-use Rattle.gj_json.specs.Text.{IsViableWithin}
+use Rattle.gj_rules.proofs.Common.{IsViableWithin, NotJson, SeqVerdict, ap, arith, subst, ◌++◌, ◌∙◌}
+use Rattle.std.proofs.Common.{ℕ, length-append}
 use Rattle.gj_rules.specs.declared.linter.Progress.{Progress}
-use Rattle.gj_rules.specs.declared.sequence.verdict.SeqVerdict.{SeqVerdict}
-use Rattle.gj_rules.specs.declared.verdict.Verdict.TheVariants.{NotJson}
 use Rattle.gj_rules.specs.Linter.{refusal_in}
 use Rattle.gj_rules.specs.Internal.OpenRecord.{AnswersAt}
 use Rattle.gj_rules.proofs.Sequences.RecordCuts.{plain-append}

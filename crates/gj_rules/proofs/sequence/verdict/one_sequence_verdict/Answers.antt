@@ -1,5 +1,5 @@
 -- By the one verdict of each record.
-use Rattle.gj_rules.specs.Sequence.{is_stray, records_of}
+use Rattle.gj_rules.proofs.Common.{is_stray, records_of}
 use Rattle.gj_rules.proofs.Sequences.OneVerdict.{some_sequence, one_sequence}
 use Rattle.gj_rules.proofs.Sequences.SaidSequences.{sequence_said, sequence_is}
 use Rattle.gj_rules.proofs.sequence.verdict.one_sequence_verdict.Goals as goal

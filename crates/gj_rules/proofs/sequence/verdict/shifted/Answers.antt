@@ -1,8 +1,6 @@
 -- No place passes the end of what fits, since none that the verdict names does.
-use Rattle.std.proofs.Common.{ℕ, ◌+◌, ◌≤◌, ◌^◌, refl, arith}
-use Rattle.gj_rules.specs.Internal.ToldPlaces.{TellsPlace}
-use Rattle.gj_rules.specs.declared.verdict.Verdict.{Verdict}
-use Rattle.gj_rules.specs.declared.verdict.Verdict.TheVariants.{Valid, Broken, NotJson}
+use Rattle.gj_rules.proofs.Common.{Broken, NotJson, TellsPlace, Valid, Verdict, arith, refl, ◌+◌, ◌^◌, ◌≤◌}
+use Rattle.std.proofs.Common.{ℕ}
 use Rattle.gj_rules.proofs.sequence.verdict.shifted.Goals as goal
 
 abbrev Stays : ℕ → Verdict → Type 0

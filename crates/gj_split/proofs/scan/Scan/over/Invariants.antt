@@ -1,5 +1,4 @@
-use Rattle.std.proofs.Common.{◌≡◌, ℕ, ◌+◌, List, ◌++◌, drop, true}
-use Rattle.gj_split.specs.Internal.ScannedValues.{scan_length, is_running}
+use Rattle.gj_split.proofs.Common.{List, drop, is_running, scan_length, true, ℕ, ◌++◌, ◌+◌, ◌≡◌}
 use Rattle.gj_split.proofs.scan.Scan.over.Given as goal
 
 abbrev pub invariant-loop-at : goal.invariant-loop-at

@@ -1,6 +1,6 @@
 -- The positions that were added are counted.
-use Rattle.std.proofs.Common.{◌∙◌, length, sym, ap}
-use Rattle.gj_coords.specs.Internal.PositionGather.{arrays_counted}
+use Rattle.gj_coords.proofs.Common.{ap, arrays_counted, sym, ◌∙◌}
+use Rattle.std.proofs.Common.{length}
 use Rattle.gj_coords.proofs.Walks.CutPositions.{as_many, level_added}
 use Rattle.gj_coords.proofs.walk.level.Level.add_cuts.Goals as goal
 

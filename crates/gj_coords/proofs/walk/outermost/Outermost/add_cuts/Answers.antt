@@ -1,6 +1,6 @@
 -- The positions that were read are counted.
-use Rattle.std.proofs.Common.{◌∙◌, length, sym, ap}
-use Rattle.gj_coords.specs.Internal.PositionGather.{arrays_counted}
+use Rattle.gj_coords.proofs.Common.{ap, arrays_counted, sym, ◌∙◌}
+use Rattle.std.proofs.Common.{length}
 use Rattle.gj_coords.proofs.Walks.CutPositions.{as_many, outermost_added}
 use Rattle.gj_coords.proofs.walk.outermost.Outermost.add_cuts.Goals as goal
 

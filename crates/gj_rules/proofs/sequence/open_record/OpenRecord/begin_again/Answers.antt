@@ -1,5 +1,5 @@
 -- The next record without a byte.
-use Rattle.std.proofs.Common.{[], add-zero, refl}
+use Rattle.gj_rules.proofs.Common.{add-zero, refl, []}
 use Rattle.gj_rules.proofs.sequence.open_record.OpenRecord.begin_again.Goals as goal
 
 pub invariant_of-self : goal.invariant_of-self

@@ -1,5 +1,5 @@
 -- It has no byte, before and after.
-use Rattle.std.proofs.Common.{arith}
+use Rattle.gj_rules.proofs.Common.{arith}
 use Rattle.std.proofs.Math.Logic.{∥∥₁_map}
 use Rattle.gj_rules.proofs.sequence.open_record.OpenRecord.begin_later.Goals as goal
 

@@ -1,11 +1,8 @@
 -- The verdict of the record by that of its linter, as it is framed and ends.
-use Rattle.std.proofs.Common.{◌-◌, [], length, add-zero, refl, ap, subst, ◌∙◌, arith}
+use Rattle.gj_rules.proofs.Common.{Allowed, IsVerdict, add-zero, ap, arith, length, refl, shifted_verdict, subst, [], ◌-◌, ◌∙◌}
 use Rattle.std.proofs.Math.Bridge.{le_prop}
 use Rattle.std.proofs.Math.Logic.{∥∥₁_elim}
-use Rattle.gj_json.specs.Limits.{Allowed}
 use Rattle.gj_rules.specs.Linter.{limits_of}
-use Rattle.gj_rules.specs.Sequence.{shifted_verdict}
-use Rattle.gj_rules.specs.Verdict.{IsVerdict}
 use Rattle.gj_rules.proofs.Sequences.OpenRecords.{own_limit, ended_as_within, told_ended}
 use Rattle.gj_rules.proofs.Sequences.PlacesTold.{told_within}
 use Rattle.gj_rules.proofs.sequence.open_record.OpenRecord.close_as.Goals as goal

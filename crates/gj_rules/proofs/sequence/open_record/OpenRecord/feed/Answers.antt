@@ -1,8 +1,8 @@
 -- The bytes of the run are after those before it.
-use Rattle.std.proofs.Common.{[], ◌++◌, length-append, ◌∙◌, arith}
+use Rattle.gj_rules.proofs.Common.{IsRefusal, arith, [], ◌++◌, ◌∙◌}
+use Rattle.std.proofs.Common.{length-append}
 use Rattle.std.proofs.Math.Bridge.{le_prop}
 use Rattle.std.proofs.Math.Logic.{∥∥₁_elim, ∥∥₁_map}
-use Rattle.gj_json.specs.Refusal.{IsRefusal}
 use Rattle.gj_rules.specs.Linter.{limits_of}
 use Rattle.gj_rules.proofs.Sequences.OpenRecords.{last_of_run, refused_within}
 use Rattle.gj_rules.proofs.sequence.open_record.OpenRecord.feed.Goals as goal

@@ -1,14 +1,7 @@
 -- The verdict of a record that a separator ends, and of which the linter reports nothing.
-use Rattle.std.proofs.Common.{length, ap, refl, sym, subst, ◌∙◌, arith}
-use Rattle.gj_json.specs.Limits.{Allowed}
+use Rattle.gj_rules.proofs.Common.{Allowed, Framing, IsOwnVerdict, IsVerdict, Separator, Verdict, Warnings, ap, arith, length, part_at, refl, subst}
+use Rattle.gj_rules.proofs.Common.{sym, ◌∙◌}
 use Rattle.gj_coords.specs.Internal.KeptWarnings.{no_warnings}
-use Rattle.gj_coords.specs.declared.warnings.Warnings.{Warnings}
-use Rattle.gj_rules.specs.declared.records.framing.Framing.{Framing}
-use Rattle.gj_rules.specs.declared.records.framing.RecordEnd.TheVariants.{Separator}
-use Rattle.gj_rules.specs.declared.verdict.Verdict.{Verdict}
-use Rattle.gj_rules.specs.RecordFindings.{IsOwnVerdict}
-use Rattle.gj_rules.specs.Records.{part_at}
-use Rattle.gj_rules.specs.Verdict.{IsVerdict}
 use Rattle.gj_rules.proofs.Sequences.OpenRecords.{own_limit, told_as, none_shifted}
 use Rattle.gj_rules.proofs.sequence.open_record.OpenRecord.is_clean_as.Goals as goal
 

@@ -1,9 +1,7 @@
 -- The linter took all bytes of the record.
-use Rattle.std.proofs.Common.{ℕ, ◌++◌, List, take, ap, sym, subst, ◌∙◌}
-use Rattle.std.proofs.Math.Seq.{take-length}
-use Rattle.gj_json.specs.Limits.{Allowed}
+use Rattle.gj_rules.proofs.Common.{Allowed, List, ap, judged_at, subst, sym, take, take-length, ◌++◌, ◌∙◌}
+use Rattle.std.proofs.Common.{ℕ}
 use Rattle.gj_json.specs.Text.{IsTextWithin}
-use Rattle.gj_rules.specs.Judged.{judged_at}
 use Rattle.gj_rules.specs.Linter.{limits_of}
 use Rattle.gj_rules.proofs.Sequences.OpenRecords.{all_taken}
 use Rattle.gj_rules.proofs.sequence.open_record.OpenRecord.judged.Goals as goal

@@ -1,8 +1,6 @@
 -- The linter took all bytes of the record.
-use Rattle.std.proofs.Common.{ℕ, ◌++◌, List, take, ap, sym, subst, ◌∙◌}
-use Rattle.std.proofs.Math.Seq.{take-length}
-use Rattle.gj_json.specs.Text.{IsText}
-use Rattle.gj_json.specs.Open.{open_at}
+use Rattle.gj_rules.proofs.Common.{IsText, List, ap, open_at, subst, sym, take, take-length, ◌++◌, ◌∙◌}
+use Rattle.std.proofs.Common.{ℕ}
 use Rattle.gj_rules.proofs.Sequences.OpenRecords.{all_taken}
 use Rattle.gj_rules.proofs.sequence.open_record.OpenRecord.levels.Goals as goal
 
