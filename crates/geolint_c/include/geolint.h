@@ -38,7 +38,8 @@
  *     that of "". geolint_bytes below makes such an address of a pointer that may be null;
  *   - a linter lies in memory of geolint_size() bytes at a multiple of geolint_alignment(), and is passed to no call before
  *     geolint_begin has got this memory. It is not copied, not moved and not written by the host. The other handles lie in as many
- *     bytes as their own functions say, at a multiple of geolint_alignment() too, and are passed to their own calls alone;
+ *     bytes as their own functions say, at a multiple of geolint_alignment() too, and are passed to their own calls alone.
+ *     Memory of an allocator that aligns to 8 bytes alone, as sqlite3_malloc does, has to be aligned by the host;
  *   - one call at a time for each linter. Where the next call comes from another thread, a lock, a thread's start or join or the
  *     like orders the two.
  *
