@@ -8,6 +8,7 @@
 # library for ARM a cross compiler; where one is missing, a line says how to install it.
 top := $(abspath $(GEOLINT_ROOT))
 WEB := $(top)/contrib/web
+LSP := $(top)/contrib/lsp
 WEB_OUT ?= $(top)/web
 WEB_BUILD ?= $(top)/out/web
 NPM_BUILD ?= $(top)/out/npm
@@ -68,11 +69,13 @@ $(WEB_OUT)/index.html: $(WEB_BUILD)/geolint.wasm $(wildcard $(WEB)/*) $(top)/doc
 	@echo "geolint: the page is $@, $$(($$(gzip -9c $@ | wc -c) / 1000)) kB as a server sends it" >&2
 
 npm_sources := geolint.js geolint.d.ts check.js details.js findings.js hints.js linter.js lines.js names.js paths.js report.js source.js split.js terminal.js width.js
+# What the language server has of the page.
+npm_sources += files.js guesses.js language.js texts.de.js texts.en.js
 npm: $(WEB_BUILD)/geolint.wasm
 	@$(call needs,npm,npm)
 	rm -rf $(NPM_BUILD)
 	mkdir -p $(NPM_BUILD)/package
-	cp $(npm_sources:%=$(WEB)/%) $(wildcard $(top)/contrib/npm/*) $< $(NPM_BUILD)/package
+	cp $(npm_sources:%=$(WEB)/%) $(wildcard $(top)/contrib/npm/* $(LSP)/*) $(top)/docs/rules.md $< $(NPM_BUILD)/package
 	sed -i 's|@VERSION@|$(VERSION)|' $(NPM_BUILD)/package/package.json
 	cd $(NPM_BUILD)/package && npm pack --silent --pack-destination ..
 

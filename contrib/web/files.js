@@ -3,13 +3,13 @@
 /** The endings of files that are checked in a folder. */
 export const ENDINGS = [".geojson", ".json", ".geojsons", ".geojsonl", ".ndjson"];
 /** Those that hold many texts, by their framing. */
-const FRAMINGS = [
+const FRAMED = [
   ["sequence", /\.(?:geojsons|geojsonseq)$/i],
   ["lines", /\.(?:geojsonl|ndgeojson|ndjson|jsonl)$/i],
 ];
 
 /** How a file of this name holds many texts; undefined where it is one. */
-export const framingOf = (name) => FRAMINGS.find(([, ending]) => ending.test(name))?.[0];
+export const framingOf = (name) => FRAMED.find(([, ending]) => ending.test(name))?.[0];
 const isJudged = (name) => ENDINGS.some((ending) => name.toLowerCase().endsWith(ending));
 
 /** What is dropped: `files` as { name, file }, and how many others lie in the folders. */
