@@ -1,10 +1,12 @@
-# The page, the package for npm and the library for another machine: each over the proved crates, as the library for C is.
+# The page, the package for npm, the extension for VS Code and the library for another machine: each over the proved crates, as the library
+# for C is.
 #
 #     make web                       # web/index.html, the page as one file, with the module in it
-#     make npm                       # out/npm/geolint-VERSION.tgz, the package: geolint.js with the module, and a command
+#     make npm                       # out/npm/geolint-VERSION.tgz, the package: geolint.js with the module, and two commands
+#     make vscode                    # out/vscode/geolint-VERSION.vsix, the extension
 #     make library TARGET=aarch64    # out/library-aarch64/libgeolint.a and .so, for Linux on 64-bit ARM
 #
-# They need rt (the Rattle toolchain). The page and the package also need binaryen, the page terser and Python's package markdown, the
+# They need rt (the Rattle toolchain). All but the library also need binaryen, the page terser and Python's package markdown, the
 # library for ARM a cross compiler; where one is missing, a line says how to install it.
 top := $(abspath $(GEOLINT_ROOT))
 WEB := $(top)/contrib/web
@@ -78,6 +80,13 @@ npm: $(WEB_BUILD)/geolint.wasm
 	cp $(npm_sources:%=$(WEB)/%) $(wildcard $(top)/contrib/npm/* $(LSP)/*) $(top)/docs/rules.md $< $(NPM_BUILD)/package
 	sed -i 's|@VERSION@|$(VERSION)|' $(NPM_BUILD)/package/package.json
 	cd $(NPM_BUILD)/package && npm pack --silent --pack-destination ..
+
+VSIX ?= $(top)/out/vscode/geolint-$(VERSION).vsix
+VSCODE := $(top)/contrib/vscode/extension
+.PHONY: vscode
+vscode: $(VSIX)
+$(VSIX): $(WEB_BUILD)/geolint.wasm $(wildcard $(WEB)/* $(LSP)/* $(VSCODE)/*) $(top)/docs/rules.md $(top)/docs/editors.md $(top)/VERSION
+	$(VSCODE)/make-vsix $< $@
 
 # ---- for another machine
 

@@ -104,10 +104,11 @@ export class Session {
     if (!document) return null;
     const { text, framing } = document;
     const at = text.placeOf(position);
-    // A number begins before a place within it.
-    const [before] = /[-+.\w]*$/.exec(text.written(Math.max(0, at - LONGEST_NUMBER), at));
-    const place = /[-+.\w]/.test(text.written(at, at + 1)) ? at - before.length : at;
-    const start = framing ? text.bytes.subarray(0, place).lastIndexOf(RECORD_STARTS[framing]) + 1 : 0;
+    const start = framing ? text.bytes.subarray(0, at).lastIndexOf(RECORD_STARTS[framing]) + 1 : 0;
+    const [before] = /[-+.\w]*$/.exec(text.written(Math.max(start, at - LONGEST_NUMBER), at));
+    const isBegun = /["[{\w-]/.test(text.written(at, at + 1));
+    // The value that begins there, or the number that the position is in or after, or what is open before it.
+    const place = before || isBegun ? at - before.length : Math.max(start, at - 1);
     const [{ path }] = await this.#geolint.completed(text.bytes, [{ idAt: null, verdict: "broken", offset: place, place: start, end: null, warnings: [] }]);
     return path;
   }
