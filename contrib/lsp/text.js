@@ -20,7 +20,8 @@ function linesOf(string) {
     if (line < end) line = next("\n", end);
     if (carriage < end) carriage = next("\r", end);
   }
-  return [...lines, string.slice(start)];
+  lines.push(string.slice(start));
+  return lines;
 }
 
 /** How many units a line has before its end. */
@@ -89,7 +90,7 @@ export class EditedText {
     return (this.#bytes ??= utf8.encode(this.#lines.join("")));
   }
 
-  /** How many units stand before each line, and at the end all. */
+  /** How many units stand before each line. */
   get #lineStarts() {
     if (this.#starts) return this.#starts;
     this.#starts = new Uint32Array(this.#lines.length);
@@ -128,15 +129,17 @@ export class EditedText {
     return { start: this.positionOf(from), end: this.positionOf(to) };
   }
 
-  /** The byte after the value or the character at a place. */
-  endOf(place) {
+  /** The byte after the value or the character at a place; null where a value does not end before `limit`. */
+  endOf(place, limit = this.bytes.length) {
     const [token] = this.written(place, place + BLOCK).match(/^(?:["[{]|[-+.\w]+|.)/su) ?? [""];
-    return (/^["[{]/.test(token) && endOfValue(this.bytes, place)) || place + utf8.encode(token).length;
+    return /^["[{]/.test(token) ? endOfValue(this.bytes.subarray(0, limit), place) : place + utf8.encode(token).length;
   }
 
   /** From a place on, to the end of the value that begins there, or of its line. */
   rangeAt(place) {
-    const { start, end } = this.rangeOf(place, this.endOf(place));
+    const feed = this.bytes.indexOf(LF, place);
+    const limit = feed < 0 ? this.bytes.length : feed;
+    const { start, end } = this.rangeOf(place, this.endOf(place, limit) ?? limit);
     return { start, end: end.line === start.line ? end : { line: start.line, character: widthOfLine(this.#lines[start.line]) } };
   }
 
