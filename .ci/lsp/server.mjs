@@ -160,6 +160,8 @@ const long = many(Math.ceil(1e6 / feature("null", '"🚲"').length), '"🚲"');
 const inLong = await client.opened("file:///long.geojson", long);
 same("a line of a megabyte", [inLong.length, inLong.at(-1).message], [1001, "Only the first 1,000 are listed."]);
 same("its ranges", inLong.slice(0, -1).every(({ code, range }) => code === "G18" && long.slice(range.start.character, range.end.character) === '"🚲"'), true);
+const late = await client.request("textDocument/hover", { textDocument: { uri: "file:///long.geojson" }, position: inLong[700].range.start });
+same("the path in it", /`(\$.*)`\n$/.exec(late.contents.value)?.[1], "$.features[700].properties");
 const fixes = await client.request("textDocument/codeAction", { textDocument: { uri: "file:///long.geojson" }, range: WHOLE, context: { diagnostics: [] } });
 same("its fixes are tried to a limit", fixes.length, 10);
 // An edit that comes while one text is checked, and the end of another one.

@@ -47,7 +47,7 @@ export const noteOf = (message, severity = ERROR) => ({ range: { start: TOP, end
  *  there: what is found in them holds however the text goes on. */
 export async function diagnosticsOf(geolint, text, { framing, signal }) {
   const input = inTurnsOf(text.bytes);
-  const options = { most: MOST, isBrief: true, signal };
+  const options = { most: MOST, isBrief: true, hasPaths: false, signal };
   const findings = framing ? geolint.records(input, { framing, ...options }) : geolint.features(input, options);
   const found = new Map();
   const add = (item, part) => {

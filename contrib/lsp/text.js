@@ -4,9 +4,11 @@ import { LF } from "./lines.js";
 import { endOfValue } from "./paths.js";
 
 const RETURN = 13;
+const LONGEST_TOKEN = 1024;
 /** The units of UTF-16 are counted for each so many bytes. */
-const BLOCK = 1024;
-const utf8 = new TextEncoder();
+const BLOCK = 8192;
+const encoder = new TextEncoder();
+const decoder = new TextDecoder("utf-8", { ignoreBOM: true });
 
 /** The lines of a text, each with its end, which is LF, CR LF or CR. */
 function linesOf(string) {
@@ -29,13 +31,6 @@ function widthOfLine(line) {
   const isEnd = (at) => line.charCodeAt(at) === LF || line.charCodeAt(at) === RETURN;
   if (!isEnd(line.length - 1)) return line.length;
   return line.length - (isEnd(line.length - 2) && line.length > 1 ? 2 : 1);
-}
-
-/** How many units of UTF-16 bytes of UTF-8 are: one for each character, and one more for each of four bytes. */
-function unitsIn(bytes, from, to) {
-  let units = 0;
-  for (let i = from; i < to; i++) units += ((bytes[i] & 0xc0) !== 0x80) + (bytes[i] >= 0xf0);
-  return units;
 }
 
 /** The last index whose number, of some that ascend, is at most this one. */
@@ -87,7 +82,7 @@ export class EditedText {
   }
 
   get bytes() {
-    return (this.#bytes ??= utf8.encode(this.#lines.join("")));
+    return (this.#bytes ??= encoder.encode(this.#lines.join("")));
   }
 
   /** How many units stand before each line. */
@@ -98,18 +93,25 @@ export class EditedText {
     return this.#starts;
   }
 
-  /** Of each block of bytes, how many units stand before it. */
-  get #unitsBefore() {
+  /** Where a block of bytes begins: with a character. */
+  #blockAt(number) {
+    let at = Math.min(number * BLOCK, this.bytes.length);
+    while ((this.bytes[at] & 0xc0) === 0x80) at--;
+    return at;
+  }
+
+  /** How many units stand before each block. */
+  get #blockStarts() {
     if (this.#blocks) return this.#blocks;
     this.#blocks = new Uint32Array(Math.floor(this.bytes.length / BLOCK) + 1);
-    for (let i = 1; i < this.#blocks.length; i++) this.#blocks[i] = this.#blocks[i - 1] + unitsIn(this.bytes, (i - 1) * BLOCK, i * BLOCK);
+    for (let i = 1; i < this.#blocks.length; i++) this.#blocks[i] = this.#blocks[i - 1] + this.written(this.#blockAt(i - 1), this.#blockAt(i)).length;
     return this.#blocks;
   }
 
   /** The position of a byte. */
   positionOf(place) {
     const block = Math.floor(place / BLOCK);
-    const unit = this.#unitsBefore[block] + unitsIn(this.bytes, block * BLOCK, place);
+    const unit = this.#blockStarts[block] + this.written(this.#blockAt(block), place).length;
     const line = lastAtMost(this.#lineStarts, unit);
     return this.#inside({ line, character: unit - this.#lineStarts[line] });
   }
@@ -118,11 +120,9 @@ export class EditedText {
   placeOf(position) {
     const { line, character } = this.#inside(position);
     const unit = this.#lineStarts[line] + character;
-    const block = lastAtMost(this.#unitsBefore, unit);
-    let [place, units] = [block * BLOCK, this.#unitsBefore[block]];
-    // A block may begin within a character.
-    while (units < unit || (this.bytes[place] & 0xc0) === 0x80) units += unitsIn(this.bytes, place, ++place);
-    return place;
+    const block = lastAtMost(this.#blockStarts, unit);
+    const [from, to] = [block, block + 1].map((it) => this.#blockAt(it));
+    return from + encoder.encode(this.written(from, to).slice(0, unit - this.#blockStarts[block])).length;
   }
 
   rangeOf(from, to) {
@@ -131,8 +131,8 @@ export class EditedText {
 
   /** The byte after the value or the character at a place; null where a value does not end before `limit`. */
   endOf(place, limit = this.bytes.length) {
-    const [token] = this.written(place, place + BLOCK).match(/^(?:["[{]|[-+.\w]+|.)/su) ?? [""];
-    return /^["[{]/.test(token) ? endOfValue(this.bytes.subarray(0, limit), place) : place + utf8.encode(token).length;
+    const [token] = this.written(place, place + LONGEST_TOKEN).match(/^(?:["[{]|[-+.\w]+|.)/su) ?? [""];
+    return /^["[{]/.test(token) ? endOfValue(this.bytes.subarray(0, limit), place) : place + encoder.encode(token).length;
   }
 
   /** From a place on, to the end of the value that begins there, or of its line. */
@@ -145,6 +145,6 @@ export class EditedText {
 
   /** Bytes as a string. */
   written(from, to) {
-    return new TextDecoder("utf-8", { ignoreBOM: true }).decode(this.bytes.subarray(from, to));
+    return decoder.decode(this.bytes.subarray(from, to));
   }
 }
