@@ -103,6 +103,17 @@ for (const [name, text, wanted, mended] of rows) {
   client.published.length = 0;
 }
 
+// Characters of one to four bytes, over the ends of the blocks in which they are counted.
+for (const [i, filling] of ["é", "東", "🚲", "a🚲"].entries()) {
+  const uri = `file:///rows/${i}.geojson`;
+  const text = `{"name":"${"a".repeat(i)}${filling.repeat(30_000)}","type":"Polygon","coordinates":[[[0,0],[1,0],[1,1],[0,1]]]}`;
+  const at = text.indexOf("[[[") + 1;
+  same(`many ${filling}`, briefOf(await client.opened(uri, text)), [`G15 0:${at}-0:${at + 25}`]);
+  const { contents } = await client.request("textDocument/hover", { textDocument: { uri }, position: { line: 0, character: at + 2 } });
+  same(`the path after many ${filling}`, /`(\$.*)`\n$/.exec(contents.value)?.[1], "$.coordinates[0]");
+  client.close(uri);
+}
+
 // ---- hover: the chapter as docs/rules.md has it, and in German what is wrong
 
 const chapter = /^## (G15: ring not closed)\n(.*?)(?=^## )/ms.exec(readFileSync(rules, "utf8"));
