@@ -32,10 +32,12 @@ function endsRight(text, { code, range }) {
   if (code.startsWith("J") || code === "W1") return [...written].length <= 1 || /^["[{\w]/.test(written);
   if (/^[\r\n]|^$/.test(text.slice(to))) return !/[\r\n]/.test(written);
   try {
-    return [null, written].includes(JSON.stringify(JSON.parse(written)) && written) && !/^\s|\s$/.test(written) && !/^[-+.\w]/.test(/[-+.\w]$/.test(written) ? text.slice(to) : "");
+    JSON.parse(written);
   } catch {
     return false;
   }
+  const goesOn = /[-+.\w]$/.test(written) && /^[-+.\w]/.test(text.slice(to));
+  return !goesOn && !/^\s|\s$/.test(written);
 }
 
 for (const line of readFileSync(`${inputs}/expected.jsonl`, "utf8").trim().split("\n")) {
