@@ -69,5 +69,6 @@ include contrib/library.mk
 # Packages: `make dist`, `make release`.
 include contrib/dist.mk
 
-# The page, the package for npm, and the library for another machine: `make web`, `make npm`, `make library TARGET=aarch64`.
+# The page, the package for npm, the extension for VS Code, and the library for another machine: `make web`, `make npm`, `make vscode`,
+# `make library TARGET=aarch64`.
 include contrib/web.mk

@@ -1,13 +1,16 @@
-# The page, the package for npm and the library for another machine: each over the proved crates, as the library for C is.
+# The page, the package for npm, the extension for VS Code and the library for another machine: each over the proved crates, as the library
+# for C is.
 #
 #     make web                       # web/index.html, the page as one file, with the module in it
-#     make npm                       # out/npm/geolint-VERSION.tgz, the package: geolint.js with the module, and a command
+#     make npm                       # out/npm/geolint-VERSION.tgz, the package: geolint.js with the module, and two commands
+#     make vscode                    # out/vscode/geolint-VERSION.vsix, the extension
 #     make library TARGET=aarch64    # out/library-aarch64/libgeolint.a and .so, for Linux on 64-bit ARM
 #
-# They need rt (the Rattle toolchain). The page and the package also need binaryen, the page terser and Python's package markdown, the
+# They need rt (the Rattle toolchain). All but the library also need binaryen, the page terser and Python's package markdown, the
 # library for ARM a cross compiler; where one is missing, a line says how to install it.
 top := $(abspath $(GEOLINT_ROOT))
 WEB := $(top)/contrib/web
+LSP := $(top)/contrib/lsp
 WEB_OUT ?= $(top)/web
 WEB_BUILD ?= $(top)/out/web
 NPM_BUILD ?= $(top)/out/npm
@@ -68,13 +71,22 @@ $(WEB_OUT)/index.html: $(WEB_BUILD)/geolint.wasm $(wildcard $(WEB)/*) $(top)/doc
 	@echo "geolint: the page is $@, $$(($$(gzip -9c $@ | wc -c) / 1000)) kB as a server sends it" >&2
 
 npm_sources := geolint.js geolint.d.ts check.js details.js endings.js findings.js hints.js linter.js lines.js names.js paths.js report.js source.js split.js terminal.js width.js
+# What the language server has of the page.
+npm_sources += guesses.js language.js texts.de.js texts.en.js
 npm: $(WEB_BUILD)/geolint.wasm
 	@$(call needs,npm,npm)
 	rm -rf $(NPM_BUILD)
 	mkdir -p $(NPM_BUILD)/package
-	cp $(npm_sources:%=$(WEB)/%) $(wildcard $(top)/contrib/npm/*) $< $(NPM_BUILD)/package
+	cp $(npm_sources:%=$(WEB)/%) $(wildcard $(top)/contrib/npm/* $(LSP)/*) $(top)/docs/rules.md $< $(NPM_BUILD)/package
 	sed -i 's|@VERSION@|$(VERSION)|' $(NPM_BUILD)/package/package.json
 	cd $(NPM_BUILD)/package && npm pack --silent --pack-destination ..
+
+VSIX ?= $(top)/out/vscode/geolint-$(VERSION).vsix
+VSCODE := $(top)/contrib/vscode/extension
+.PHONY: vscode
+vscode: $(VSIX)
+$(VSIX): $(WEB_BUILD)/geolint.wasm $(wildcard $(WEB)/* $(LSP)/* $(VSCODE)/*) $(top)/docs/rules.md $(top)/docs/editors.md $(top)/VERSION
+	$(VSCODE)/make-vsix $< $@
 
 # ---- for another machine
 

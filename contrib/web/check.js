@@ -109,7 +109,7 @@ export class Geolint {
 
   #findings(Kind, input, options) {
     const source = sourceOf(input);
-    const { framing, maxBytes = 0, maxDepth = 0 } = options;
+    const { framing, maxBytes = 0, maxDepth = 0, hasPaths = true } = options;
     const isText = Kind === FeatureLinter;
     const lend = () => Promise.all([Kind, Locator, ...(isText && options.onProgress ? [Linter] : [])].map((it) => this.#lend(it)));
     const giveBack = (those) => those.forEach((it) => this.#giveBack(it));
@@ -122,7 +122,7 @@ export class Geolint {
       if (!isText) yield* search.rest();
       const whole = isText ? linter.finish() : search.whole;
       found.counts = search.counts;
-      found.verdict = await located(whole, { linter, source, known: search.known, isText });
+      found.verdict = await located(whole, { linter, source, known: search.known, isText, hasPaths });
       giveBack([linter, locator, early].filter(Boolean));
     });
   }
@@ -151,13 +151,13 @@ function notValid(read) {
 }
 
 /** Adds the hint, and line, column, excerpt, path and feature of each place of a verdict; null for what cannot be found. `known` has the
- *  places whose path is known. */
-async function located(found, { linter, source, known = new Map(), isText = true }) {
+ *  places whose path is known. Without `hasPaths` no path and no feature is sought. */
+async function located(found, { linter, source, known = new Map(), isText = true, hasPaths = true }) {
   const read = (from, to) => source.read(from, to);
   const { lines, taken } = linter;
   lines.pass(taken);
   const findings = found.verdict === "valid" ? found.warnings : [found];
-  const paths = await pathsTo(found, findings, known, isText, read);
+  const paths = hasPaths ? await pathsTo(found, findings, known, isText, read) : new Map();
   const placed = [];
   for (const it of findings) {
     const { path = null, feature = null } = paths.get(it.offset) ?? {};

@@ -152,6 +152,8 @@ export interface SearchOptions extends Limits {
   most?: number;
   /** Findings are reported in brief, which is faster where there are many of them: `completed` adds the rest. */
   isBrief?: boolean;
+  /** Whether the verdict has paths and features, for which a part of the text may be read once more. True unless given. */
+  hasPaths?: boolean;
   /** Called after each piece. `isDoomed`: the input cannot be valid any more. */
   onProgress?(progress: Counts & { read: number; size: number | null; isDoomed: boolean }): void;
 }

@@ -1,14 +1,22 @@
-// The texts of the page in the language that is chosen: by the reader, otherwise by the browser.
+// The texts of the page and of editors in the language that is chosen: by the reader, otherwise by the browser or the editor.
 import { ENGLISH } from "./texts.en.js";
 import { GERMAN } from "./texts.de.js";
 
 const TABLES = { en: ENGLISH, de: GERMAN };
 let code = "en";
+const formatters = new Map();
+
+/** A formatter of the language. To make one takes longer than to use it. */
+function formatter(Kind, options = {}) {
+  const key = [Kind.name, code, options.maximumFractionDigits].join();
+  if (!formatters.has(key)) formatters.set(key, new Kind(code, options));
+  return formatters.get(key);
+}
 
 /** The table's text by its name, as `sentence.valid`, with {..} filled in; a text of several forms goes by `values.count`. */
 export function say(name, values = {}) {
   let text = name.split(".").reduce((table, step) => table?.[step], TABLES[code]);
-  if (typeof text === "object" && text !== null) text = text[new Intl.PluralRules(code).select(values.count)] ?? text.other;
+  if (typeof text === "object" && text !== null) text = text[formatter(Intl.PluralRules).select(values.count)] ?? text.other;
   if (typeof text !== "string") throw new Error(`there is no text ${name}`);
   return text.replace(/\{(\w+)\}/g, (_, it) => (typeof values[it] === "number" ? number(values[it]) : values[it]));
 }
@@ -17,7 +25,7 @@ export function say(name, values = {}) {
 export const whatOf = (rule) => TABLES[code].rules[rule][0];
 export const mendOf = (rule) => TABLES[code].rules[rule][1];
 
-export const number = (value, digits = 0) => value.toLocaleString(code, { maximumFractionDigits: digits });
+export const number = (value, digits = 0) => formatter(Intl.NumberFormat, { maximumFractionDigits: digits }).format(value);
 
 /** A count of bytes, as 812 bytes, 14.2 kB, 50 MB. */
 export function size(bytes) {
@@ -36,9 +44,12 @@ export function time(seconds) {
 export const languages = () => Object.entries(TABLES).map(([it, { language }]) => [it, language]);
 export const language = () => code;
 
-/** Chooses a language; every element with `data-text` gets its text. */
+/** Chooses a language by its code; English where there is no table of it. */
+export const choose = (wanted) => void (code = Object.hasOwn(TABLES, wanted) ? wanted : "en");
+
+/** The same for the page: every element with `data-text` gets its text. */
 export function speak(wanted) {
-  code = TABLES[wanted] ? wanted : "en";
+  choose(wanted);
   document.documentElement.lang = code;
   for (const it of document.querySelectorAll("[data-text]")) it.textContent = say(it.dataset.text);
   document.title = `geolint: ${say("title")}`;

@@ -138,13 +138,14 @@ export class PathFinder {
   }
 }
 
-/** The byte after a value that begins at `start`, which is an array or an object; null where these bytes do not hold its end. */
+/** The byte after a value that begins at `start`, which is an array, an object or a string; null where these bytes do not hold its end. */
 export function endOfValue(bytes, start = 0) {
   let depth = 0;
   for (let i = start; i < bytes.length; i++) {
     const byte = bytes[i];
     if (byte === QUOTE) {
       for (i++; i < bytes.length && bytes[i] !== QUOTE; i++) if (bytes[i] === BACKSLASH) i++;
+      if (depth === 0 && i < bytes.length) return i + 1;
     } else if (byte === OPEN_ARRAY || byte === OPEN_OBJECT) {
       depth++;
     } else if (byte === CLOSE_ARRAY || byte === CLOSE_OBJECT) {
