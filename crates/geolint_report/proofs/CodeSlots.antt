@@ -12,10 +12,10 @@ use Rattle.gj_coords.specs.Fault.{number_of}
 use Rattle.gj_coords.specs.Warnings.{kind_number, kinds}
 use Rattle.gj_coords.specs.Internal.ByKind.{kind_range}
 use Rattle.gj_coords.specs.declared.fault.Rule.{Rule}
-use Rattle.gj_coords.specs.declared.fault.Rule.TheVariants.{G1, G2, G3, G4, G5, G6, G7, G8, G9, G10, G11, G12, G13, G14, G15, G16, G17, G18, G19, G20, G21}
+use Rattle.gj_coords.specs.declared.fault.Rule.TheVariants.{G1}
 use Rattle.gj_coords.specs.declared.kind.Kind.{Kind}
 use Rattle.gj_json.specs.declared.fault.Cause.{Cause}
-use Rattle.gj_json.specs.declared.fault.Cause.TheVariants.{Syntax, Truncated, Depth, Length}
+use Rattle.gj_json.specs.declared.fault.Cause.TheVariants.{Syntax}
 use Rattle.geolint_report.specs.declared.texts.Code.{Code}
 use Rattle.geolint_report.specs.declared.texts.TheConstants.{ALL, CODES}
 use Rattle.geolint_report.specs.Slots.{same, slot_of, more}
@@ -24,32 +24,11 @@ pub use Rattle.std.proofs.lemmas.Bool.{le-leb as below, lt-leb as above}
 
 rule-range : (rule : Rule) → (1 ≤ number_of rule) × (number_of rule ≤ 21)
 rule-range G1 = (omega arith, omega arith)
-rule-range G2 = (omega arith, omega arith)
-rule-range G3 = (omega arith, omega arith)
-rule-range G4 = (omega arith, omega arith)
-rule-range G5 = (omega arith, omega arith)
-rule-range G6 = (omega arith, omega arith)
-rule-range G7 = (omega arith, omega arith)
-rule-range G8 = (omega arith, omega arith)
-rule-range G9 = (omega arith, omega arith)
-rule-range G10 = (omega arith, omega arith)
-rule-range G11 = (omega arith, omega arith)
-rule-range G12 = (omega arith, omega arith)
-rule-range G13 = (omega arith, omega arith)
-rule-range G14 = (omega arith, omega arith)
-rule-range G15 = (omega arith, omega arith)
-rule-range G16 = (omega arith, omega arith)
-rule-range G17 = (omega arith, omega arith)
-rule-range G18 = (omega arith, omega arith)
-rule-range G19 = (omega arith, omega arith)
-rule-range G20 = (omega arith, omega arith)
-rule-range G21 = (omega arith, omega arith)
+rule-range other = (omega arith, omega arith)
 
 cause-range : (cause : Cause) → (1 ≤ cause_number cause) × (cause_number cause ≤ 4)
 cause-range Syntax = (omega arith, omega arith)
-cause-range Truncated = (omega arith, omega arith)
-cause-range Depth = (omega arith, omega arith)
-cause-range Length = (omega arith, omega arith)
+cause-range other = (omega arith, omega arith)
 
 -- each code of the table has its count where it stands
 pub slot-at : (i : ℕ) (d : Code) → i < CODES → slot_of (get_or ALL i d) ≡ i

@@ -104,8 +104,7 @@ KeepsNotes-clean old new features clean asked counted still keeps =
 pub ListsFor-text : (verdict : Verdict) (limits : Allowed) (had : Option (List ℕ)) (listing : Listing) → ListsBy None limits had listing
     → ListsFor None (Finding.Text verdict) limits had listing
 ListsFor-text (NotJson fault) limits had listing by = tt
-ListsFor-text (Valid warnings) limits had listing by = by
-ListsFor-text (Broken fault) limits had listing by = by
+ListsFor-text other limits had listing by = by
 
 pub Lists-end : (verdict : Verdict) (here limits : Allowed) (old new : Option (List ℕ)) (read : List ℕ) (listing : Listing) → here ≡ limits
     → Consumes old new read → IsAtEnd new
@@ -145,10 +144,7 @@ AreNotes-of framing finding listing asked notes count tally limits had same coun
     of-json : (finding : Finding) → ListsFor framing finding limits had listing → ((fault : JsonFault) → finding ≡ Finding.Text (NotJson fault) → ⊥)
         → ListsBy framing limits had listing
     of-json (Finding.Text (NotJson fault)) lists is_json = absurd (is_json fault refl)
-    of-json (Finding.Text (Valid warnings)) lists is_json = lists
-    of-json (Finding.Text (Broken fault)) lists is_json = lists
-    of-json (Finding.Sequence verdict) lists is_json = lists
-    of-json Finding.NotValid lists is_json = lists
+    of-json other lists is_json = lists
 
     by-framing : (framing : Option Framing) (bytes : List ℕ) → ListsIn framing limits bytes listing → AreNotesIn framing asked notes count tally limits bytes
     by-framing None bytes lists = λ text admitted.

@@ -52,25 +52,11 @@ filter-short p xs i = omega (arith, length-filter p (take i xs), count_by-le-len
 
 kind-at : (kind : Kind) → get_or kinds (index_of kind) W1 ≡ kind
 kind-at W1 = refl
-kind-at W2 = refl
-kind-at W3 = refl
-kind-at W4 = refl
-kind-at W5 = refl
-kind-at W6 = refl
-kind-at W7 = refl
-kind-at W8 = refl
-kind-at W9 = refl
+kind-at other = refl
 
 index-small : (kind : Kind) → index_of kind < 9
 index-small W1 = omega arith
-index-small W2 = omega arith
-index-small W3 = omega arith
-index-small W4 = omega arith
-index-small W5 = omega arith
-index-small W6 = omega arith
-index-small W7 = omega arith
-index-small W8 = omega arith
-index-small W9 = omega arith
+index-small other = omega arith
 
 is-sought : (place : ℕ) → place < 2 ^ 64 - 1 → is_sought place ≡ true
 is-sought place below = grind (arith, nat_tests)

@@ -1,6 +1,6 @@
 //! The sections of docs/rules.md, in the order of the codes. `.ci/explain --write` makes this file from that page: change the page.
 
-pub const SECTIONS: [&str; 34] = [
+pub(crate) const SECTIONS: [&str; 34] = [
     "G1: not an object
 
 A GeoJSON object is required at the place, and there is another value. The text itself must be an object, and so must each

@@ -99,8 +99,7 @@ record-same it begin (Verdict.Broken a) (Verdict.NotJson b) e f =
 record-same it begin (Verdict.NotJson a) (Verdict.Broken b) e f =
     let same = same-code (Code.Cause a.cause) (Code.Rule b.rule) (both-said (text_in (codes "fault") it) _ _ e.0 f.0) in cc
 record-same it begin (Verdict.Valid warnings) other e f = absurd e
-record-same it begin (Verdict.Broken a) (Verdict.Valid warnings) e f = absurd f
-record-same it begin (Verdict.NotJson a) (Verdict.Valid warnings) e f = absurd f
+record-same it begin other (Verdict.Valid warnings) e f = absurd f
 
 some-none : {A : Type 0} (o : Option A) (x : A) → o ≡ Some x → o ≡ None → ⊥
 some-none o x e f = let g : Some x ≡ None = sym e ∙ f in cc

@@ -2,11 +2,11 @@
 use Rattle.std.proofs.Common.{◌≡◌, ◌∙◌, ℕ, List, true, Option, None, Some, refl, ap, sym}
 use Rattle.std.specs.List.{find}
 use Rattle.gj_coords.specs.declared.fault.Rule.{Rule}
-use Rattle.gj_coords.specs.declared.fault.Rule.TheVariants.{G1, G2, G3, G4, G5, G6, G7, G8, G9, G10, G11, G12, G13, G14, G15, G16, G17, G18, G19, G20, G21}
+use Rattle.gj_coords.specs.declared.fault.Rule.TheVariants.{G1}
 use Rattle.gj_coords.specs.declared.kind.Kind.{Kind}
-use Rattle.gj_coords.specs.declared.kind.Kind.TheVariants.{W1, W2, W3, W4, W5, W6, W7, W8, W9}
+use Rattle.gj_coords.specs.declared.kind.Kind.TheVariants.{W1}
 use Rattle.gj_json.specs.declared.fault.Cause.{Cause}
-use Rattle.gj_json.specs.declared.fault.Cause.TheVariants.{Syntax, Truncated, Depth, Length}
+use Rattle.gj_json.specs.declared.fault.Cause.TheVariants.{Syntax}
 use Rattle.geolint_report.specs.Texts.{code_name, is_listed, is_named}
 use Rattle.geolint_report.specs.declared.texts.Code.{Code}
 use Rattle.geolint_report.specs.declared.texts.TheConstants.{ALL}
@@ -23,40 +23,9 @@ code-of name = code-or (find (is_named name) ALL)
 pub code-back : (code : Code) → (escape (code_name code) ≡ code_name code) × (code-of (code_name code) ≡ code)
 unfolding code_name escape_byte
 code-back (Code.Rule G1) = (refl, refl)
-code-back (Code.Rule G2) = (refl, refl)
-code-back (Code.Rule G3) = (refl, refl)
-code-back (Code.Rule G4) = (refl, refl)
-code-back (Code.Rule G5) = (refl, refl)
-code-back (Code.Rule G6) = (refl, refl)
-code-back (Code.Rule G7) = (refl, refl)
-code-back (Code.Rule G8) = (refl, refl)
-code-back (Code.Rule G9) = (refl, refl)
-code-back (Code.Rule G10) = (refl, refl)
-code-back (Code.Rule G11) = (refl, refl)
-code-back (Code.Rule G12) = (refl, refl)
-code-back (Code.Rule G13) = (refl, refl)
-code-back (Code.Rule G14) = (refl, refl)
-code-back (Code.Rule G15) = (refl, refl)
-code-back (Code.Rule G16) = (refl, refl)
-code-back (Code.Rule G17) = (refl, refl)
-code-back (Code.Rule G18) = (refl, refl)
-code-back (Code.Rule G19) = (refl, refl)
-code-back (Code.Rule G20) = (refl, refl)
-code-back (Code.Rule G21) = (refl, refl)
 code-back (Code.Kind W1) = (refl, refl)
-code-back (Code.Kind W2) = (refl, refl)
-code-back (Code.Kind W3) = (refl, refl)
-code-back (Code.Kind W4) = (refl, refl)
-code-back (Code.Kind W5) = (refl, refl)
-code-back (Code.Kind W6) = (refl, refl)
-code-back (Code.Kind W7) = (refl, refl)
-code-back (Code.Kind W8) = (refl, refl)
-code-back (Code.Kind W9) = (refl, refl)
 code-back (Code.Cause Syntax) = (refl, refl)
-code-back (Code.Cause Truncated) = (refl, refl)
-code-back (Code.Cause Depth) = (refl, refl)
-code-back (Code.Cause Length) = (refl, refl)
-code-back Code.NotValid = (refl, refl)
+code-back other = (refl, refl)
 
 pub same-code : (one other : Code) → code_name one ≡ code_name other → one ≡ other
 same-code one other e = sym (code-back one).1 ∙ (ap code-of e ∙ (code-back other).1)

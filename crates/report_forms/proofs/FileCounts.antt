@@ -38,16 +38,12 @@ until i warnings code = false
 pub until-none : (warnings : Warnings) (code : Code) → until 0 warnings code ≡ false
 until-none warnings (Code.Kind kind) =
     ap (λ (b : Bool). b && is_some (first_in kind warnings)) (above (kind_number kind) 0 (omega (arith, (kind_range kind).0)))
-until-none warnings (Code.Rule rule) = refl
-until-none warnings (Code.Cause cause) = refl
-until-none warnings Code.NotValid = refl
+until-none warnings other = refl
 
 pub until-all : (i : ℕ) (warnings : Warnings) (code : Code) → length kinds ≤ i → until i warnings code ≡ warns code warnings
 until-all i warnings (Code.Kind kind) all =
     ap (λ (b : Bool). b && is_some (first_in kind warnings)) (below (kind_number kind) i (omega (arith, all, (kind_range kind).1)))
-until-all i warnings (Code.Rule rule) all = refl
-until-all i warnings (Code.Cause cause) all = refl
-until-all i warnings Code.NotValid all = refl
+until-all i warnings other all = refl
 
 later : (m i : ℕ) → m ≢ i + 1 → nat_le m (i + 1) ≡ nat_le m i
 later m i other = grind (arith, nat_tests, other)
@@ -160,8 +156,7 @@ exclusive (Finding.Text (Valid warnings)) told is = cc
 exclusive (Finding.Text (Broken fault)) told is = refl
 exclusive (Finding.Text (NotJson fault)) told is = refl
 exclusive (Finding.Sequence (SeqVerdict.Valid records warnings)) told is = cc
-exclusive (Finding.Sequence (SeqVerdict.Record number verdict)) told is = refl
-exclusive Finding.NotValid told is = refl
+exclusive other told is = refl
 
 pub Counts-fault : (old new : Summary) (files : List (Option Finding)) (finding : Finding) (told : Told) → fault_of finding ≡ Some told → Counts old files
     → Adds old new false false (not (is_cause told.code)) (is_cause told.code) false (λ other. same other told.code) → Counts new (files ++ Some finding ∷ [])
