@@ -137,10 +137,11 @@ export class EditedText {
 
   /** From a place on, to the end of the value that begins there, or of its line. */
   rangeAt(place) {
-    const feed = this.bytes.indexOf(LF, place);
-    const limit = feed < 0 ? this.bytes.length : feed;
-    const { start, end } = this.rangeOf(place, this.endOf(place, limit) ?? limit);
-    return { start, end: end.line === start.line ? end : { line: start.line, character: widthOfLine(this.#lines[start.line]) } };
+    const start = this.positionOf(place);
+    const endOfLine = { line: start.line, character: widthOfLine(this.#lines[start.line]) };
+    const limit = this.placeOf(endOfLine);
+    const end = this.endOf(place, limit);
+    return { start, end: end === null || end > limit ? endOfLine : this.positionOf(end) };
   }
 
   /** Bytes as a string. */
