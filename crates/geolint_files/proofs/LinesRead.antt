@@ -36,7 +36,8 @@ listed-notes framing limits text part (Some asked) (Some notes) are listed is =
     let it : Listed = record { asked = asked; notes = notes } in
     let same : it ≡ listed = cc in
     subst (λ (l : Listed). AreNotesOfPart framing limits (Some l.asked) text part (Some l.notes)) same are
-listed-notes framing limits text part other another are listed is = absurd (subst IsNothing is tt)
+listed-notes framing limits text part (Some asked) None are listed is = absurd (subst IsNothing is tt)
+listed-notes framing limits text part None notes are listed is = absurd (subst IsNothing is tt)
 
 pub line-read : (known : Option (List ℕ)) (framing : Framing) (options : Options) (asked : Option Asked) (share : Share) (part : CheckedPart)
     (notes : Option Notes) (line : PartLine) → asked ≡ asked_in options → line.checked ≡ part → line.listed ≡ listed_of asked notes

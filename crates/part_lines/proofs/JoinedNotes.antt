@@ -118,7 +118,8 @@ verdict-numbered : (with_warnings : Bool) (number : ℕ) (verdict : Verdict) →
     → NotesNumbered (record_notes_by with_warnings (Item.Record number) verdict)
 verdict-numbered true number (Valid warnings) some = kinds-numbered (Item.Record number) warnings some kinds
 verdict-numbered false number (Valid warnings) some = tt
-verdict-numbered with_warnings number other some = (some, tt)
+verdict-numbered with_warnings number (Broken fault) some = (some, tt)
+verdict-numbered with_warnings number (NotJson fault) some = (some, tt)
 
 notes-numbered : (with_warnings : Bool) (found : List Record) → AllNumbered found → NotesNumbered (notes_of_records with_warnings found)
 unfolding notes_of_records
@@ -251,7 +252,8 @@ next-notes framing limits asked text old new part listed none lists has there en
 
 nothing-kept : (room skipped : ℕ) → take room (drop {A = Note} skipped []) ≡ []
 nothing-kept zero skipped = refl
-nothing-kept other another = refl
+nothing-kept (suc n) zero = refl
+nothing-kept (suc n) (suc m) = refl
 
 pub no-notes : (framing : Framing) (limits : Allowed) (asked : Asked) (text : List ℕ) (none : SoFar) → none.end ≡ 0 → none.records ≡ 0
     → none.notes.notes.items ≡ [] → none.notes.count ≡ 0

@@ -290,7 +290,8 @@ asked-every options reading asked is nothing = by-reading reading (asked_in opti
     by-reading : (reading : Reading) (given : Option Asked) → asked_when reading given ≡ Some asked → given ≡ None → ⊥
     by-reading Reading.Text given is none = none-some asked (sym none ∙ is)
     by-reading Reading.Quick given is none = none-some asked is
-    by-reading other given is none = none-some asked (sym none ∙ is)
+    by-reading Reading.Sequence given is none = none-some asked (sym none ∙ is)
+    by-reading Reading.Lines given is none = none-some asked (sym none ∙ is)
 
 -- nothing is asked of features where only yes or no is asked
 pub asked-slowly : (reading : Reading) (given : Option Asked) (asked : Asked) → asked_when reading given ≡ Some asked → reading ≡ Reading.Quick → ⊥

@@ -17,7 +17,8 @@ returns-in-Nothing c = λ files counts tally.
 -- features are told
 items-are : (every : Every) (files : List ToldFile) → (every ≡ Every.Nothing → ⊥) → items_in every files ≡ items_summary (tallies_in files)
 items-are Every.Nothing files asked = absurd (asked refl)
-items-are other files asked = refl
+items-are Every.Faults files asked = refl
+items-are Every.Warnings files asked = refl
 
 pub returns-in_default : goal.returns-in_default
 returns-in_default c = λ files counts tally.
