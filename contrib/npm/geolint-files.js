@@ -166,15 +166,16 @@ async function judge(geolint, { name, folder = null }, words) {
     const input = is.isFile() ? { size: is.size, read: (from, to) => bytesOf(file, from, to) } : file.createReadStream({ autoClose: false });
     const report = await judgeInput(geolint, name, input, words);
     if (folder === null || join(await realpath(name), sep).startsWith(join(folder, sep))) return report;
-    return { ...report, verdict: withoutText(report.verdict), items: report.items.map(withoutText) };
+    return { ...report, verdict: without(NO_LINE, report.verdict), items: report.items.map((it) => without(NO_TEXT, it)) };
   } finally {
     await file.close();
   }
 }
 
-/** A verdict or a finding without what the text shows. */
-const withoutText = (it) => ({ ...it, ...NO_TEXT, warnings: it.warnings.map((one) => ({ ...one, ...NO_TEXT })) });
-const NO_TEXT = { line: null, column: null, path: null, feature: null, excerpt: null, hint: null, id: null, name: null };
+/** A verdict or a finding without what the text shows; the one reading of a stream gives lines to the findings under --every alone. */
+const without = (what, it) => ({ ...it, ...what, warnings: it.warnings.map((one) => ({ ...one, ...what })) });
+const NO_TEXT = { path: null, feature: null, excerpt: null, hint: null, id: null, name: null };
+const NO_LINE = { ...NO_TEXT, line: null, column: null };
 
 /** The verdict, and under --every what is found in the features or records: `items`, and how many `more` there are. */
 async function judgeInput(geolint, name, input, { maxBytes, framing = null, which, most, quick: isQuick }) {
