@@ -69,6 +69,8 @@ include contrib/library.mk
 # Packages: `make dist`, `make release`.
 include contrib/dist.mk
 
-# The page, the package for npm, the extension for VS Code, and the library for another machine: `make web`, `make npm`, `make vscode`,
-# `make library TARGET=aarch64`.
+# The page, the package for npm, the extension for VS Code and the plugin for QGIS: `make web`, `make npm`, `make vscode`, `make qgis`.
 include contrib/web.mk
+
+# The library and the programs for another machine: `make library TARGET=windows`, `make programs TARGET=windows`.
+include contrib/targets.mk

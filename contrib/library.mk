@@ -38,7 +38,7 @@ $(LIBRARY_BUILD)/libgeolint.so: $(LIBRARY_BUILD)/libgeolint.a
 	$(CC) -shared -Wl,-soname,libgeolint.so.0 -Wl,--whole-archive $< -Wl,--no-whole-archive -o $@
 
 rust := Cargo.toml build.rs src/lib.rs src/findings.rs src/hints.rs src/places.rs tests/linter.rs tests/findings.rs
-python := __init__.py __main__.py _build.py _demands.py _findings.py _hints.py _linter.py _native.py _places.py _sources.py _verdict.py dask.py django.py starlette.py py.typed \
+python := __init__.py __main__.py _build.py _demands.py _findings.py _hints.py _known.py _linter.py _native.py _places.py _sources.py _verdict.py dask.py django.py starlette.py py.typed \
 	_command/__init__.py _command/files.py _command/forms.py _command/run.py
 cmake := geolint-config.cmake geolint-config-version.cmake
 # $(call fill,TEMPLATE,FILE): both without what stands before them here.

@@ -251,6 +251,7 @@ for name, told, call in [
     ("a text that is fed", ".encode()", lambda: geolint.Linter().feed(ring.decode())),
     ("a file that is open as text", 'open it as "rb"', lambda: geolint.check(io.StringIO("{}"))),
     ("a mapping", "json.dumps", lambda: geolint.check({"type": "Point"})),
+    ("a file's name", "pathlib.Path", lambda: geolint.check(__file__)),
     ("a lone surrogate", "the character 70000 ", lambda: geolint.check(" " * 70000 + "\ud800")),
     ("what is awaited", "acheck", lambda: geolint.check(awaited([]))),
 ]:

@@ -9,21 +9,15 @@ README.md."""
 
 import itertools
 import os
-import re
 from pathlib import Path
 
 import geolint
 from gdal_python_driver import BaseDataset, BaseDriver, BaseLayer
+from geolint._known import known_of
 
 PREFIX = "GEOLINT:"
 # So many findings are in memory at a time. The file is read once for all of them, and once more for each so many.
 AT_ONCE = 65536
-# A feature's first position and its id are looked for in so many of its bytes.
-HEAD = 65536
-MOST_ID = 120
-NUMBER = rb"(-?\d+(?:\.\d+)?(?:[eE][-+]?\d+)?)"
-POSITION = re.compile(rb'"coordinates"\s*:[\s\[]*' + NUMBER + rb"\s*,\s*" + NUMBER)
-ID = re.compile(rb'"((?:[^"\\]|\\.)*)"|[^\s,}\]]+')
 
 WHY = {"code": "String", "text": "String"}
 WHERE = {"offset": "Integer64", "line": "Integer64", "column": "Integer64", "path": "String"}
@@ -60,20 +54,15 @@ class Findings(Layer):
 
     @staticmethod
     def row(file, found, place):
-        file.seek(found.place)
-        position = POSITION.search(file.read(min(HEAD, (found.end or found.place) - found.place)))
-        known = None
-        if found.id is not None:
-            file.seek(found.id)
-            known = ID.match(file.read(MOST_ID))
+        known = known_of(file, found)
         values = {
             "feature": found.number,
-            "id": known and (known[1] or known[0]).decode("utf-8", "replace"),
+            "id": known.id,
             "code": found.verdict.code,
             "text": found.verdict.text,
             **vars(place),
         }
-        return position and f"POINT ({float(position[1])} {float(position[2])})", values
+        return known.position and "POINT ({} {})".format(*known.position), values
 
 
 class Report(Layer):

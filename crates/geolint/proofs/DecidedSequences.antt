@@ -10,9 +10,9 @@ use Rattle.gj_rules.specs.declared.sequence.verdict.SeqVerdict.{SeqVerdict}
 use Rattle.gj_rules.specs.declared.verdict.Verdict.{Verdict}
 use Rattle.gj_rules.specs.declared.verdict.Verdict.TheVariants.{Valid, Broken, NotJson}
 use Rattle.gj_rules.specs.Sequence.{SequenceRecord, records_of, is_stray, not_json, is_valid, IsJudgedBy, IsSequenceVerdict, SequenceJudgement, all_valid}
-use Rattle.gj_rules.specs.Sequence.{failing, SequenceSays}
+use Rattle.gj_rules.specs.Sequence.{failing, is_valid_sequence, SequenceSays}
 use Rattle.gj_rules.specs.SequenceJudgement.{IsSequenceJudgement}
-use Rattle.gj_rules.specs.SequenceStands.{is_valid_sequence, IsSettled}
+use Rattle.gj_rules.specs.SequenceStands.{IsSettled}
 use Rattle.gj_rules.specs.Verdict.{Judgement, valid, broken, refused, Says}
 use Rattle.geolint_report.specs.Fed.{IsDecidedSequence}
 use Rattle.geolint_report.specs.ReadingLoop.{Ends}

@@ -12,11 +12,8 @@ use gj_coords::Rule;
 use gj_json::{Event, EventSink, Known, Limits, Path, PathStep, Reader, What};
 use itoa::Buffer;
 
-/// The most bytes of what is reported.
-const MOST_FOUND: usize = 240;
-
-/// The most bytes of a position that are shown.
-const MOST_OF_POSITION: usize = 64;
+/// The most bytes of what is reported: two positions, and some words.
+const MOST_FOUND: usize = 2 * MOST_BYTES + 64;
 
 /// How many bytes are looked at together.
 const PIECE: usize = 4096;
@@ -57,6 +54,26 @@ impl Found {
         }
     }
 
+    /// Adds bytes on one line: the end of a line and the indent after it are left out, or after a comma one space.
+    fn add_on_one_line(&mut self, bytes: &[u8]) {
+        let mut last = b' ';
+        let mut is_indent = false;
+        for byte in bytes {
+            match *byte {
+                b'\n' | b'\r' => is_indent = true,
+                b' ' | b'\t' if is_indent => {}
+                shown => {
+                    if is_indent && last == b',' {
+                        self.add(b" ");
+                    }
+                    self.add(&[shown]);
+                    last = shown;
+                    is_indent = false;
+                }
+            }
+        }
+    }
+
     fn add_number(&mut self, number: u64) {
         let mut buffer = Buffer::new();
         self.add(buffer.format(number).as_bytes());
@@ -78,15 +95,14 @@ fn find_found<S: Rewind>(told: &Told, path: Option<&Path>, source: &S) -> Option
     match rule {
         Rule::G3 => found_type(told.place, path, source),
         Rule::G9 | Rule::G10 | Rule::G16 => found_value(told.place, source),
-        Rule::G12 => found_elements(told.place, b"; a position has at least 2", source),
-        Rule::G13 => found_elements(told.place, b"; a line has at least 2", source),
-        Rule::G14 => found_elements(told.place, b"; a ring has at least 4", source),
+        Rule::G11 => found_shape(told.place, path, source),
+        Rule::G12 | Rule::G13 | Rule::G14 => found_elements(rule, told.place, source),
         Rule::G15 => found_ends(told.place, source),
         _ => None,
     }
 }
 
-/// The value at a place, as it is written.
+/// The value at a place, as it is written but for the ends of lines.
 fn found_value<S: Rewind>(place: u64, source: &S) -> Option<Found> {
     let mut found = Found::nothing();
     let mut bytes = [0; MOST_BYTES];
@@ -96,8 +112,40 @@ fn found_value<S: Rewind>(place: u64, source: &S) -> Option<Found> {
     }
     let read = front(&bytes, count);
     let shown = written_length(read);
-    found.add(front(read, shown));
+    found.add_on_one_line(front(read, shown));
     Some(found)
+}
+
+const TOO_FEW: &[u8] = b"; one level of brackets is missing";
+
+const TOO_MANY: &[u8] = b"; one level of brackets is too many";
+
+/// A value in coordinates, and what is due there. An array stands in a position, and a number outside of each.
+fn found_shape<S: Rewind>(place: u64, path: Option<&Path>, source: &S) -> Option<Found> {
+    let mut found = found_value(place, source)?;
+    let (due, level): (&'static [u8], &'static [u8]) = match found.bytes[0] {
+        b'[' => (b"; a number is due", TOO_MANY),
+        b'-' | b'0'..=b'9' => (b"; an array is due", TOO_FEW),
+        b'"' => (b"; numbers have no quotation marks", b""),
+        _ => (b"; an array or a number is due", b""),
+    };
+    found.add(due);
+    // If others stand before it, it is one by itself that is wrong.
+    if is_first(path) {
+        found.add(level);
+    }
+    Some(found)
+}
+
+/// Whether a path leads to the first element of an array.
+fn is_first(path: Option<&Path>) -> bool {
+    match path {
+        Some(path) => matches!(
+            path.step(path.len().saturating_sub(1)),
+            Some(PathStep::Index(0))
+        ),
+        None => false,
+    }
 }
 
 /// A type, and those that are allowed there (RFC 7946, section 1.4), by the path to it.
@@ -134,13 +182,14 @@ fn member_around(path: &Path, steps: u16) -> Option<Known> {
     }
 }
 
-/// What the events of an array show: how many elements it has, and where the first and the last of them begin that are arrays.
+/// What the events of an array show: how many elements it has, where the first and the last of them begin, and what the first one is.
 #[derive(Clone, Copy)]
 struct Elements {
     levels: u64,
     count: u64,
     first: u64,
     last: u64,
+    first_what: What,
     has_ended: bool,
 }
 
@@ -151,17 +200,19 @@ impl Elements {
             count: 0,
             first: 0,
             last: 0,
+            first_what: What::Null,
             has_ended: false,
         }
     }
 
-    /// An element or the array itself begins at this place.
-    fn begin(&mut self, place: u64) {
+    /// An element or the array itself begins.
+    fn begin(&mut self, event: Event) {
         if self.levels == 1 && !self.has_ended {
             if self.count == 0 {
-                self.first = place;
+                self.first = event.place;
+                self.first_what = event.what;
             }
-            self.last = place;
+            self.last = event.place;
             self.count = self.count.saturating_add(1);
         }
     }
@@ -180,12 +231,12 @@ impl EventSink for Elements {
     fn tell(&mut self, event: Event) {
         match event.what {
             What::OpenArray | What::OpenObject => {
-                self.begin(event.place);
+                self.begin(event);
                 self.levels = self.levels.saturating_add(1);
             }
             What::CloseArray | What::CloseObject => self.close(),
             What::Name(_) => {}
-            _ => self.begin(event.place),
+            _ => self.begin(event),
         }
     }
 
@@ -217,8 +268,8 @@ fn elements_at<S: Rewind>(place: u64, source: &S) -> Option<Elements> {
     None
 }
 
-/// How many elements an array has, and how many it must have.
-fn found_elements<S: Rewind>(place: u64, least: &[u8], source: &S) -> Option<Found> {
+/// How many elements an array has that breaks one of these rules, and how many it must have.
+fn found_elements<S: Rewind>(rule: Rule, place: u64, source: &S) -> Option<Found> {
     let elements = elements_at(place, source)?;
     let mut found = Found::nothing();
     found.add_number(elements.count);
@@ -227,7 +278,16 @@ fn found_elements<S: Rewind>(place: u64, least: &[u8], source: &S) -> Option<Fou
     } else {
         b" elements"
     });
-    found.add(least);
+    found.add(match rule {
+        Rule::G12 => b"; a position has at least 2",
+        Rule::G13 => b"; a line has at least 2",
+        _ => b"; a ring has at least 4",
+    });
+    match (rule, elements.first_what) {
+        (Rule::G12, What::OpenArray) => found.add(TOO_MANY),
+        (Rule::G13 | Rule::G14, What::Number(_)) => found.add(TOO_FEW),
+        _ => {}
+    }
     Some(found)
 }
 
@@ -242,16 +302,18 @@ fn found_ends<S: Rewind>(place: u64, source: &S) -> Option<Found> {
     Some(found)
 }
 
-/// Adds the position at a place, as it is written, in its first bytes.
+/// Adds the position at a place, as it is written, in its first bytes and on one line.
 fn add_position<S: Rewind>(found: &mut Found, place: u64, source: &S) {
-    let mut bytes = [0; MOST_OF_POSITION];
+    let mut bytes = [0; MOST_BYTES];
     let count = source.peek(place, &mut bytes);
     let read = front(&bytes, count);
-    match read.iter().position(|byte| *byte == b']') {
-        Some(end) => found.add(front(read, end.saturating_add(1))),
-        None => {
-            found.add(read);
-            found.add(b"..");
-        }
+    let end = read.iter().position(|byte| *byte == b']');
+    let shown = match end {
+        Some(end) => front(read, end.saturating_add(1)),
+        None => read,
+    };
+    found.add_on_one_line(shown);
+    if end.is_none() {
+        found.add(b"..");
     }
 }

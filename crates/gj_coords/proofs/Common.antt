@@ -4,7 +4,6 @@ pub use Rattle.gj_coords.specs.Fault.{comes_first, fault_at, least, lesser}
 pub use Rattle.gj_coords.specs.Internal.AddedPositions.{StayAll}
 pub use Rattle.gj_coords.specs.Internal.CoordinatesKept.{first_answer, second_answer, third_answer}
 pub use Rattle.gj_coords.specs.Internal.CutPositionGather.{counted_noted}
-pub use Rattle.gj_coords.specs.Internal.Findings.{Judgement}
 pub use Rattle.gj_coords.specs.Internal.FlatPosition.{flat_first, flat_position, precise_noted}
 pub use Rattle.gj_coords.specs.Internal.GatheredWarningLaws.{taken_is}
 pub use Rattle.gj_coords.specs.Internal.GatheredWarnings.{all_in, no_warned, warnings_in}
@@ -12,16 +11,14 @@ pub use Rattle.gj_coords.specs.Internal.Gathering.{Gathering, gathered, given}
 pub use Rattle.gj_coords.specs.Internal.KeptWarnings.{joined_noted, kept, noted_as, shifted_noted}
 pub use Rattle.gj_coords.specs.Internal.LevelGather.{Line, WholeSummary, fault_as, first_gathering, level, other, second_gathering, third_gathering}
 pub use Rattle.gj_coords.specs.Internal.LevelGather.{warned_as}
-pub use Rattle.gj_coords.specs.Internal.ListGather.{several_gathering}
 pub use Rattle.gj_coords.specs.Internal.PositionGather.{arrays_counted, numbers_gathering, position_answer, position_closed, sound_noted}
 pub use Rattle.gj_coords.specs.Internal.PositionWarnings.{position_warned}
-pub use Rattle.gj_coords.specs.Internal.PositionsGather.{position_added, ring_gathering, role_behind}
+pub use Rattle.gj_coords.specs.Internal.PositionsGather.{position_added, role_behind}
 pub use Rattle.gj_coords.specs.Internal.Progress.{done, in_first, in_second, in_third, progress_machine, waiting}
 pub use Rattle.gj_coords.specs.Internal.RingLaws.{ring_least}
 pub use Rattle.gj_coords.specs.Internal.SentEvents.{elements_sent, event_at, head, sent}
-pub use Rattle.gj_coords.specs.Internal.SixReaders.{ring_answer, type_answer}
 pub use Rattle.gj_coords.specs.Internal.SteadyWalk.{IsCounted, first_steady, second_steady}
-pub use Rattle.gj_coords.specs.Internal.ValueMachine.{Answers, IsCountable, run}
+pub use Rattle.gj_coords.specs.Internal.ValueMachine.{IsCountable, run}
 pub use Rattle.gj_coords.specs.Internal.WarningLaws.{added_is, by_kind_alike, joined_none_first, kept_by_kind}
 pub use Rattle.gj_coords.specs.Internal.WindingGather.{turn_in}
 pub use Rattle.gj_coords.specs.Items.{elements_of, items, place_of}

@@ -1,12 +1,9 @@
--- What the reader of each kind of value answers.
+-- What is read of a value, and what is found in it.
 pub mod SentLaws
 pub mod RestsOfValues
+pub mod PassedValues
 pub mod BboxLaws
 pub mod LeastOfSome
 pub mod AgreeingPositions
-pub mod WrittenParts
 pub mod EventCounts
 pub mod WarningsOfElements
-pub mod OrEmptyLaws
-pub mod SixFaults
-pub mod SixWarnings

@@ -1,11 +1,13 @@
 -- What `Coordinates` stands for: the events that it was given.
-use Rattle.std.specs.Prelude.{◌≡◌, ◌<◌, ◌^◌, List, [], ◌∷◌, ◌++◌, Bool, true, false}
+use Rattle.std.specs.Prelude.{◌≡◌, ◌<◌, ◌^◌, List, [], ◌∷◌, ◌++◌}
 use Rattle.gj_json.specs.declared.event.Event.{Event}
 use Rattle.gj_json.specs.declared.flat.Flat.{Flat}
 use Rattle.gj_json.specs.Tree.{Tree, depth}
 use Rattle.gj_json.specs.Events.{value_events}
 use Rattle.gj_json.specs.Flat.{flat_events}
 use Rattle.gj_coords.specs.declared.coordinates.Coordinates.{Coordinates}
+use Rattle.gj_coords.specs.declared.coordinates.State.{State}
+use Rattle.gj_coords.specs.declared.coordinates.State.TheVariants.{Walked, Steady, Whole}
 use Rattle.gj_coords.specs.declared.walk.Stage.TheVariants.{Done}
 use Rattle.gj_coords.specs.declared.walk.Walk.{Walk}
 use Rattle.gj_coords.specs.Internal.ValueMachine.{ReadsOn}
@@ -14,7 +16,7 @@ use Rattle.gj_coords.specs.Internal.PositionGather.{sound_noted}
 use Rattle.gj_coords.specs.Internal.FlatPosition.{flat_misshapen, flat_position, flat_first}
 use Rattle.gj_coords.specs.Internal.CoordinatesKept.{first_answer}
 use Rattle.gj_coords.specs.Internal.Progress.{Progress, done, progress_machine}
-use Rattle.gj_coords.specs.Internal.WalkProgress.{progress, never}
+use Rattle.gj_coords.specs.Internal.WalkProgress.{progress}
 use Rattle.gj_coords.specs.Internal.SteadyWalk.{IsSteady}
 
 -- so far are these events read
@@ -29,14 +31,14 @@ pub record IsWhole (events : List Event) (walk : Walk) : Type 0 where
   pub fault : walk.outer.positions ≡ flat_misshapen position
   pub warned : walk.outer.positions_warned ≡ sound_noted no_warned (flat_position position)
 
-abbrev pub Holds : Bool → List Event → Walk → Type 0
-Holds false events walk = IsAt events (progress walk)
-Holds true events walk = IsWhole events walk
+abbrev pub Holds : State → List Event → Walk → Type 0
+Holds Walked events walk = IsAt events (progress walk)
+Holds (Steady floor) events walk = IsAt events (progress walk) × IsSteady floor walk
+Holds Whole events walk = IsWhole events walk
 
 -- What it says is internal: a caller needs that `new` stands for no events, and that each call keeps it.
 pub record StandsFor (coordinates : Coordinates) (events : List Event) : Type 0 where
-  pub holds : Holds coordinates.whole events coordinates.walk
-  pub steady : coordinates.floor < never → IsSteady coordinates.floor coordinates.walk
+  pub holds : Holds coordinates.state events coordinates.walk
 
 -- no value ends with these events
 abbrev pub NotEnded : List Event → Type 0

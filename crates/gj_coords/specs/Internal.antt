@@ -3,19 +3,13 @@ pub mod SentEvents
 pub mod ValueMachine
 pub mod ElementReader
 pub mod Gathering
-pub mod ArrayReader
-pub mod ElementLaws
-pub mod ArrayLaws
 pub mod ElementCount
 pub mod ByKind
 pub mod KeptWarnings
 pub mod GatheredWarnings
-pub mod AllCorners
 pub mod WindingGather
 pub mod PositionGather
-pub mod Findings
 pub mod PositionsGather
-pub mod ListGather
 pub mod LevelGather
 pub mod FlatPosition
 pub mod Progress
@@ -25,9 +19,6 @@ pub mod CoordinatesKept
 pub mod ElementCountLaws
 pub mod PositionLaws
 pub mod RingLaws
-pub mod ListLaws
-pub mod OrEmptyGather
-pub mod SixReaders
 pub mod KeptWarningLaws
 pub mod WarningLaws
 pub mod LeastLaws
@@ -35,6 +26,6 @@ pub mod GatheredWarningLaws
 pub mod PositionWarnings
 pub mod WindingLaws
 pub mod RingWarnings
-pub mod BoxGather
+pub mod BoxElements
 pub mod CutPositionGather
 pub mod AddedPositions

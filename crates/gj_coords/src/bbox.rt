@@ -1,17 +1,13 @@
 //! The value of `bbox` (RFC 7946, section 5).
-
 ghost use Rattle.std.specs.Prelude.{◌≡◌};
-ghost use Rattle.gj_coords.specs.Internal.BoxGather.{unlike_number};
+ghost use Rattle.gj_coords.specs.Internal.BoxElements.{unlike_number, misplaced_at};
 
 mod latitudes;
 
-use crate::array::Array;
 use crate::bbox::latitudes::{Latitudes, number_in};
 use crate::element::Element;
 use crate::fault::{Fault, Rule, join_fault, lesser_fault};
 use crate::kind::Kind;
-use crate::tally::Tally;
-use crate::value_reader::{Gather, ValueReader};
 use crate::warnings::Warnings;
 use gj_json::{Event, What};
 
@@ -20,19 +16,22 @@ const NEEDED: u8 = 4;
 
 /// What a bounding box gathers of its elements.
 #[derive(Clone, Copy)]
-pub struct BoxGather {
-    pub tally: Tally,
+pub struct BoxElements {
+    /// The least fault of those that are no numbers.
     pub fault: Option<Fault>,
-    /// Whether the number of elements is odd.
+    /// Whether there is an odd number of them.
     pub odd: bool,
     pub latitudes: Latitudes,
 }
 
-/// What is known of a bounding box: its least fault, and where it begins if its south is above its north.
-#[derive(Clone, Copy)]
-pub struct BoxFindings {
-    pub fault: Option<Fault>,
-    pub upside_down: Option<u64>,
+/// The fault of a value or an element of another kind than is due.
+fn misplaced(place: u64) -> Option<Fault>
+    ensures { result ≡ misplaced_at place }
+{
+    Some(Fault {
+        place,
+        rule: Rule::G20,
+    })
 }
 
 /// The fault of an element that is no number, by its first event.
@@ -41,98 +40,79 @@ fn not_a_number(element: &Event) -> Option<Fault>
 {
     match element.what {
         What::Number(_) => None,
-        _ => Some(Fault {
-            place: element.place,
-            rule: Rule::G20,
-        }),
+        _ => misplaced(element.place),
     }
 }
 
-impl BoxGather {
+impl BoxElements {
     ghost use Rattle.std.specs.Prelude.{◌≡◌};
-    ghost use Rattle.gj_coords.specs.Internal.BoxGather.{wrong_length, upside_down, box_gathering};
+    ghost use Rattle.gj_coords.specs.Internal.BoxElements.{no_elements, element_added, taken_at, wrong_length, fault_by, warnings_by};
 
-    /// Adds an element by its first event.
-    fn add_element(&mut self, element: &Event)
-        ensures { self.new ≡ box_gathering.added self.old element.now }
+    /// None has come.
+    fn none() -> BoxElements
+        ensures { result ≡ no_elements }
     {
-        join_fault(&mut self.fault, not_a_number(element));
-        self.tally.add();
-        self.odd = !self.odd;
-        self.latitudes.add(number_in(&element.what));
-    }
-
-    /// Where the box begins, if its south is above its north.
-    fn upside_down(&self) -> Option<u64>
-        ensures { result ≡ upside_down self.now }
-    {
-        if self.latitudes.upside_down() {
-            Some(self.tally.place)
-        } else {
-            None
-        }
-    }
-
-    /// The fault of a length that is odd or too small.
-    fn wrong_length(&self) -> Option<Fault>
-        ensures { result ≡ wrong_length self.now }
-    {
-        if self.tally.count < NEEDED || self.odd {
-            Some(Fault {
-                place: self.tally.place,
-                rule: Rule::G21,
-            })
-        } else {
-            None
-        }
-    }
-}
-
-impl Gather<Element> for BoxGather {
-    ghost use Rattle.gj_coords.specs.Internal.BoxGather.{box_gathering};
-
-    type Answer = BoxFindings;
-
-    ghost gathering = { box_gathering };
-
-    fn new() -> BoxGather {
-        BoxGather {
-            tally: Tally::open(0),
+        BoxElements {
             fault: None,
             odd: false,
             latitudes: Latitudes::none(),
         }
     }
 
-    fn open(&mut self, place: u64) {
-        self.tally = Tally::open(place);
-        self.fault = None;
-        self.odd = false;
-        self.latitudes = Latitudes::none();
-    }
-
-    fn add(&mut self, item: &Element) {
-        self.add_element(&item.first);
-    }
-
-    fn add_single(&mut self, event: &Event) {
-        self.add_element(event);
-    }
-
-    fn close(&self) -> BoxFindings {
-        BoxFindings {
-            fault: lesser_fault(self.wrong_length(), self.fault),
-            upside_down: self.upside_down(),
+    /// Takes an event where so many levels are open. Where it is one, this is the first event of an element, or the closing
+    /// bracket.
+    fn take(&mut self, levels: u64, event: &Event)
+        ensures { self.new ≡ taken_at levels self.old event.now }
+    {
+        match (levels, &event.what) {
+            (1, What::CloseArray) => {}
+            (1, _) => self.add(event),
+            _ => {}
         }
     }
 
-    fn other(head: &Event) -> BoxFindings {
-        BoxFindings {
-            fault: Some(Fault {
-                place: head.place,
-                rule: Rule::G20,
-            }),
-            upside_down: None,
+    /// Adds an element by its first event.
+    fn add(&mut self, element: &Event)
+        ensures { self.new ≡ element_added self.old element.now }
+    {
+        join_fault(&mut self.fault, not_a_number(element));
+        self.odd = !self.odd;
+        self.latitudes.add(number_in(&element.what));
+    }
+
+    /// The fault of a length that is odd or too small, of the array at this place.
+    fn wrong_length(&self, place: u64) -> Option<Fault>
+        ensures { result ≡ wrong_length place self.now }
+    {
+        if self.latitudes.count < NEEDED || self.odd {
+            Some(Fault {
+                place,
+                rule: Rule::G21,
+            })
+        } else {
+            None
+        }
+    }
+
+    /// The least fault of a value that has these elements, by its first event.
+    fn fault_in(&self, value: &Event) -> Option<Fault>
+        ensures { result ≡ fault_by value.now.what value.now.place self.now }
+    {
+        match value.what {
+            What::OpenArray => lesser_fault(self.wrong_length(value.place), self.fault),
+            _ => misplaced(value.place),
+        }
+    }
+
+    /// Its warnings.
+    fn warnings_in(&self, value: &Event) -> Warnings
+        ensures { result ≡ warnings_by value.now.what value.now.place self.now }
+    {
+        match value.what {
+            What::OpenArray if self.latitudes.upside_down() => {
+                Warnings::none().add(Kind::W8, value.place)
+            }
+            _ => Warnings::none(),
         }
     }
 }
@@ -143,7 +123,9 @@ impl Gather<Element> for BoxGather {
 /// for a value of 2^64 levels or more.
 #[derive(Clone, Copy)]
 pub struct Bbox {
-    reader: Array<Element, BoxGather>,
+    /// The value, which is read past.
+    value: Element,
+    elements: BoxElements,
 }
 
 impl Bbox {
@@ -162,7 +144,8 @@ impl Bbox {
         ensures stands { StandsFor result [] }
     {
         Bbox {
-            reader: ValueReader::new(),
+            value: Element::new(),
+            elements: BoxElements::none(),
         }
     }
 
@@ -170,7 +153,8 @@ impl Bbox {
     pub fn event(&mut self, event: Event)
         ensures stands { (events : List Event) → StandsFor self.old events → StandsFor self.new (events ++ event ∷ []) }
     {
-        self.reader.event(&event);
+        self.elements.take(self.value.levels, &event);
+        self.value.event(&event);
     }
 
     /// Whether the events are those of a whole value.
@@ -178,23 +162,20 @@ impl Bbox {
         ensures at_the_end { (value : Tree) (events rest : List Event) → StandsFor self.now events → events ++ rest ≡ value_events value →
             depth value < 2 ^ 64 → IsTrue result ↔ (rest ≡ []) }
     {
-        self.reader.done()
+        self.value.done()
     }
 
     /// The least fault of the value as a bounding box.
     pub fn fault(&self) -> Option<Fault>
         ensures least { (value : Tree) → StandsFor self.now (value_events value) → depth value < 2 ^ 64 → result ≡ least (bbox_faults value) }
     {
-        self.reader.answer().fault
+        self.elements.fault_in(&self.value.first)
     }
 
     /// The warnings of the value as a bounding box: W8 where its south is above its north.
     pub fn warnings(&self) -> Warnings
         ensures stands { (value : Tree) → StandsFor self.now (value_events value) → depth value < 2 ^ 64 → WarningsStandFor result (bbox_warnings value) }
     {
-        match self.reader.answer().upside_down {
-            Some(place) => Warnings::none().add(Kind::W8, place),
-            None => Warnings::none(),
-        }
+        self.elements.warnings_in(&self.value.first)
     }
 }

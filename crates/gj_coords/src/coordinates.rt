@@ -3,7 +3,7 @@
 use crate::fault::Fault;
 use crate::simple::Simple;
 use crate::simple_faults::SimpleFaults;
-use crate::walk::{NEVER, Stage, Walk};
+use crate::walk::{Stage, Walk};
 use crate::warned::Warned;
 use crate::warnings::Warnings;
 use gj_json::{CutPosition, Event, Flat};
@@ -21,18 +21,26 @@ use std::mem::size_of;
 #[derive(Clone, Copy)]
 pub struct Coordinates {
     walk: Walk,
-    /// After this place a position more that comes as one [`Flat`] changes no fault. It is `NEVER` where any may.
-    floor: u64,
-    /// Whether the value is a position that came as one [`Flat`]. Of what the walk gathers, only two things are then
-    /// held: the least fault as positions, which is that of each type but `Point`, and the warnings for `Point`.
-    whole: bool,
+    state: State,
+}
+
+/// What is known of the walk.
+#[derive(Clone, Copy)]
+enum State {
+    /// It has come as far as the events.
+    Walked,
+    /// It has, and after this place a position more that comes as one [`Flat`] changes no fault.
+    Steady(u64),
+    /// The value is a position that came as one [`Flat`]. Of what the walk gathers, only two things are then held:
+    /// the least fault as positions, which is that of each type but `Point`, and the warnings for `Point`.
+    Whole,
 }
 
 // A linter holds one, and begins another for each member `coordinates`.
 const _: () = prove!(size_of::<Coordinates>() == 2624);
 
 impl Coordinates {
-    ghost use Rattle.std.specs.Prelude.{◌≡◌, ◌↔◌, ◌<◌, ◌^◌, ◌++◌, ◌∷◌, List, [], length, IsTrue, ◌≤◌, take};
+    ghost use Rattle.std.specs.Prelude.{◌≡◌, ◌↔◌, ◌<◌, ◌^◌, ◌++◌, ◌∷◌, ℕ, List, [], length, IsTrue, ◌≤◌, take};
     ghost use Rattle.gj_json.specs.declared.event.Event.{Event};
     ghost use Rattle.gj_json.specs.declared.event.What.TheVariants.{OpenArray, CloseArray, Number};
     ghost use Rattle.gj_json.specs.Tree.{Tree, depth};
@@ -42,6 +50,7 @@ impl Coordinates {
     ghost use Rattle.gj_json.specs.CutPosition.{AreCutPositions, Rise, flats_events};
     ghost use Rattle.gj_coords.specs.Fault.{least};
     ghost use Rattle.gj_coords.specs.Shape.{coordinates_faults};
+    ghost use Rattle.gj_coords.specs.declared.coordinates.State.TheVariants.{Steady};
     ghost use Rattle.gj_coords.specs.Coordinates.{StandsFor, NoneEnds};
     ghost use Rattle.gj_coords.specs.Internal.KeptWarnings.{joined, no_warnings};
     ghost use Rattle.gj_coords.specs.WarningsStand.{StandsFor as WarningsStandFor};
@@ -56,8 +65,7 @@ impl Coordinates {
     {
         Coordinates {
             walk: Walk::new(),
-            floor: NEVER,
-            whole: false,
+            state: State::Walked,
         }
     }
 
@@ -65,8 +73,7 @@ impl Coordinates {
     pub fn again(&mut self)
         ensures stands { StandsFor self.new [] }
     {
-        self.floor = NEVER;
-        self.whole = false;
+        self.state = State::Walked;
         self.walk.again();
     }
 
@@ -83,8 +90,7 @@ impl Coordinates {
         ensures stands { (events : List Event) → StandsFor self.old events →
             StandsFor self.new (events ++ event.now ∷ []) }
     {
-        self.floor = NEVER;
-        self.whole = false;
+        self.state = State::Walked;
         self.walk.event(event);
     }
 
@@ -94,8 +100,7 @@ impl Coordinates {
         ensures stands { (events : List Event) → StandsFor self.old events →
             StandsFor self.new (events ++ record { place = place; what = Number value.now } ∷ []) }
     {
-        self.floor = NEVER;
-        self.whole = false;
+        self.state = State::Walked;
         self.walk.number(place, value);
     }
 
@@ -105,8 +110,7 @@ impl Coordinates {
         ensures stands { (events : List Event) → StandsFor self.old events →
             StandsFor self.new (events ++ record { place = place; what = OpenArray } ∷ []) }
     {
-        self.floor = NEVER;
-        self.whole = false;
+        self.state = State::Walked;
         self.walk.open_array(place);
     }
 
@@ -116,8 +120,7 @@ impl Coordinates {
         ensures stands { (events : List Event) → StandsFor self.old events →
             StandsFor self.new (events ++ record { place = place; what = CloseArray } ∷ []) }
     {
-        self.floor = NEVER;
-        self.whole = false;
+        self.state = State::Walked;
         self.walk.close_array(place);
     }
 
@@ -138,7 +141,7 @@ impl Coordinates {
         ensures at_the_end { (value : Tree) (events rest : List Event) → StandsFor self.new events → events ++ rest ≡ value_events value →
             depth value < 2 ^ 64 → IsTrue result ↔ (rest ≡ []) }
     {
-        if self.floor < flat.place {
+        if self.is_steady_at(flat.place) {
             self.walk.add_steady(flat);
             return false;
         }
@@ -157,10 +160,21 @@ impl Coordinates {
         ensures goes_on { (flats : List Flat) → AreCutPositions (take result positions.now) flats → (events : List Event) → StandsFor self.old events
             → NoneEnds events flats }
     {
-        if positions.is_empty() || self.floor >= positions[0].place {
+        if positions.is_empty() || !self.is_steady_at(positions[0].place) {
             return 0;
         }
         self.walk.add_cuts(positions)
+    }
+
+    /// Whether a position at this place that comes as one [`Flat`] changes no fault.
+    #[inline(always)]
+    fn is_steady_at(&self, place: u64) -> bool
+        ensures { IsTrue result → (floor : ℕ) × (self.now.state ≡ Steady floor) × (floor < place) }
+    {
+        match self.state {
+            State::Steady(floor) => floor < place,
+            _ => false,
+        }
     }
 
     /// Takes the events of an array of numbers, at any depth of the value.
@@ -173,13 +187,12 @@ impl Coordinates {
             Stage::Due => {
                 self.walk.outer.hold_flat(flat);
                 self.walk.stage = Stage::Done;
-                self.floor = NEVER;
-                self.whole = true;
+                self.state = State::Whole;
             }
-            _ => {
-                self.floor = self.walk.take_flat(flat);
-                self.whole = false;
-            }
+            _ => match self.walk.take_flat(flat) {
+                Some(floor) => self.state = State::Steady(floor),
+                None => self.state = State::Walked,
+            },
         }
     }
 
@@ -196,10 +209,9 @@ impl Coordinates {
         ensures least { (value : Tree) → StandsFor self.now (value_events value) → depth value < 2 ^ 64 →
             result ≡ least (coordinates_faults simple value) }
     {
-        if self.whole {
-            self.walk.outer.held_fault(simple)
-        } else {
-            self.walk.fault(simple)
+        match self.state {
+            State::Whole => self.walk.outer.held_fault(simple),
+            _ => self.walk.fault(simple),
         }
     }
 
@@ -209,11 +221,14 @@ impl Coordinates {
         ensures least { (value : Tree) → StandsFor self.now (value_events value) → depth value < 2 ^ 64 →
             faults.new ≡ least_faults value }
     {
-        if self.whole {
-            self.walk.outer.held_faults(faults);
-        } else {
-            self.walk.faults(faults);
-        }
+        *faults = SimpleFaults {
+            point: self.fault(Simple::Point),
+            multi_point: self.fault(Simple::MultiPoint),
+            line_string: self.fault(Simple::LineString),
+            multi_line_string: self.fault(Simple::MultiLineString),
+            polygon: self.fault(Simple::Polygon),
+            multi_polygon: self.fault(Simple::MultiPolygon),
+        };
     }
 
     /// The warnings of the value as the coordinates of this type (RFC 7946, sections 3.1, 3.1.1, 3.1.6, 4 and 11.2).
@@ -227,11 +242,7 @@ impl Coordinates {
         ensures stands { (value : Tree) → StandsFor self.now (value_events value) → length (value_events value) < 2 ^ 64 →
             WarningsStandFor result (coordinates_warnings simple value) }
     {
-        if self.whole {
-            self.walk.outer.held_warned(simple).all()
-        } else {
-            self.walk.warnings(simple)
-        }
+        self.warned(simple).all()
     }
 
     /// Whether a few comparisons show that there are none under any type. Where it returns `false`, there may still be
@@ -241,10 +252,9 @@ impl Coordinates {
         ensures none { (value : Tree) (simple : Simple) → StandsFor self.now (value_events value) → depth value < 2 ^ 64 → IsTrue result →
             coordinates_kept simple value ≡ no_warnings }
     {
-        if self.whole {
-            self.walk.outer.positions_warned.is_nothing()
-        } else {
-            self.walk.is_quiet()
+        match self.state {
+            State::Whole => self.walk.outer.positions_warned.is_nothing(),
+            _ => self.walk.is_quiet(),
         }
     }
 
@@ -253,10 +263,16 @@ impl Coordinates {
         ensures kept { (value : Tree) → StandsFor self.now (value_events value) → depth value < 2 ^ 64 →
             all_in warned.new ≡ joined (all_in warned.old) (coordinates_kept simple value) }
     {
-        if self.whole {
-            warned.take(&self.walk.outer.held_warned(simple));
-        } else {
-            self.walk.warn(simple, warned);
+        warned.take(&self.warned(simple));
+    }
+
+    /// What deserves a warning in the value as the coordinates of this type.
+    fn warned(&self, simple: Simple) -> Warned
+        ensures { (value : Tree) → StandsFor self.now (value_events value) → depth value < 2 ^ 64 → all_in result ≡ coordinates_kept simple value }
+    {
+        match self.state {
+            State::Whole => self.walk.outer.held_warned(simple),
+            _ => self.walk.warned(simple),
         }
     }
 }

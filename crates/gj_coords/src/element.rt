@@ -1,8 +1,7 @@
-//! An element that is read past.
+//! A value that is read past.
 ghost use Rattle.std.specs.Prelude.{◌≡◌};
 ghost use Rattle.gj_coords.specs.Internal.ElementReader.{levels_after as levels_after_event};
 
-use crate::value_reader::ValueReader;
 use gj_json::{Event, What};
 
 /// How many arrays and objects are open after the event, as far as the number holds it.
@@ -22,7 +21,7 @@ fn levels_after(levels: u64, what: &What) -> u64
     }
 }
 
-/// Reads past one value, and answers its first event.
+/// Reads past one value, and holds its first event.
 #[derive(Clone, Copy)]
 pub struct Element {
     pub first: Event,
@@ -30,14 +29,13 @@ pub struct Element {
     pub levels: u64,
 }
 
-impl ValueReader for Element {
-    ghost use Rattle.gj_coords.specs.Internal.ElementReader.{element_machine};
+impl Element {
+    ghost use Rattle.gj_coords.specs.Internal.ElementReader.{due, element_after, element_ended};
 
-    type Answer = Event;
-
-    ghost machine = { element_machine };
-
-    fn new() -> Element {
+    /// No event has come.
+    pub fn new() -> Element
+        ensures { result ≡ due }
+    {
         Element {
             first: Event {
                 place: 0,
@@ -48,7 +46,10 @@ impl ValueReader for Element {
         }
     }
 
-    fn event(&mut self, event: &Event) {
+    /// Takes one event, whatever it is.
+    pub fn event(&mut self, event: &Event)
+        ensures { self.new ≡ element_after self.old event.now }
+    {
         if !self.started {
             self.first = *event;
             self.started = true;
@@ -56,20 +57,10 @@ impl ValueReader for Element {
         self.levels = levels_after(self.levels, &event.what);
     }
 
-    fn again(&mut self) {
-        self.started = false;
-        self.levels = 0;
-    }
-
-    fn done(&self) -> bool {
+    /// Whether the value has ended.
+    pub fn done(&self) -> bool
+        ensures { result ≡ element_ended self.now }
+    {
         self.started && self.levels == 0
-    }
-
-    fn answer(&self) -> Event {
-        self.first
-    }
-
-    fn single(event: &Event) -> Event {
-        *event
     }
 }

@@ -59,29 +59,7 @@ impl Rule {
     pub fn number(self) -> u8
         ensures { result ≡ number_of self }
     {
-        match self {
-            Rule::G1 => 1,
-            Rule::G2 => 2,
-            Rule::G3 => 3,
-            Rule::G4 => 4,
-            Rule::G5 => 5,
-            Rule::G6 => 6,
-            Rule::G7 => 7,
-            Rule::G8 => 8,
-            Rule::G9 => 9,
-            Rule::G10 => 10,
-            Rule::G11 => 11,
-            Rule::G12 => 12,
-            Rule::G13 => 13,
-            Rule::G14 => 14,
-            Rule::G15 => 15,
-            Rule::G16 => 16,
-            Rule::G17 => 17,
-            Rule::G18 => 18,
-            Rule::G19 => 19,
-            Rule::G20 => 20,
-            Rule::G21 => 21,
-        }
+        self as u8 + 1
     }
 
     /// What the rule is called in a report.

@@ -47,17 +47,7 @@ impl Kind {
     pub fn number(self) -> u8
         ensures { result ≡ kind_number self }
     {
-        match self {
-            Kind::W1 => 1,
-            Kind::W2 => 2,
-            Kind::W3 => 3,
-            Kind::W4 => 4,
-            Kind::W5 => 5,
-            Kind::W6 => 6,
-            Kind::W7 => 7,
-            Kind::W8 => 8,
-            Kind::W9 => 9,
-        }
+        self as u8 + 1
     }
 
     /// Its index in `KINDS`.

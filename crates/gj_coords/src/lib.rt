@@ -3,10 +3,9 @@
 //! A [`Coordinates`] takes the events of one value, whatever it is, and holds one fixed record. Its
 //! [`Coordinates::fault`] is the least of all faults that the definitions list for the whole value as a type, and its
 //! [`Coordinates::warnings`] are what is kept of all that deserves a warning in it, for each of the six types at once.
-//! A [`Bbox`] does the same for a bounding box. A [`Watcher`] is the plain program for one type.
+//! A [`Bbox`] does the same for a bounding box, and a [`Watcher`] for one type.
 #![tactic(auto)]
 
-mod array;
 mod bbox;
 mod coordinates;
 mod cuts;
@@ -23,7 +22,6 @@ mod ring;
 mod simple;
 mod simple_faults;
 mod tally;
-mod value_reader;
 mod walk;
 mod warned;
 mod warnings;

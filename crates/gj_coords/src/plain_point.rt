@@ -3,7 +3,7 @@ ghost use Rattle.std.specs.Prelude.{◌≡◌, ◌↔◌, IsTrue};
 ghost use Rattle.gj_coords.specs.PlainPoint.{IsPlainPoint, IsPointWith, IsWrittenPlain};
 ghost use Rattle.gj_coords.specs.Internal.GatheredWarnings.{all_in};
 
-use crate::flat::{plain_corner, warn_quick};
+use crate::flat::{corner, is_all_short, judge};
 use crate::warned::Warned;
 use gj_json::Flat;
 
@@ -14,7 +14,7 @@ pub fn is_plain_point(flat: &Flat) -> bool
     ensures plain { IsTrue result → IsPlainPoint flat.now }
     ensures told { IsTrue result ↔ IsWrittenPlain flat.now }
 {
-    plain_corner(flat).is_some()
+    is_all_short(flat) && corner(flat).is_some()
 }
 
 /// What deserves a warning in a position as the coordinates of a Point, in which it breaks no rule.
@@ -23,6 +23,6 @@ pub fn point_warned(flat: &Flat) -> Warned
     ensures { IsPointWith (all_in result) flat.now }
 {
     let mut warned = Warned::none();
-    warn_quick(flat, &mut warned);
+    judge(flat, &mut warned);
     warned
 }

@@ -1,21 +1,16 @@
 //! Positions (RFC 7946, section 3.1.1).
-ghost use Rattle.std.specs.Prelude.{◌≡◌, true, false, Some};
-ghost use Rattle.std.specs.Option.{option_eq};
-ghost use Rattle.gj_number.specs.Exact.{same_parts};
-ghost use Rattle.gj_number.specs.Short.{exact_of};
-ghost use Rattle.gj_coords.specs.Internal.FlatPosition.{third_value};
+ghost use Rattle.std.specs.Prelude.{◌≡◌};
 ghost use Rattle.gj_coords.specs.CoordinateWarnings.{is_precise};
 ghost use Rattle.gj_coords.specs.Internal.PositionGather.{misshapen_at, position_closed};
 
 use crate::fault::{Fault, Rule, join_fault, lesser_fault};
-use crate::flat;
 use crate::kind_warnings::KindWarnings;
 use crate::position_warned::note_position;
 use crate::tally::Tally;
 use crate::warned::Warned;
 use crate::winding::Corner;
-use gj_json::{Event, Flat, Numbered, What};
-use gj_number::{Decimal, Short};
+use gj_json::{Event, What};
+use gj_number::Decimal;
 
 /// The least number of elements of a position.
 const NEEDED: u8 = 2;
@@ -45,72 +40,8 @@ pub struct Numbers {
     pub precise: KindWarnings,
 }
 
-/// Whether a few comparisons show that it is not this number. `false` promises nothing.
-#[inline(always)]
-fn differs(number: &Option<Decimal>, other: Short) -> bool
-    ensures { result ≡ true → option_eq same_parts number.now (Some (exact_of other)) ≡ false }
-{
-    match number {
-        Some(number) => parts_differ(number, other),
-        None => true,
-    }
-}
-
-/// Whether a few comparisons show that a decimal is not this number. Mostly both have the same number of places, and
-/// then their digits decide.
-#[inline(always)]
-fn parts_differ(number: &Decimal, other: Short) -> bool
-    ensures { result ≡ true → same_parts number.now (exact_of other) ≡ false }
-{
-    let (_, digits, power) = number.parts();
-    if power == -(other.places as i16) {
-        digits != other.digits as u128
-    } else {
-        other.digits % 10 != 0
-    }
-}
-
-/// Whether a few comparisons show that a decimal is this number, written with as many places. `false` promises nothing.
-#[inline(always)]
-fn parts_agree(number: &Decimal, other: Short) -> bool
-    ensures { result ≡ true → same_parts number.now (exact_of other) ≡ true }
-{
-    let (negative, digits, power) = number.parts();
-    power == -(other.places as i16)
-        && (digits == other.digits as u128 && negative == other.negative)
-}
-
-/// Whether it is this number. Mostly it is, written as it is here.
-#[inline(always)]
-fn is_same(number: &Option<Decimal>, other: Short) -> bool
-    ensures { result ≡ option_eq same_parts number.now (Some (exact_of other)) }
-{
-    match number {
-        Some(number) => parts_agree(number, other) || is_same_decimal(number, other),
-        None => false,
-    }
-}
-
-#[inline(never)]
-fn is_same_decimal(number: &Decimal, other: Short) -> bool
-    ensures { result ≡ same_parts number.now (exact_of other) }
-{
-    *number == other.decimal()
-}
-
-/// Whether the third numbers are the same, or neither is there.
-fn is_third_same(number: &Option<Decimal>, other: &Option<Numbered>) -> bool
-    ensures { result ≡ option_eq same_parts number.now (third_value other.now) }
-{
-    match other {
-        Some(other) => is_same(number, other.value),
-        None => number.is_none(),
-    }
-}
-
 impl Values {
-    ghost use Rattle.std.specs.Prelude.{◌≡◌, true, false, None};
-    ghost use Rattle.gj_coords.specs.Internal.FlatPosition.{flat_values};
+    ghost use Rattle.std.specs.Prelude.{◌≡◌};
     ghost use Rattle.gj_coords.specs.Internal.PositionGather.{no_values, pushed, same_values, corner_in};
 
     pub fn none() -> Values
@@ -118,19 +49,6 @@ impl Values {
     {
         Values {
             count: 0,
-            first: None,
-            second: None,
-            third: None,
-        }
-    }
-
-    /// Of two numbers that are not yet there.
-    #[inline(always)]
-    pub fn two() -> Values
-        ensures { result ≡ record { count = 2; first = None; second = None; third = None } }
-    {
-        Values {
-            count: 2,
             first: None,
             second: None,
             third: None,
@@ -163,29 +81,6 @@ impl Values {
         ensures { result ≡ same_values self.now other.now }
     {
         *self == *other
-    }
-
-    /// Whether a position that comes as one [`Flat`] has the same values, and as many. Mostly the digits of the first
-    /// numbers differ.
-    #[inline(always)]
-    pub fn same_flat(&self, other: &Flat) -> bool
-        ensures { result ≡ same_values self.now (flat_values other.now) }
-    {
-        if differs(&self.first, other.first.value) {
-            false
-        } else {
-            self.same_each(other)
-        }
-    }
-
-    #[inline(never)]
-    fn same_each(&self, other: &Flat) -> bool
-        ensures { result ≡ same_values self.now (flat_values other.now) }
-    {
-        self.count == flat::count(other)
-            && (is_same(&self.first, other.first.value)
-                && (is_same(&self.second, other.second.value)
-                    && is_third_same(&self.third, &other.third)))
     }
 
     /// The corner of the first two, where they are in range.

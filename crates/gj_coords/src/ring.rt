@@ -4,7 +4,7 @@ ghost use Rattle.gj_coords.specs.Internal.PositionsGather.{role_behind, runs_wro
 
 use crate::cuts::{self, AddedCuts, PreciseNumbers};
 use crate::fault::{Fault, Rule, join_fault, lesser_fault};
-use crate::flat::{self, JudgedPair};
+use crate::flat;
 use crate::kind::Kind;
 use crate::position::{Numbers, Values, misshapen};
 use crate::tally::Tally;
@@ -64,7 +64,7 @@ impl Positions {
     ghost use Rattle.gj_coords.specs.Internal.AddedPositions.{positions_added};
     ghost use Rattle.gj_coords.specs.Internal.WindingGather.{turn_in};
     ghost use Rattle.gj_coords.specs.Internal.PositionGather.{position_closed};
-    ghost use Rattle.gj_coords.specs.Internal.FlatPosition.{flat_position, flat_values, IsJudged};
+    ghost use Rattle.gj_coords.specs.Internal.FlatPosition.{flat_position, flat_values};
     ghost use Rattle.gj_coords.specs.Internal.PositionsGather.{no_positions, position_added, misshapen_added, sound_joined, ring_closed, ring_noted};
 
     pub fn none() -> Positions
@@ -105,94 +105,19 @@ impl Positions {
         }
     }
 
-    /// Adds a position that comes as one [`Flat`], wherever it stands.
-    #[inline(never)]
+    /// Adds a position that comes as one [`Flat`].
+    #[inline(always)]
     pub fn add_flat(&mut self, position: &Flat)
         ensures { self.new ≡ position_added self.old (flat_position position.now) }
     {
-        self.add_quick(position);
-    }
-
-    /// Adds a position that comes as one [`Flat`], inlined for the one caller that most positions reach.
-    #[inline(always)]
-    pub fn add_quick(&mut self, position: &Flat)
-        ensures { self.new ≡ position_added self.old (flat_position position.now) }
-    {
-        match flat::plain_corner(position) {
-            Some(corner) => {
-                if self.fault.is_none() {
-                    self.add_sound_flat(position, corner);
-                }
-            }
-            None => self.add_warned(position),
-        }
-    }
-
-    /// Adds a position that may deserve a warning. Mostly it has two numbers and is in range.
-    #[inline(always)]
-    fn add_warned(&mut self, position: &Flat)
-        ensures { self.new ≡ position_added self.old (flat_position position.now) }
-    {
-        match flat::judged(position) {
-            Some(pair) => self.add_judged(position, &pair),
-            None => self.add_other(position),
-        }
-    }
-
-    /// Adds a position of two numbers in range, by what is known of them.
-    #[inline(always)]
-    fn add_judged(&mut self, position: &Flat, pair: &JudgedPair)
-        requires { IsJudged position.now pair.now }
-        ensures { self.new ≡ position_added self.old (flat_position position.now) }
-    {
-        flat::warn_judged(position, pair, &mut self.warned);
+        let corner = flat::judge(position, &mut self.warned);
         if self.fault.is_none() {
-            self.add_sound_flat(position, pair.corner);
+            self.add_sound(&flat::values(position), corner);
         }
-    }
-
-    /// Adds any position that comes as one [`Flat`].
-    #[inline(never)]
-    fn add_other(&mut self, position: &Flat)
-        ensures { self.new ≡ position_added self.old (flat_position position.now) }
-    {
-        let corner = flat::corner(position);
-        flat::warn(position, &corner, &mut self.warned);
-        if self.fault.is_some() {
-            return;
-        }
-        match corner {
-            Some(corner) => self.add_sound_flat(position, corner),
-            None => self.add_sound(&flat::values(position), None),
-        }
-    }
-
-    /// Adds a position without a fault that comes as one [`Flat`], after others without a fault.
-    #[inline(always)]
-    fn add_sound_flat(&mut self, position: &Flat, corner: Corner)
-        ensures { self.new ≡ sound_joined self.old (flat_values position.now) (Some corner) }
-    {
-        match &self.first {
-            Some(first) => {
-                self.closes = first.same_flat(position);
-                self.winding.add_next(&corner);
-            }
-            None => self.begin_flat(position, corner),
-        }
-    }
-
-    /// Adds the first position, where it has no fault and comes as one [`Flat`]: its values are written where they are kept.
-    #[inline(never)]
-    fn begin_flat(&mut self, position: &Flat, corner: Corner)
-        ensures { self.old.first ≡ None → self.new ≡ sound_joined self.old (flat_values position.now) (Some corner) }
-    {
-        flat::keep_values(position, &mut self.first);
-        self.closes = true;
-        self.winding.begin(&corner);
     }
 
     /// Adds a position without a fault after others without one.
-    #[inline(never)]
+    #[inline(always)]
     fn add_sound(&mut self, values: &Values, corner: Option<Corner>)
         ensures { self.new ≡ sound_joined self.old values.now corner }
     {

@@ -1,7 +1,6 @@
 //! How many elements an array has, as far as the rules ask.
 ghost use Rattle.std.specs.Prelude.{◌≡◌, nat_lt};
-ghost use Rattle.gj_coords.specs.Internal.ElementCount.{tally_at, counted, few_in};
-ghost use Rattle.gj_coords.specs.Internal.ListGather.{line_closed};
+ghost use Rattle.gj_coords.specs.Internal.ElementCount.{tally_at, counted, few_in, line_closed};
 
 use crate::fault::{Fault, Rule, lesser_fault};
 

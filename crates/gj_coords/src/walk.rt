@@ -2,9 +2,8 @@
 //!
 //! Each level is read once, in each role that it has under some type: the value itself as each of the six types; its
 //! elements as positions, lines, linear rings and polygons; theirs as positions and linear rings; and theirs as positions.
-ghost use Rattle.std.specs.Prelude.{◌≡◌, ◌<◌};
+ghost use Rattle.std.specs.Prelude.{◌≡◌, IfSome};
 ghost use Rattle.gj_coords.specs.Internal.SteadyWalk.{IsCounted};
-ghost use Rattle.gj_coords.specs.Internal.WalkProgress.{never};
 
 mod level;
 mod outermost;
@@ -13,17 +12,11 @@ use crate::element::Element;
 use crate::fault::Fault;
 use crate::position::{Numbers, misshapen};
 use crate::simple::Simple;
-use crate::simple_faults::SimpleFaults;
-use crate::value_reader::ValueReader;
 use crate::walk::level::Level;
 use crate::walk::outermost::Outermost;
 use crate::warned::Warned;
-use crate::warnings::Warnings;
 use gj_json::{CutPosition, Event, Flat, Numbered, What};
 use gj_number::Decimal;
-
-/// No place is after this one.
-pub const NEVER: u64 = u64::MAX;
 
 /// How far a value has come.
 #[derive(Clone, Copy)]
@@ -64,34 +57,31 @@ pub struct Walk {
     pub stage: Stage,
 }
 
-/// The place after which a position more in an array that has gathered these numbers changes no fault.
-fn steady_after(position: &Flat, numbers: &Numbers) -> u64
-    ensures counted { result < never → IsCounted numbers.now }
-    ensures place { result < never → result ≡ position.now.first.place }
+/// The place after which a position more in an array that has gathered these numbers changes no fault, where there is one.
+fn steady_after(position: &Flat, numbers: &Numbers) -> Option<u64>
+    ensures { IfSome result (λ floor. IsCounted numbers.now × (floor ≡ position.now.first.place)) }
 {
     if numbers.values.count == numbers.tally.count.min(3) {
-        position.first.place
+        Some(position.first.place)
     } else {
-        NEVER
+        None
     }
 }
 
 impl Walk {
-    ghost use Rattle.std.specs.Prelude.{◌≡◌, ◌<◌, ◌≤◌, ℕ, List, length, take};
+    ghost use Rattle.std.specs.Prelude.{◌≡◌, ◌<◌, ◌≤◌, ℕ, List, IfSome, length, take};
     ghost use Rattle.gj_json.specs.declared.flat.Flat.{Flat};
     ghost use Rattle.gj_json.specs.CutPosition.{AreCutPositions};
     ghost use Rattle.gj_coords.specs.Internal.AddedPositions.{AllAfter, StayAll};
     ghost use Rattle.gj_json.specs.declared.event.What.TheVariants.{OpenArray, CloseArray, Number};
     ghost use Rattle.gj_json.specs.Flat.{number_event, flat_events};
     ghost use Rattle.gj_coords.specs.declared.walk.Stage.TheVariants.{Open, Past};
-    ghost use Rattle.gj_coords.specs.SimpleFaults.{by_simple};
     ghost use Rattle.gj_coords.specs.Internal.ElementReader.{inside, levels_after};
     ghost use Rattle.gj_coords.specs.Internal.SentEvents.{event_at};
     ghost use Rattle.gj_coords.specs.Internal.ValueMachine.{run};
-    ghost use Rattle.gj_coords.specs.Internal.GatheredWarnings.{all_in, taken};
     ghost use Rattle.gj_coords.specs.Internal.LevelGather.{fault_as, warned_as, quiet_as};
     ghost use Rattle.gj_coords.specs.Internal.Progress.{waiting, opened, closed, added, passing, joined, step, ended};
-    ghost use Rattle.gj_coords.specs.Internal.WalkProgress.{open_progress, progress, answer_of, never};
+    ghost use Rattle.gj_coords.specs.Internal.WalkProgress.{open_progress, progress, answer_of};
     ghost use Rattle.gj_coords.specs.Internal.SteadyWalk.{IsSteady, StaysSteady};
 
     pub fn new() -> Walk
@@ -286,7 +276,7 @@ impl Walk {
     fn begin(&mut self, event: &Event)
         ensures { self.new ≡ record self.old { other = inside event.now (levels_after 0 event.now.what) } }
     {
-        self.other.again();
+        self.other = Element::new();
         self.other.event(event);
     }
 
@@ -304,26 +294,26 @@ impl Walk {
     }
 
     /// Takes an array of numbers that comes as one [`Flat`], and returns the place after which such arrays change no
-    /// fault, or `NEVER`.
-    pub fn take_flat(&mut self, flat: &Flat) -> u64
+    /// fault, where there is one.
+    pub fn take_flat(&mut self, flat: &Flat) -> Option<u64>
         ensures taken { progress self.new ≡ run step (progress self.old) (flat_events flat.now) }
-        ensures steady { result < never → IsSteady result self.new }
+        ensures steady { IfSome result (λ floor. IsSteady floor self.new) }
     {
         match self.stage {
             Stage::Open => self.add_flat(flat),
             _ => {
                 self.take_singly(flat);
-                NEVER
+                None
             }
         }
     }
 
     /// Adds such an array to the innermost open one.
     #[inline]
-    fn add_flat(&mut self, flat: &Flat) -> u64
+    fn add_flat(&mut self, flat: &Flat) -> Option<u64>
         requires { self.old.stage ≡ Open }
         ensures taken { progress self.new ≡ run step (progress self.old) (flat_events flat.now) }
-        ensures steady { result < never → IsSteady result self.new }
+        ensures steady { IfSome result (λ floor. IsSteady floor self.new) }
     {
         match self.depth {
             Depth::First => {
@@ -340,7 +330,7 @@ impl Walk {
             }
             Depth::Fourth => {
                 self.numbers.add_array(flat.place);
-                NEVER
+                None
             }
         }
     }
@@ -414,17 +404,6 @@ impl Walk {
         }
     }
 
-    /// The least fault of the value that was read, for each type.
-    #[inline]
-    pub fn faults(&self, faults: &mut SimpleFaults)
-        ensures { faults.new ≡ by_simple (λ simple. fault_as simple (answer_of self.now)) }
-    {
-        match self.stage {
-            Stage::Broken => *faults = SimpleFaults::all(misshapen(self.other.first.place)),
-            _ => self.outer.faults(faults),
-        }
-    }
-
     /// Whether a few comparisons show that nothing in the value that was read deserves a warning under any type. `false`
     /// promises nothing.
     #[inline]
@@ -437,23 +416,13 @@ impl Walk {
         }
     }
 
-    /// The warnings of the value that was read, for a type.
-    pub fn warnings(&self, simple: Simple) -> Warnings
-        ensures { result ≡ all_in (warned_as simple (answer_of self.now)) }
+    /// What deserves a warning in the value that was read, for a type.
+    pub fn warned(&self, simple: Simple) -> Warned
+        ensures { result ≡ warned_as simple (answer_of self.now) }
     {
         match self.stage {
-            Stage::Broken => Warnings::none(),
-            _ => self.outer.warned(simple).all(),
-        }
-    }
-
-    /// Adds the warnings of the value that was read, for a type, to others.
-    pub fn warn(&self, simple: Simple, warned: &mut Warned)
-        ensures { warned.new ≡ taken warned.old (warned_as simple (answer_of self.now)) }
-    {
-        match self.stage {
-            Stage::Broken => {}
-            _ => self.outer.warn(simple, warned),
+            Stage::Broken => Warned::none(),
+            _ => self.outer.warned(simple),
         }
     }
 }

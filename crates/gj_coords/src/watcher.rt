@@ -1,6 +1,4 @@
-//! A watcher for each of the six types: each of them alone, composed of its parts.
-//!
-//! `Coordinates` does the work of all six in one walk, several times faster than six watchers.
+//! A watcher for each of the six types: the value of `coordinates` under one of them.
 ghost use Rattle.std.specs.Prelude.{◌≡◌, ◌↔◌, ◌<◌, ◌^◌, ◌++◌, ◌∷◌, List as EventList, [], length, IsTrue};
 ghost use Rattle.gj_json.specs.declared.event.Event.{Event};
 ghost use Rattle.gj_json.specs.Tree.{Tree, depth};
@@ -10,28 +8,13 @@ ghost use Rattle.gj_coords.specs.Fault.{least};
 ghost use Rattle.gj_coords.specs.Shape.{coordinates_faults};
 ghost use Rattle.gj_coords.specs.WarningsStand.{StandsFor as WarningsStandFor};
 ghost use Rattle.gj_coords.specs.CoordinateWarnings.{coordinates_warnings};
-ghost use Rattle.gj_coords.specs.Internal.ValueMachine.{Answers};
-ghost use Rattle.gj_coords.specs.Internal.SixReaders.{type_answer};
 
-mod findings;
-mod or_empty;
-mod position;
-mod ring;
-mod several;
-
-use crate::array::Array;
-use crate::element::Element;
+use crate::coordinates::Coordinates;
 use crate::fault::Fault;
-use crate::position::Numbers;
-use crate::tally::LINE_NEEDS;
-use crate::value_reader::ValueReader;
+use crate::simple::Simple;
 use crate::warnings::Warnings;
-use crate::watcher::findings::Findings;
-use crate::watcher::or_empty::OrEmpty;
-use crate::watcher::position::PositionReader;
-use crate::watcher::ring::Ring;
-use crate::watcher::several::{LIST_NEEDS, Line, List, Several};
 use gj_json::Event;
+use std::marker::PhantomData;
 
 /// Takes the events of one value of `coordinates`, and gives its least fault and its warnings under one type.
 pub trait Watcher: Copy {
@@ -65,127 +48,132 @@ pub trait Watcher: Copy {
             WarningsStandFor result (coordinates_warnings simple value) };
 }
 
-/// Reads a value under one type, and answers what is found in it.
-pub trait TypeReader: ValueReader<Answer = Findings> {
-    ghost simple: { Simple };
+/// Names the type that a watcher is for.
+pub trait WatchedType: Copy {
+    /// The type.
+    ghost SIMPLE: { Simple };
 
-    ghost answers: { Answers Self.machine (type_answer simple) };
+    const SIMPLE: Simple;
 }
 
-/// A watcher that reads by the parts of its type.
+/// A watcher that asks [`Coordinates`] for one type.
 #[derive(Clone, Copy)]
-pub struct Watch<R> {
-    reader: R,
+pub struct Watch<T> {
+    coordinates: Coordinates,
+    watched: PhantomData<T>,
 }
 
-impl<R: TypeReader> Watcher for Watch<R> {
-    ghost use Rattle.gj_coords.specs.Internal.ValueMachine.{IsAfter};
+impl<T: WatchedType> Watcher for Watch<T> {
+    ghost use Rattle.gj_coords.specs.Coordinates.{StandsFor};
 
-    ghost simple = { R.simple };
+    ghost simple = { T.SIMPLE };
 
-    ghost stands = { λ watch events. IsAfter R.machine watch.reader events };
+    ghost stands = { λ watch events. StandsFor watch.coordinates events };
 
     fn new() -> Self {
-        Watch { reader: R::new() }
+        Watch {
+            coordinates: Coordinates::new(),
+            watched: PhantomData,
+        }
     }
 
     fn event(&mut self, event: Event) {
-        self.reader.event(&event);
+        self.coordinates.event(event);
     }
 
     fn done(&self) -> bool {
-        self.reader.done()
+        self.coordinates.done()
     }
 
     fn fault(&self) -> Option<Fault> {
-        self.reader.answer().fault
+        self.coordinates.fault(T::SIMPLE)
     }
 
     fn warnings(&self) -> Warnings {
-        self.reader.answer().warned.all()
+        self.coordinates.warnings(T::SIMPLE)
     }
 }
 
 /// Watches the coordinates of a Point (RFC 7946, section 3.1.2).
-pub type PointWatcher = Watch<PointReader>;
+pub type PointWatcher = Watch<AsPoint>;
 
-type PointReader = Array<Element, OrEmpty<Numbers>>;
+#[derive(Clone, Copy)]
+pub struct AsPoint;
 
-impl TypeReader for PointReader {
+impl WatchedType for AsPoint {
     ghost use Rattle.gj_coords.specs.declared.simple.Simple.TheVariants.{Point};
-    ghost use Rattle.gj_coords.specs.Internal.SixReaders.{point_answers};
 
-    ghost simple = { Point };
+    ghost SIMPLE = { Point };
 
-    ghost answers = { point_answers };
+    const SIMPLE: Simple = Simple::Point;
 }
 
 /// Watches the coordinates of a MultiPoint (RFC 7946, section 3.1.3).
-pub type MultiPointWatcher = Watch<MultiPointReader>;
+pub type MultiPointWatcher = Watch<AsMultiPoint>;
 
-type MultiPointReader = Array<PositionReader, OrEmpty<Several<LIST_NEEDS>>>;
+#[derive(Clone, Copy)]
+pub struct AsMultiPoint;
 
-impl TypeReader for MultiPointReader {
+impl WatchedType for AsMultiPoint {
     ghost use Rattle.gj_coords.specs.declared.simple.Simple.TheVariants.{MultiPoint};
-    ghost use Rattle.gj_coords.specs.Internal.SixReaders.{multi_point_answers};
 
-    ghost simple = { MultiPoint };
+    ghost SIMPLE = { MultiPoint };
 
-    ghost answers = { multi_point_answers };
+    const SIMPLE: Simple = Simple::MultiPoint;
 }
 
 /// Watches the coordinates of a LineString (RFC 7946, section 3.1.4).
-pub type LineStringWatcher = Watch<LineStringReader>;
+pub type LineStringWatcher = Watch<AsLineString>;
 
-type LineStringReader = Array<PositionReader, OrEmpty<Several<LINE_NEEDS>>>;
+#[derive(Clone, Copy)]
+pub struct AsLineString;
 
-impl TypeReader for LineStringReader {
+impl WatchedType for AsLineString {
     ghost use Rattle.gj_coords.specs.declared.simple.Simple.TheVariants.{LineString};
-    ghost use Rattle.gj_coords.specs.Internal.SixReaders.{line_string_answers};
 
-    ghost simple = { LineString };
+    ghost SIMPLE = { LineString };
 
-    ghost answers = { line_string_answers };
+    const SIMPLE: Simple = Simple::LineString;
 }
 
 /// Watches the coordinates of a MultiLineString (RFC 7946, section 3.1.5).
-pub type MultiLineStringWatcher = Watch<MultiLineStringReader>;
+pub type MultiLineStringWatcher = Watch<AsMultiLineString>;
 
-type MultiLineStringReader = Array<Line, OrEmpty<Several<LIST_NEEDS>>>;
+#[derive(Clone, Copy)]
+pub struct AsMultiLineString;
 
-impl TypeReader for MultiLineStringReader {
+impl WatchedType for AsMultiLineString {
     ghost use Rattle.gj_coords.specs.declared.simple.Simple.TheVariants.{MultiLineString};
-    ghost use Rattle.gj_coords.specs.Internal.SixReaders.{multi_line_string_answers};
 
-    ghost simple = { MultiLineString };
+    ghost SIMPLE = { MultiLineString };
 
-    ghost answers = { multi_line_string_answers };
+    const SIMPLE: Simple = Simple::MultiLineString;
 }
 
 /// Watches the coordinates of a Polygon (RFC 7946, section 3.1.6).
-pub type PolygonWatcher = Watch<PolygonReader>;
+pub type PolygonWatcher = Watch<AsPolygon>;
 
-type PolygonReader = Array<Ring, OrEmpty<Several<LIST_NEEDS>>>;
+#[derive(Clone, Copy)]
+pub struct AsPolygon;
 
-impl TypeReader for PolygonReader {
+impl WatchedType for AsPolygon {
     ghost use Rattle.gj_coords.specs.declared.simple.Simple.TheVariants.{Polygon};
-    ghost use Rattle.gj_coords.specs.Internal.SixReaders.{polygon_answers};
 
-    ghost simple = { Polygon };
+    ghost SIMPLE = { Polygon };
 
-    ghost answers = { polygon_answers };
+    const SIMPLE: Simple = Simple::Polygon;
 }
 
 /// Watches the coordinates of a MultiPolygon (RFC 7946, section 3.1.7).
-pub type MultiPolygonWatcher = Watch<MultiPolygonReader>;
+pub type MultiPolygonWatcher = Watch<AsMultiPolygon>;
 
-type MultiPolygonReader = Array<List<Ring>, OrEmpty<Several<LIST_NEEDS>>>;
+#[derive(Clone, Copy)]
+pub struct AsMultiPolygon;
 
-impl TypeReader for MultiPolygonReader {
+impl WatchedType for AsMultiPolygon {
     ghost use Rattle.gj_coords.specs.declared.simple.Simple.TheVariants.{MultiPolygon};
-    ghost use Rattle.gj_coords.specs.Internal.SixReaders.{multi_polygon_answers};
 
-    ghost simple = { MultiPolygon };
+    ghost SIMPLE = { MultiPolygon };
 
-    ghost answers = { multi_polygon_answers };
+    const SIMPLE: Simple = Simple::MultiPolygon;
 }

@@ -1,10 +1,9 @@
 //! How a linear ring runs (RFC 7946, section 3.1.6).
 
-ghost use Rattle.std.specs.Prelude.{◌≡◌, ◌*◌, ◌^◌, ◌≤◌, ℤ, pos, ◌+ℤ◌, ◌*ℤ◌, Some, IfSome, option_map};
+ghost use Rattle.std.specs.Prelude.{◌≡◌, ◌*◌, ◌^◌, ◌≤◌, ℤ, pos, ◌+ℤ◌, ◌*ℤ◌, Some};
 ghost use Rattle.gj_number.specs.Exact.{cut_places};
 ghost use Rattle.std.specs.Int.{int_wrap, w128};
 ghost use Rattle.gj_number.specs.Short.{exact_of};
-ghost use Rattle.gj_coords.specs.CoordinateWarnings.{is_precise};
 ghost use Rattle.gj_coords.specs.Winding.{bounded, bounded_cut, cut_value, most_longitude, both, sign_of};
 
 use gj_number::{Decimal, Short};
@@ -113,16 +112,6 @@ fn cut_within(number: Short, degrees: u8) -> Option<i32>
     number.cut_within(degrees)
 }
 
-/// The cut number of a number, where it is at most `degrees` from zero, and whether the number is too precise.
-#[inline(always)]
-pub fn judged_within(number: Short, degrees: u8) -> Option<(i32, bool)>
-    requires { degrees ≤ 200 }
-    ensures cut { option_map (λ judged. judged.0) result ≡ bounded_cut (pos (degrees * 10 ^ cut_places)) (cut_value (Some (exact_of number))) }
-    ensures precise { IfSome result (λ judged. is_precise (Some (exact_of number)) ≡ judged.1) }
-{
-    number.judged_within(degrees)
-}
-
 /// The cut number of a number, where it is at most `most` from zero.
 fn bounded_cut(number: &Option<Decimal>, most: i32) -> Option<i32>
     ensures { result ≡ bounded_cut most (cut_value number.now) }
@@ -196,7 +185,7 @@ fn sign(area: i128) -> Turn
 
 impl Turn {
     ghost use Rattle.std.specs.Prelude.{◌≡◌};
-    ghost use Rattle.gj_coords.specs.Internal.AllCorners.{wrong_for_exterior, wrong_for_hole};
+    ghost use Rattle.gj_coords.specs.Internal.WindingGather.{wrong_for_exterior, wrong_for_hole};
 
     /// Whether an exterior ring that runs so runs the wrong way.
     pub fn wrong_for_exterior(&self) -> bool
@@ -229,15 +218,12 @@ impl RunningSum {
 }
 
 impl Winding {
-    ghost use Rattle.std.specs.Prelude.{◌≡◌, ◌++◌, ◌∷◌, ◌<◌, ◌^◌, List, [], Option, length};
-    ghost use Rattle.gj_coords.specs.declared.winding.Corner.{Corner};
-    ghost use Rattle.gj_coords.specs.Internal.AllCorners.{turn_of, all_corners};
-    ghost use Rattle.gj_coords.specs.Internal.WindingGather.{StandsFor, no_winding, term_of, corner_added, winding_added, turn_in, sum_in, with_sum};
+    ghost use Rattle.std.specs.Prelude.{◌≡◌};
+    ghost use Rattle.gj_coords.specs.Internal.WindingGather.{no_winding, corner_added, winding_added, turn_in, sum_in, with_sum};
 
     /// No position has come.
     pub fn none() -> Winding
-        ensures value { result ≡ no_winding }
-        ensures stands { StandsFor result [] }
+        ensures { result ≡ no_winding }
     {
         Winding {
             area: 0,
@@ -247,9 +233,9 @@ impl Winding {
     }
 
     /// Takes one position: its corner, where it is in range.
+    #[inline(always)]
     pub fn add(&mut self, corner: Option<Corner>)
-        ensures added { self.new ≡ winding_added self.old corner }
-        ensures stands { (corners : List (Option Corner)) → StandsFor self.old corners → StandsFor self.new (corners ++ corner ∷ []) }
+        ensures { self.new ≡ winding_added self.old corner }
     {
         match corner {
             Some(corner) => self.add_corner(&corner),
@@ -257,18 +243,9 @@ impl Winding {
         }
     }
 
-    #[inline(never)]
-    fn add_corner(&mut self, corner: &Corner)
-        ensures { self.new ≡ corner_added self.old corner.now }
-    {
-        self.area = wrapped_sum(self.area, self.term(corner));
-        self.last = Some(*corner);
-    }
-
-    /// Adds a corner, inlined for the one caller that most positions reach: after a first corner it writes the sum and
-    /// the last corner in place.
+    /// Takes a corner: it writes the sum and the last corner in place.
     #[inline(always)]
-    pub fn add_next(&mut self, corner: &Corner)
+    fn add_corner(&mut self, corner: &Corner)
         ensures { self.new ≡ corner_added self.old corner.now }
     {
         match &mut self.last {
@@ -277,17 +254,6 @@ impl Winding {
                 last.x = corner.x;
                 last.y = corner.y;
             }
-            None => self.add_corner(corner),
-        }
-    }
-
-    /// Adds a corner, inlined for the one caller that begins an array: a first corner is written in place.
-    #[inline(always)]
-    pub fn begin(&mut self, corner: &Corner)
-        ensures { self.new ≡ corner_added self.old corner.now }
-    {
-        match &self.last {
-            Some(_) => self.add_corner(corner),
             None => {
                 // No edge ends in a first corner.
                 self.area = wrapped_sum(self.area, 0);
@@ -319,21 +285,9 @@ impl Winding {
         self.last = Some(sum.last);
     }
 
-    /// The term of the area for the edge from the last corner to this one.
-    fn term(&self, corner: &Corner) -> i64
-        ensures { result ≡ term_of self.now.last corner.now }
-    {
-        match &self.last {
-            Some(last) => last.cross(corner),
-            None => 0,
-        }
-    }
-
     /// How the positions run. The sum is exact where they are fewer than 2^64.
     pub fn turn(&self) -> Turn
-        ensures value { result ≡ turn_in self.now }
-        ensures turn { (corners : List (Option Corner)) → StandsFor self.now corners → length corners < 2 ^ 64 →
-            result ≡ turn_of (all_corners corners) }
+        ensures { result ≡ turn_in self.now }
     {
         if self.unjudged {
             Turn::Unjudged

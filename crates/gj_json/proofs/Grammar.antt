@@ -16,3 +16,4 @@ pub mod UsualTokens
 pub mod UsualHeads
 pub mod SpelledPairs
 pub mod SpelledArrays
+pub mod SeparatedArrays

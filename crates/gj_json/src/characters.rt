@@ -6,7 +6,7 @@ ghost use Rattle.gj_json.specs.Characters.{escape_of, hex_of};
 ghost use Rattle.gj_json.specs.Runs.{IsLongestUtf8, plain_run_of};
 ghost use Rattle.gj_json.specs.Internal.WholeTokens.{IsCharacter, AreCharacters};
 
-use crate::lanes::{LANES, ascii_run, plain_run};
+use crate::lanes::{Ascii, LANES, plain_run, run};
 use crate::wide::{begins_wide, end_of_wide, is_tail};
 
 /// How many bytes the character has that the piece starts with, in UTF-8 of several bytes, or 0.
@@ -153,9 +153,9 @@ fn wide_run(piece: &[u8]) -> usize
 pub fn whole_characters(piece: &[u8]) -> usize
     ensures { IsLongestUtf8 (take (plain_run_of piece.now) piece.now) result }
 {
-    let run = plain_run(piece);
-    match simdutf8::compat::from_utf8(&piece[..run]) {
-        Ok(_) => run,
+    let count = plain_run(piece);
+    match simdutf8::compat::from_utf8(&piece[..count]) {
+        Ok(_) => count,
         Err(fault) => fault.valid_up_to(),
     }
 }
@@ -203,11 +203,11 @@ fn some_characters(piece: &[u8]) -> usize
 {
     if piece[0] == b'\\' {
         let escaped = escapes_run(piece);
-        escaped + ascii_run(&piece[escaped..])
+        escaped + run::<Ascii>(&piece[escaped..])
     } else if piece[0] == b'"' {
         0
     } else if piece[0] < 0x80 {
-        ascii_run(piece)
+        run::<Ascii>(piece)
     } else {
         unescaped_run(piece)
     }

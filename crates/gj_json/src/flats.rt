@@ -9,11 +9,10 @@ ghost use Rattle.gj_json.specs.Internal.SpelledNumbers.{IsFlat};
 ghost use Rattle.gj_json.specs.Internal.FlatParts.{cut, IsItem, IsMore};
 
 use crate::flat::{Flat, Numbered};
-use crate::gaps::Gaps;
 use crate::runs::white_run;
 use gj_number::{Pair, Short, read_last_pair, read_pair, read_short};
 
-/// The index after the white space at this one. Mostly there is none, or one space.
+/// The index after the white space at this one.
 #[inline(always)]
 pub fn white_end(piece: &[u8], at: usize) -> usize
     requires { at ≤ length piece.now }
@@ -24,23 +23,9 @@ pub fn white_end(piece: &[u8], at: usize) -> usize
     at + white_run(&piece[at..])
 }
 
-/// As `white_end`, after a comma or a colon, where mostly nothing stands or one space.
+/// A comma that the piece starts with, and the white space after it: how many bytes.
 #[inline(always)]
-pub fn space_end(piece: &[u8], at: usize) -> usize
-    requires { at ≤ length piece.now }
-    ensures on { at ≤ result }
-    ensures within { result ≤ length piece.now }
-    ensures white { AllByRecursion IsWhite (cut piece.now at result) }
-{
-    if at + 1 < piece.len() && piece[at] == b' ' && piece[at + 1] > b' ' {
-        return at + 1;
-    }
-    white_end(piece, at)
-}
-
-/// A comma that the piece starts with, and the white space after it: how many bytes. Mostly an array follows at once.
-#[inline(always)]
-pub fn comma_run(piece: &[u8], gaps: &mut Gaps) -> usize
+pub fn comma_run(piece: &[u8]) -> usize
     ensures within { result ≤ length piece.now }
     ensures comma { 0 < result → get_or piece.now 0 0 ≡ comma }
     ensures white { 0 < result → AllByRecursion IsWhite (cut piece.now 1 result) }
@@ -48,21 +33,13 @@ pub fn comma_run(piece: &[u8], gaps: &mut Gaps) -> usize
     if piece.is_empty() || piece[0] != b',' {
         return 0;
     }
-    if piece.len() > 2 {
-        if piece[1] == b'[' {
-            return 1;
-        }
-        if piece[1] == b' ' && piece[2] > b' ' {
-            return 2;
-        }
-    }
-    gaps.bracket.end(piece, 1)
+    white_end(piece, 1)
 }
 
 /// Reads the ordinary number that stands at an index, with white space around it, in a piece that begins at the place
 /// `start`: the index of the byte after that, or 0 where there is none.
 #[inline(always)]
-fn read_item(piece: &[u8], at: usize, start: u64, gaps: &mut Gaps, number: &mut Numbered) -> usize
+fn read_item(piece: &[u8], at: usize, start: u64, number: &mut Numbered) -> usize
     requires within { at ≤ length piece.now }
     requires small { start + length piece.now ≤ 2 ^ 60 }
     ensures on { 0 < result → at ≤ result }
@@ -70,7 +47,7 @@ fn read_item(piece: &[u8], at: usize, start: u64, gaps: &mut Gaps, number: &mut 
     ensures place { 0 < result → start + at ≤ number.new.place }
     ensures item { 0 < result → IsItem number.new (start + at) (cut piece.now at result) }
 {
-    let first = gaps.number.end(piece, at);
+    let first = white_end(piece, at);
     let count = read_short(&piece[first..], &mut number.value);
     if count == 0 {
         return 0;
@@ -80,7 +57,7 @@ fn read_item(piece: &[u8], at: usize, start: u64, gaps: &mut Gaps, number: &mut 
     if piece[end] > b' ' {
         return end;
     }
-    let end = gaps.bracket.end(piece, end);
+    let end = white_end(piece, end);
     if end == piece.len() {
         return 0;
     }
@@ -119,7 +96,7 @@ fn drop_third(third: &mut Option<Numbered>)
 /// Reads the array of two or three ordinary numbers that is whole at the start of a piece, which begins at the place
 /// `start`: how many bytes it has. Mostly it is a pair.
 #[inline(always)]
-pub fn read_flat(piece: &[u8], start: u64, gaps: &mut Gaps, flat: &mut Flat) -> Option<usize>
+pub fn read_flat(piece: &[u8], start: u64, flat: &mut Flat) -> Option<usize>
     requires some { 0 < length piece.now }
     requires bracket { get_or piece.now 0 0 ≡ open_bracket }
     requires small { start + length piece.now ≤ 2 ^ 60 }
@@ -128,7 +105,7 @@ pub fn read_flat(piece: &[u8], start: u64, gaps: &mut Gaps, flat: &mut Flat) -> 
     ensures flat { IfSome result (λ count. IsFlat flat.new start (take count piece.now)) }
 {
     let Some(pair) = pair_after_bracket(piece, &mut flat.first.value, &mut flat.second.value) else {
-        let count = read_any_flat(piece, start, gaps, flat);
+        let count = read_any_flat(piece, start, flat);
         return if count == 0 { None } else { Some(count) };
     };
     flat.place = start;
@@ -150,12 +127,12 @@ pub fn read_lone_flat(piece: &[u8], start: u64, flat: &mut Flat) -> Option<usize
     ensures within { IfSome result (λ count. count ≤ length piece.now) }
     ensures flat { IfSome result (λ count. IsFlat flat.new start (take count piece.now)) }
 {
-    read_flat(piece, start, &mut Gaps::none(), flat)
+    read_flat(piece, start, flat)
 }
 
 /// As `read_flat`, of numbers of any length, with white space around them.
 #[inline(always)]
-fn read_any_flat(piece: &[u8], start: u64, gaps: &mut Gaps, flat: &mut Flat) -> usize
+fn read_any_flat(piece: &[u8], start: u64, flat: &mut Flat) -> usize
     requires some { 0 < length piece.now }
     requires bracket { get_or piece.now 0 0 ≡ open_bracket }
     requires small { start + length piece.now ≤ 2 ^ 60 }
@@ -164,11 +141,11 @@ fn read_any_flat(piece: &[u8], start: u64, gaps: &mut Gaps, flat: &mut Flat) -> 
 {
     // No number stands before the start of the text, whichever are read.
     flat.place = 0;
-    let first = read_item(piece, 1, start, gaps, &mut flat.first);
+    let first = read_item(piece, 1, start, &mut flat.first);
     if first == 0 || piece[first] != b',' {
         return 0;
     }
-    let second = read_item(piece, first + 1, start, gaps, &mut flat.second);
+    let second = read_item(piece, first + 1, start, &mut flat.second);
     if second == 0 {
         return 0;
     }
@@ -198,7 +175,7 @@ fn read_third(piece: &[u8], at: usize, start: u64, flat: &mut Flat) -> usize
         return 0;
     }
     let mut number = Numbered::blank();
-    let third = read_item(piece, at + 1, start, &mut Gaps::none(), &mut number);
+    let third = read_item(piece, at + 1, start, &mut number);
     if third == 0 || piece[third] != b']' {
         return 0;
     }

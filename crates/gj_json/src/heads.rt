@@ -1,19 +1,21 @@
 //! The beginnings of features and geometries as most writers put them, each recognized by a comparison of words.
 
-ghost use Rattle.std.specs.Prelude.{◌≡◌, ◌+◌, ◌<◌, ◌≤◌, [], ◌∷◌, length, take};
+ghost use Rattle.std.specs.Prelude.{◌≡◌, ◌+◌, ◌<◌, ◌≤◌, length, take, IsTrue};
 ghost use Rattle.std.specs.List.{AllByRecursion};
-ghost use Rattle.gj_json.specs.Bytes.{IsWhite, space};
+ghost use Rattle.gj_json.specs.Bytes.{IsWhite};
 ghost use Rattle.gj_json.specs.Internal.FlatParts.{cut};
-ghost use Rattle.gj_json.specs.Internal.WholeHeads.{IsTyped, IsFollowing, IsLocated, ComesToType, OpensProperties};
-ghost use Rattle.gj_json.specs.declared.heads.TheConstants.{ROOM};
-ghost use Rattle.gj_json.specs.declared.names.Word.{Word};
+ghost use Rattle.gj_json.specs.Internal.WholeHeads.{spaces, BeginsTyped, IsTyped, IsFollowing, IsFound, OpensProperties};
+ghost use Rattle.gj_json.specs.declared.heads.TheConstants.{ROOM, TYPED_ROOM};
 
-use crate::lanes::{begins, begins_long, is_white};
+use crate::lanes::{begins, is_white};
 use crate::names::Word;
 use crate::usual::usual_text;
 
 /// A shorter piece is not looked at: it may have no room for each of them.
-const ROOM: usize = 51;
+const ROOM: usize = 52;
+
+/// As above, for the beginning of an object.
+const TYPED_ROOM: usize = 26;
 
 /// The beginning of an object by its type: how many bytes it has, or 0 where there is none, and where the name and the type stand.
 #[derive(Clone, Copy)]
@@ -67,72 +69,55 @@ const NOT_LOCATED: UsualLocated = UsualLocated {
     coordinates: 0,
 };
 
-/// The beginning of an object of a usual type that the piece starts with, with no white space in it.
+/// Whether so many spaces stand at an index: one, or none.
 #[inline(always)]
-fn dense_typed(piece: &[u8]) -> UsualTyped
-    requires room { ROOM ≤ length piece.now }
-    ensures within { result.count ≤ length piece.now }
-    ensures on { 0 < result.count → result.name_at < result.word_at }
-    ensures few { result.word_at ≤ result.count }
-    ensures usual { 0 < result.count → IsTyped piece.now result.count result.name_at result.word_at result.word }
+pub fn has_spaces(piece: &[u8], at: usize, count: usize) -> bool
+    requires within { at < length piece.now }
+    requires few { count ≤ 1 }
+    ensures { IsTrue result → cut piece.now at (at + count) ≡ spaces count }
 {
-    if begins(piece, b"{\"type\":        ", 8) {
-        let text = usual_text(&piece[8..]);
-        if text.count == 0 {
-            return NOT_TYPED;
-        }
-        let at = 8 + text.count;
-        if piece[at] == b',' {
-            return UsualTyped {
-                count: at + 1,
-                name_at: 1,
-                word_at: 8,
-                word: text.word,
-            };
-        }
-    }
-    NOT_TYPED
+    count == 0 || piece[at] == b' '
 }
 
-/// Where the name stands in the beginning of a feature by its `type`, with a space after the colon and the comma, and one after the
-/// bracket or none: 0 where there is none.
+/// The beginning of an object by its type, with so many spaces after the bracket, and so many after the colon and the comma.
 #[inline(always)]
-fn spaced_name_at(piece: &[u8]) -> usize
-    requires room { ROOM ≤ length piece.now }
-    ensures near { result ≤ 2 }
-    ensures spaced { 0 < result → IsTyped piece.now (result + 19) result (result + 8) Word.Feature }
-{
-    if begins_long(piece, b"{\"type\": \"Featur", b"e\",             ", 4) {
-        return 1;
-    }
-    if begins_long(piece, b"{ \"type\": \"Featu", b"re\",            ", 5) {
-        return 2;
-    }
-    0
-}
-
-/// The beginning of an object by its `type`, with such spaces.
-#[inline(always)]
-fn spaced_typed(piece: &[u8]) -> UsualTyped
-    requires room { ROOM ≤ length piece.now }
-    ensures within { result.count ≤ length piece.now }
+fn typed_with(piece: &[u8], inside: usize, gap: usize) -> UsualTyped
+    requires room { TYPED_ROOM ≤ length piece.now }
+    requires few_inside { inside ≤ 1 }
+    requires few { gap ≤ 1 }
+    ensures short { result.count ≤ 24 }
     ensures on { 0 < result.count → result.name_at < result.word_at }
     ensures few { result.word_at ≤ result.count }
+    ensures typed { 0 < result.count
+        → BeginsTyped 0 result.name_at result.word_at result.word (spaces inside) (spaces gap) (take result.count piece.now) }
     ensures usual { 0 < result.count → IsTyped piece.now result.count result.name_at result.word_at result.word }
 {
-    let name_at = spaced_name_at(piece);
-    if name_at == 0 {
+    let name_at = 1 + inside;
+    let after_colon = name_at + 7;
+    let word_at = after_colon + gap;
+    if piece[0] != b'{' || !begins(&piece[name_at..], b"\"type\":         ", 7) {
+        return NOT_TYPED;
+    }
+    let text = usual_text(&piece[word_at..]);
+    let comma = word_at + text.count;
+    if text.count == 0 || piece[comma] != b',' {
+        return NOT_TYPED;
+    }
+    if !has_spaces(piece, 1, inside) || !has_spaces(piece, after_colon, gap) {
+        return NOT_TYPED;
+    }
+    if !has_spaces(piece, comma + 1, gap) {
         return NOT_TYPED;
     }
     UsualTyped {
-        count: name_at + 19,
+        count: comma + 1 + gap,
         name_at,
-        word_at: name_at + 8,
-        word: Word::Feature,
+        word_at,
+        word: text.word,
     }
 }
 
-/// The beginning of an object by its `type`, with such spaces or without.
+/// The beginning of an object by its type: with no spaces, or with one after the colon and the comma, and after the bracket one or none.
 #[inline(always)]
 pub fn usual_typed(piece: &[u8]) -> UsualTyped
     ensures within { result.count ≤ length piece.now }
@@ -140,14 +125,16 @@ pub fn usual_typed(piece: &[u8]) -> UsualTyped
     ensures few { result.word_at ≤ result.count }
     ensures usual { 0 < result.count → IsTyped piece.now result.count result.name_at result.word_at result.word }
 {
-    if piece.len() < ROOM {
+    if piece.len() < TYPED_ROOM {
         return NOT_TYPED;
     }
-    let dense = dense_typed(piece);
-    if dense.count > 0 {
-        return dense;
+    if piece[1] == b' ' {
+        return typed_with(piece, 1, 1);
     }
-    spaced_typed(piece)
+    if piece[8] == b' ' {
+        return typed_with(piece, 0, 1);
+    }
+    typed_with(piece, 0, 0)
 }
 
 /// Where the white space at an index of a piece ends, of which one byte is passed at the most.
@@ -189,114 +176,56 @@ pub fn following_typed(piece: &[u8]) -> UsualNext
     }
 }
 
-/// The beginning of a member `geometry` whose bracket stands at an index, where the piece comes to the type, with no white space after
-/// the bracket.
+/// The beginning of a member `geometry`, with so many spaces before its bracket, after it, and after the colons and the comma in it.
 #[inline(always)]
-fn dense_located(piece: &[u8], bracket: usize) -> UsualLocated
+fn located_with(piece: &[u8], before: usize, inside: usize, gap: usize) -> UsualLocated
     requires room { ROOM ≤ length piece.now }
-    requires near { bracket ≤ 12 }
-    requires comes { ComesToType piece.now bracket (bracket + 8) [] }
-    ensures within { result.count ≤ length piece.now }
-    ensures on { 0 < result.count → result.bracket < result.name_at }
-    ensures name { 0 < result.count → result.name_at < result.word_at }
-    ensures word_few { result.word_at ≤ result.count }
-    ensures few { result.coordinates ≤ result.count }
-    ensures usual { 0 < result.count → IsLocated piece.now result.count result.bracket result.name_at result.word_at result.coordinates result.word }
+    requires few_before { before ≤ 1 }
+    requires few_inside { inside ≤ 1 }
+    requires few { gap ≤ 1 }
+    ensures { 0 < result.count → IsFound piece.now result }
 {
-    let word_at = bracket + 8;
-    let text = usual_text(&piece[word_at..]);
-    if text.count == 0 {
+    let bracket = 11 + before;
+    if !begins(piece, b"\"geometry\":     ", 11) || !has_spaces(piece, 11, before) {
         return NOT_LOCATED;
     }
-    let at = word_at + text.count;
-    if begins(&piece[at..], b",\"coordinates\": ", 15) {
-        return UsualLocated {
-            count: at + 15,
-            bracket,
-            name_at: bracket + 1,
-            word_at,
-            word: text.word,
-            coordinates: at + 1,
-        };
-    }
-    NOT_LOCATED
-}
-
-/// Where the type stands in the beginning of a member `geometry`, with a space after each colon, and one after the bracket or none: 0
-/// where there is none.
-#[inline(always)]
-fn spaced_word_at(piece: &[u8]) -> usize
-    requires room { ROOM ≤ length piece.now }
-    ensures far { 0 < result → 20 < result }
-    ensures near { result ≤ 22 }
-    ensures spaced { 0 < result → ComesToType piece.now 12 result (space ∷ []) }
-{
-    if begins_long(piece, b"\"geometry\": {\"ty", b"pe\":            ", 5) {
-        return 21;
-    }
-    if begins_long(piece, b"\"geometry\": { \"t", b"ype\":           ", 6) {
-        return 22;
-    }
-    0
-}
-
-/// The beginning of a member `geometry`, with a space after each colon and comma, and one after the bracket or none.
-#[inline(always)]
-fn spaced_located(piece: &[u8]) -> UsualLocated
-    requires room { ROOM ≤ length piece.now }
-    ensures within { result.count ≤ length piece.now }
-    ensures on { 0 < result.count → result.bracket < result.name_at }
-    ensures name { 0 < result.count → result.name_at < result.word_at }
-    ensures word_few { result.word_at ≤ result.count }
-    ensures few { result.coordinates ≤ result.count }
-    ensures usual { 0 < result.count → IsLocated piece.now result.count result.bracket result.name_at result.word_at result.coordinates result.word }
-{
-    let word_at = spaced_word_at(piece);
-    if word_at == 0 {
+    let typed = typed_with(&piece[bracket..], inside, gap);
+    let coordinates = bracket + typed.count;
+    if typed.count == 0 || !begins(&piece[coordinates..], b"\"coordinates\":  ", 14) {
         return NOT_LOCATED;
     }
-    let text = usual_text(&piece[word_at..]);
-    if text.count == 0 {
+    if !has_spaces(piece, coordinates + 14, gap) {
         return NOT_LOCATED;
     }
-    let at = word_at + text.count;
-    if piece[at] == b',' && begins(&piece[at + 1..], b" \"coordinates\": ", 16) {
-        return UsualLocated {
-            count: at + 17,
-            bracket: 12,
-            name_at: word_at - 8,
-            word_at,
-            word: text.word,
-            coordinates: at + 2,
-        };
+    UsualLocated {
+        count: coordinates + 14 + gap,
+        bracket,
+        name_at: bracket + typed.name_at,
+        word_at: bracket + typed.word_at,
+        word: typed.word,
+        coordinates,
     }
-    NOT_LOCATED
 }
 
-/// The beginning of a member `geometry`, with such spaces or without, or with one after its colon alone.
+/// The beginning of a member `geometry`: with no spaces, with one after each colon and comma, and after the bracket one or none, or with
+/// one before the bracket alone.
 #[inline(always)]
 pub fn usual_located(piece: &[u8]) -> UsualLocated
-    ensures within { result.count ≤ length piece.now }
-    ensures on { 0 < result.count → result.bracket < result.name_at }
-    ensures name { 0 < result.count → result.name_at < result.word_at }
-    ensures word_few { result.word_at ≤ result.count }
-    ensures few { result.coordinates ≤ result.count }
-    ensures usual { 0 < result.count → IsLocated piece.now result.count result.bracket result.name_at result.word_at result.coordinates result.word }
+    ensures { 0 < result.count → IsFound piece.now result }
 {
     if piece.len() < ROOM {
         return NOT_LOCATED;
     }
-    if begins_long(piece, b"\"geometry\":{\"typ", b"e\":             ", 3) {
-        return dense_located(piece, 11);
+    if piece[11] == b'{' {
+        return located_with(piece, 0, 0, 0);
     }
-    let spaced = spaced_located(piece);
-    if spaced.count > 0 {
-        return spaced;
+    if piece[13] == b' ' {
+        return located_with(piece, 1, 1, 1);
     }
-    if begins_long(piece, b"\"geometry\": {\"ty", b"pe\":            ", 4) {
-        return dense_located(piece, 12);
+    if piece[20] == b' ' {
+        return located_with(piece, 1, 0, 1);
     }
-    NOT_LOCATED
+    located_with(piece, 1, 0, 0)
 }
 
 /// The beginning of a member `properties` that is an object, with a space after its colon or none: how many bytes, or 0.

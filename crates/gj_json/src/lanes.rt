@@ -1,6 +1,6 @@
 //! Runs of bytes at the start of a piece, found sixteen at a time.
 
-ghost use Rattle.std.specs.Prelude.{◌≡◌, ◌<◌, ◌≤◌, ◌+◌, ◌*◌, ◌++◌, length, map, not, take, IsTrue};
+ghost use Rattle.std.specs.Prelude.{◌≡◌, ◌<◌, ◌≤◌, ◌+◌, ◌*◌, ◌++◌, ℕ, Bool, None, length, map, not, take, IfSome, IsTrue};
 ghost use Rattle.std.specs.List.{prefix_len};
 ghost use Rattle.std.specs.Simd.Lanes.{mask_l};
 ghost use Rattle.std.specs.Str.{bytes_eq};
@@ -25,30 +25,6 @@ pub fn begins(piece: &[u8], word: &[u8; LANES], count: usize) -> bool
     differing.to_bitmask().trailing_zeros() as usize >= count
 }
 
-/// Whether the piece begins with a word, and then with the first `count` bytes of the next.
-#[inline(always)]
-pub fn begins_long(piece: &[u8], word: &[u8; LANES], next: &[u8; LANES], count: usize) -> bool
-    requires room { 2 * LANES ≤ length piece.now }
-    requires few { count ≤ LANES }
-    ensures { result ≡ bytes_eq (take (LANES + count) piece.now) (word.now ++ take count next.now) }
-{
-    begins(piece, word, LANES) && begins(&piece[LANES..], next, count)
-}
-
-/// Whether the byte is a character by itself.
-fn is_unescaped_ascii(byte: u8) -> bool
-    ensures { result ≡ is_unescaped_ascii byte }
-{
-    b' ' <= byte && byte <= 0x7F && byte != b'"' && byte != b'\\'
-}
-
-/// Whether the byte is allowed in a string unescaped.
-fn is_unescaped(byte: u8) -> bool
-    ensures { result ≡ is_unescaped byte }
-{
-    b' ' <= byte && byte != b'"' && byte != b'\\'
-}
-
 #[inline(always)]
 pub fn is_white(byte: u8) -> bool
     ensures { result ≡ is_white byte }
@@ -56,27 +32,57 @@ pub fn is_white(byte: u8) -> bool
     byte == b' ' || byte == b'\t' || byte == b'\n' || byte == b'\r'
 }
 
-/// One bit for each lane that is no character by itself.
-#[inline(always)]
-fn ascii_stops(lanes: u8x16) -> u64
-    ensures { result ≡ mask_l (map (λ b. not (is_unescaped_ascii b)) lanes) }
-{
-    let quotes = lanes.simd_eq(u8x16::splat(b'"'));
-    let backslashes = lanes.simd_eq(u8x16::splat(b'\\'));
-    let controls = lanes.simd_lt(u8x16::splat(b' '));
-    let beyond = lanes.simd_gt(u8x16::splat(0x7F));
-    (quotes | backslashes | controls | beyond).to_bitmask()
+/// A kind of bytes, of which runs are found.
+pub trait Kind {
+    /// Which bytes are of it.
+    ghost is: { ℕ → Bool };
+
+    /// Whether the byte is of it.
+    fn has(byte: u8) -> bool
+        ensures { result ≡ is byte };
+
+    /// One bit for each lane that is not.
+    fn stops(lanes: u8x16) -> u64
+        ensures { result ≡ mask_l (map (λ b. not (is b)) lanes) };
 }
 
-/// One bit for each lane that is not allowed in a string unescaped.
-#[inline(always)]
-fn plain_stops(lanes: u8x16) -> u64
-    ensures { result ≡ mask_l (map (λ b. not (is_unescaped b)) lanes) }
-{
-    let quotes = lanes.simd_eq(u8x16::splat(b'"'));
-    let backslashes = lanes.simd_eq(u8x16::splat(b'\\'));
-    let controls = lanes.simd_lt(u8x16::splat(b' '));
-    (quotes | backslashes | controls).to_bitmask()
+/// Those that are a character of a string by themselves.
+pub struct Ascii;
+
+impl Kind for Ascii {
+    ghost is = { is_unescaped_ascii };
+
+    fn has(byte: u8) -> bool {
+        b' ' <= byte && byte <= 0x7F && byte != b'"' && byte != b'\\'
+    }
+
+    #[inline(always)]
+    fn stops(lanes: u8x16) -> u64 {
+        let quotes = lanes.simd_eq(u8x16::splat(b'"'));
+        let backslashes = lanes.simd_eq(u8x16::splat(b'\\'));
+        let controls = lanes.simd_lt(u8x16::splat(b' '));
+        let beyond = lanes.simd_gt(u8x16::splat(0x7F));
+        (quotes | backslashes | controls | beyond).to_bitmask()
+    }
+}
+
+/// Those that are allowed in a string unescaped.
+pub struct Plain;
+
+impl Kind for Plain {
+    ghost is = { is_unescaped };
+
+    fn has(byte: u8) -> bool {
+        b' ' <= byte && byte != b'"' && byte != b'\\'
+    }
+
+    #[inline(always)]
+    fn stops(lanes: u8x16) -> u64 {
+        let quotes = lanes.simd_eq(u8x16::splat(b'"'));
+        let backslashes = lanes.simd_eq(u8x16::splat(b'\\'));
+        let controls = lanes.simd_lt(u8x16::splat(b' '));
+        (quotes | backslashes | controls).to_bitmask()
+    }
 }
 
 /// The byte of white space with each lower half, and else a byte with another one.
@@ -84,106 +90,97 @@ const WHITE: [u8; 16] = [
     b' ', 0, 0, 0, 0, 0, 0, 0, 0, b'\t', b'\n', 0, 0, b'\r', 0, 0,
 ];
 
-/// One bit for each lane that is no white space.
+/// White space.
+pub struct White;
+
+impl Kind for White {
+    ghost is = { is_white };
+
+    fn has(byte: u8) -> bool {
+        is_white(byte)
+    }
+
+    #[inline(always)]
+    fn stops(lanes: u8x16) -> u64 {
+        let same = u8x16::from_array(WHITE).swizzle_dyn(lanes & u8x16::splat(15));
+        lanes.simd_ne(same).to_bitmask()
+    }
+}
+
+/// How many bytes at the start of the piece are of the kind, where one of the first sixteen is not.
 #[inline(always)]
-fn white_stops(lanes: u8x16) -> u64
-    ensures { result ≡ mask_l (map (λ b. not (is_white b)) lanes) }
-{
-    let same = u8x16::from_array(WHITE).swizzle_dyn(lanes & u8x16::splat(15));
-    lanes.simd_ne(same).to_bitmask()
-}
-
-fn few_ascii(piece: &[u8]) -> usize
-    ensures { result ≡ prefix_len is_unescaped_ascii piece.now }
-{
-    piece
-        .iter()
-        .take_while(|byte| is_unescaped_ascii(**byte))
-        .count()
-}
-
-fn few_plain(piece: &[u8]) -> usize
-    ensures { result ≡ prefix_len is_unescaped piece.now }
-{
-    piece.iter().take_while(|byte| is_unescaped(**byte)).count()
-}
-
-fn few_white(piece: &[u8]) -> usize
-    ensures { result ≡ prefix_len is_white piece.now }
-{
-    piece.iter().take_while(|byte| is_white(**byte)).count()
-}
-
-/// How many bytes at the start of the piece are characters by themselves, where one of the first sixteen is none. Else it is
-/// some number from sixteen on.
-#[inline(always)]
-pub fn near_ascii_run(piece: &[u8]) -> usize
+pub fn short_run<K: Kind>(piece: &[u8]) -> Option<usize>
     requires { LANES ≤ length piece.now }
-    ensures { result < LANES → result ≡ prefix_len is_unescaped_ascii piece.now }
+    ensures long { result ≡ None → LANES ≤ prefix_len K.is piece.now }
+    ensures short { IfSome result (λ count. count < LANES) }
+    ensures run { IfSome result (λ count. count ≡ prefix_len K.is piece.now) }
 {
-    ascii_stops(u8x16::from_slice(piece)).trailing_zeros() as usize
+    let stops = K::stops(u8x16::from_slice(piece));
+    if stops == 0 {
+        return None;
+    }
+    Some(stops.trailing_zeros() as usize)
 }
 
-/// Whether so many bytes at the start of the piece are characters by themselves.
+/// Whether so many bytes at the start of the piece are of the kind.
 #[inline(always)]
-pub fn begins_ascii(piece: &[u8], count: usize) -> bool
+pub fn begins_run<K: Kind>(piece: &[u8], count: usize) -> bool
     requires room { LANES ≤ length piece.now }
     requires few { count ≤ LANES }
-    ensures { IsTrue result → count ≤ prefix_len is_unescaped_ascii piece.now }
+    ensures { IsTrue result → count ≤ prefix_len K.is piece.now }
 {
-    ascii_stops(u8x16::from_slice(piece)).trailing_zeros() as usize >= count
+    match short_run::<K>(piece) {
+        Some(run) => count <= run,
+        None => true,
+    }
 }
 
-/// How many bytes at the start of the piece are characters by themselves.
+/// How many bytes at the start of the piece are of the kind.
 #[inline(always)]
-pub fn ascii_run(piece: &[u8]) -> usize
-    ensures { result ≡ prefix_len is_unescaped_ascii piece.now }
+pub fn run<K: Kind>(piece: &[u8]) -> usize
+    ensures { result ≡ prefix_len K.is piece.now }
 {
     if piece.len() >= LANES {
-        let stops = ascii_stops(u8x16::from_slice(piece));
-        if stops != 0 {
-            return stops.trailing_zeros() as usize;
+        if let Some(count) = short_run::<K>(piece) {
+            return count;
         }
     }
-    long_ascii_run(piece)
+    long_run::<K>(piece)
 }
 
-/// As `ascii_run`, of a run of any length.
+/// As `run`, byte by byte.
+fn few_run<K: Kind>(piece: &[u8]) -> usize
+    ensures { result ≡ prefix_len K.is piece.now }
+{
+    piece.iter().take_while(|byte| K::has(**byte)).count()
+}
+
+/// As `run`, block by block.
 #[inline(never)]
-fn long_ascii_run(piece: &[u8]) -> usize
-    ensures { result ≡ prefix_len is_unescaped_ascii piece.now }
+fn long_run<K: Kind>(piece: &[u8]) -> usize
+    ensures { result ≡ prefix_len K.is piece.now }
 {
     let (blocks, rest) = piece.as_chunks::<LANES>();
     let mut index = 0;
     while index < blocks.len() {
-        let stops = ascii_stops(u8x16::from_array(blocks[index]));
+        let stops = K::stops(u8x16::from_array(blocks[index]));
         if stops != 0 {
             return index * LANES + stops.trailing_zeros() as usize;
         }
         index += 1;
     }
-    index * LANES + few_ascii(rest)
+    index * LANES + few_run::<K>(rest)
 }
 
 /// How many bytes at the start of the piece are allowed in a string unescaped: those from 20 (hexadecimal) on but the quote
 /// and the backslash.
-#[inline]
 pub fn plain_run(piece: &[u8]) -> usize
     ensures { result ≡ prefix_len is_unescaped piece.now }
 {
-    let (blocks, rest) = piece.as_chunks::<LANES>();
-    let mut index = 0;
-    while index < blocks.len() {
-        let stops = plain_stops(u8x16::from_array(blocks[index]));
-        if stops != 0 {
-            return index * LANES + stops.trailing_zeros() as usize;
-        }
-        index += 1;
-    }
-    index * LANES + few_plain(rest)
+    long_run::<Plain>(piece)
 }
 
-/// How many bytes at the start of the piece are white space: a look at one first, since mostly there is none.
+/// How many bytes at the start of the piece are white space. Mostly there is none, or one space.
 #[inline]
 pub fn white_run(piece: &[u8]) -> usize
     ensures { result ≡ prefix_len is_white piece.now }
@@ -191,49 +188,8 @@ pub fn white_run(piece: &[u8]) -> usize
     if piece.is_empty() || piece[0] > b' ' {
         return 0;
     }
-    if piece.len() >= LANES {
-        let stops = white_stops(u8x16::from_slice(piece));
-        if stops != 0 {
-            return stops.trailing_zeros() as usize;
-        }
+    if piece.len() > 1 && piece[0] == b' ' && piece[1] > b' ' {
+        return 1;
     }
-    if piece.len() >= 2 * LANES {
-        let stops = white_stops(u8x16::from_slice(&piece[LANES..]));
-        if stops != 0 {
-            return LANES + stops.trailing_zeros() as usize;
-        }
-    }
-    long_white_run(piece)
-}
-
-/// Whether so many bytes at the start of the piece are white space.
-#[inline(always)]
-pub fn begins_white(piece: &[u8], count: usize) -> bool
-    requires room { 2 * LANES ≤ length piece.now }
-    requires few { count ≤ 2 * LANES }
-    ensures { IsTrue result → count ≤ prefix_len is_white piece.now }
-{
-    let stops = white_stops(u8x16::from_slice(piece));
-    if count <= LANES {
-        return stops.trailing_zeros() as usize >= count;
-    }
-    let more = white_stops(u8x16::from_slice(&piece[LANES..]));
-    stops == 0 && more.trailing_zeros() as usize >= count - LANES
-}
-
-/// As `white_run`, of a run of any length.
-#[inline(never)]
-fn long_white_run(piece: &[u8]) -> usize
-    ensures { result ≡ prefix_len is_white piece.now }
-{
-    let (blocks, rest) = piece.as_chunks::<LANES>();
-    let mut index = 0;
-    while index < blocks.len() {
-        let stops = white_stops(u8x16::from_array(blocks[index]));
-        if stops != 0 {
-            return index * LANES + stops.trailing_zeros() as usize;
-        }
-        index += 1;
-    }
-    index * LANES + few_white(rest)
+    run::<White>(piece)
 }

@@ -7,13 +7,14 @@ ghost use Rattle.gj_json.specs.Internal.LatePoints.{BeginsLate, EndsLate, IsLate
 use crate::flat::Flat;
 use crate::flats::read_lone_flat;
 use crate::head::LatePoint;
-use crate::lanes::{begins, begins_long};
+use crate::heads::has_spaces;
+use crate::lanes::begins;
 
 /// A shorter piece has no room for the beginning.
-const START_ROOM: usize = 32;
+const START_ROOM: usize = 29;
 
-/// A shorter piece has no room for the end with spaces.
-const END_ROOM: usize = 18;
+/// A shorter piece has no room for the end.
+const END_ROOM: usize = 26;
 
 /// The beginning up to the coordinates: how many bytes it has, and where the bracket stands.
 #[derive(Clone, Copy)]
@@ -30,57 +31,58 @@ pub struct LateEnd {
     pub close: usize,
 }
 
-/// The beginning that the piece starts with, with a space before the bracket and after each colon, or none.
+/// The beginning that the piece starts with, with so many spaces before the bracket and after each colon.
 #[inline(always)]
-fn late_start(piece: &[u8]) -> Option<LateStart>
+fn late_start(piece: &[u8], gap: usize) -> Option<LateStart>
+    requires { gap ≤ 1 }
     ensures within { IfSome result (λ first. first.count ≤ length piece.now) }
     ensures on { IfSome result (λ first. first.bracket < first.count) }
     ensures begins { IfSome result (λ first. BeginsLate piece.now first) }
 {
-    if piece.len() < START_ROOM {
+    if piece.len() < START_ROOM || !begins(piece, b"\"geometry\":     ", 11) {
         return None;
     }
-    if begins_long(piece, b"\"geometry\":{\"coo", b"rdinates\":      ", 10) {
-        return Some(LateStart {
-            count: 26,
-            bracket: 11,
-        });
+    let bracket = 11 + gap;
+    if piece[bracket] != b'{' || !begins(&piece[bracket + 1..], b"\"coordinates\":  ", 14) {
+        return None;
     }
-    if begins_long(piece, b"\"geometry\": {\"co", b"ordinates\":     ", 12) {
-        return Some(LateStart {
-            count: 28,
-            bracket: 12,
-        });
+    if !has_spaces(piece, 11, gap) || !has_spaces(piece, bracket + 15, gap) {
+        return None;
     }
-    None
+    Some(LateStart {
+        count: bracket + 15 + gap,
+        bracket,
+    })
 }
 
-/// The end that the piece starts with, with a space after the comma and the colon, or none.
+/// The end that the piece starts with, with so many spaces after the comma and the colon.
 #[inline(always)]
-fn late_end(piece: &[u8]) -> Option<LateEnd>
+fn late_end(piece: &[u8], gap: usize) -> Option<LateEnd>
+    requires { gap ≤ 1 }
     ensures within { IfSome result (λ last. last.close < length piece.now) }
     ensures name { IfSome result (λ last. last.name_at ≤ last.close) }
     ensures word { IfSome result (λ last. last.word_at ≤ last.close) }
     ensures ends { IfSome result (λ last. EndsLate piece.now last) }
 {
-    if piece.len() < END_ROOM {
+    let name_at = 1 + gap;
+    let word_at = name_at + 7 + gap;
+    if piece.len() < END_ROOM
+        || piece[0] != b','
+        || !begins(&piece[name_at..], b"\"type\":         ", 7)
+    {
         return None;
     }
-    if begins(piece, b",\"type\":\"Point\"}", 16) {
-        return Some(LateEnd {
-            name_at: 1,
-            word_at: 8,
-            close: 15,
-        });
+    if !begins(&piece[word_at..], b"\"Point\"}        ", 8) {
+        return None;
     }
-    if piece[0] == b',' && begins(&piece[1..], b" \"type\": \"Point\"", 16) && piece[17] == b'}' {
-        return Some(LateEnd {
-            name_at: 2,
-            word_at: 10,
-            close: 17,
-        });
+    if !has_spaces(piece, 1, gap) || !has_spaces(piece, name_at + 7, gap) {
+        return None;
     }
-    None
+    Some(LateEnd {
+        name_at,
+        word_at,
+        close: word_at + 7,
+    })
 }
 
 /// Such a member, which the piece starts with, and its position, where the piece begins at the place `start`.
@@ -92,14 +94,19 @@ pub fn late_point(piece: &[u8], start: u64, flat: &mut Flat) -> Option<LatePoint
     ensures within { IfSome result (λ point. point.close < start + length piece.now) }
     ensures late { IfSome result (λ point. IsLatePoint point flat.new start piece.now) }
 {
-    let first = late_start(piece)?;
+    let gap = if piece.len() > 11 && piece[11] == b' ' {
+        1
+    } else {
+        0
+    };
+    let first = late_start(piece, gap)?;
     let rest = &piece[first.count..];
     if rest.is_empty() || rest[0] != b'[' {
         return None;
     }
     let count = read_lone_flat(rest, start + first.count as u64, flat)?;
     let until = first.count + count;
-    let last = late_end(&piece[until..])?;
+    let last = late_end(&piece[until..], gap)?;
     let bracket = start + first.bracket as u64;
     let comma = start + until as u64;
     Some(LatePoint {

@@ -9,7 +9,7 @@ ghost use Rattle.gj_json.specs.declared.mode.StringState.TheVariants.{Plain};
 
 use crate::characters::characters_run;
 use crate::content::Content;
-use crate::lanes::ascii_run;
+use crate::lanes::{Ascii, run};
 pub use crate::lanes::{is_white, white_run};
 use crate::mode::{Mode, StringMove, StringState};
 use crate::strings::next_string;
@@ -58,7 +58,7 @@ fn plain_front(state: StringState, piece: &[u8]) -> usize
     ensures reads { Reads state (take result piece.now) (take result piece.now) state }
 {
     match state {
-        StringState::Plain => ascii_run(piece),
+        StringState::Plain => run::<Ascii>(piece),
         _ => 0,
     }
 }

@@ -10,7 +10,7 @@ ghost use Rattle.gj_json.specs.declared.lanes.TheConstants.{LANES};
 
 use crate::characters::characters_run;
 use crate::constant::Constant;
-use crate::lanes::{LANES, ascii_run, begins, begins_ascii, near_ascii_run};
+use crate::lanes::{Ascii, LANES, begins, begins_run, run, short_run};
 use gj_number::unsigned_run;
 
 /// How many bytes the string of plain characters has that is whole at the start of a piece, or 0.
@@ -22,7 +22,7 @@ pub fn plain_quoted_run(piece: &[u8]) -> usize
     ensures two { 0 < result → 2 ≤ result }
     ensures quoted { 0 < result → IsQuoted (cut piece.now 1 (result - 1)) (take result piece.now) }
 {
-    let count = ascii_run(&piece[1..]);
+    let count = run::<Ascii>(&piece[1..]);
     if count < piece.len() - 1 && piece[count + 1] == b'"' {
         count + 2
     } else {
@@ -36,7 +36,7 @@ fn plain_text_run(piece: &[u8]) -> usize
     ensures within { result ≤ length piece.now }
     ensures characters { AreCharacters (take result piece.now) }
 {
-    ascii_run(piece)
+    run::<Ascii>(piece)
 }
 
 /// The string that the piece starts with, where it is whole: how many bytes, or 0. Mostly its characters are plain.
@@ -71,9 +71,11 @@ pub fn near_quoted_run(piece: &[u8]) -> usize
     ensures two { 0 < result → 2 ≤ result }
     ensures quoted { 0 < result → IsString (take result piece.now) }
 {
-    let count = near_ascii_run(&piece[1..]);
-    if count < LANES && piece[1 + count] == b'"' {
-        1 + count + 1
+    let Some(count) = short_run::<Ascii>(&piece[1..]) else {
+        return 0;
+    };
+    if piece[1 + count] == b'"' {
+        count + 2
     } else {
         0
     }
@@ -87,7 +89,7 @@ pub fn begins_quoted(piece: &[u8], count: usize) -> bool
     requires few { count < LANES }
     ensures { IsTrue result → IsString (take (count + 2) piece.now) }
 {
-    begins_ascii(&piece[1..], count) && piece[1 + count] == b'"'
+    begins_run::<Ascii>(&piece[1..], count) && piece[1 + count] == b'"'
 }
 
 /// How many bytes the value has that the piece starts with, where it is a string that is whole with two bytes after it, a
@@ -111,67 +113,19 @@ pub fn scalar_run(piece: &[u8]) -> usize
     }
 }
 
-/// How many bytes the literal name has, where the piece starts with it, or 0.
+/// How many bytes the literal name has, where the piece starts with it and is long enough for a comparison, or 0.
 #[inline(always)]
 pub fn constant_run(which: Constant, piece: &[u8]) -> usize
     ensures within { result ≤ length piece.now }
     ensures letters { 0 < result → take result piece.now ≡ letters_of which }
 {
     if piece.len() < LANES {
-        return last_constant_run(which, piece);
+        return 0;
     }
     match which {
-        Constant::Null => {
-            if begins(piece, b"null            ", 4) {
-                4
-            } else {
-                0
-            }
-        }
-        Constant::True => {
-            if begins(piece, b"true            ", 4) {
-                4
-            } else {
-                0
-            }
-        }
-        Constant::False => {
-            if begins(piece, b"false           ", 5) {
-                5
-            } else {
-                0
-            }
-        }
-    }
-}
-
-/// As `constant_run`, in a piece of any length.
-#[inline(never)]
-fn last_constant_run(which: Constant, piece: &[u8]) -> usize
-    ensures within { result ≤ length piece.now }
-    ensures letters { 0 < result → take result piece.now ≡ letters_of which }
-{
-    match which {
-        Constant::Null => {
-            if piece.len() >= 4 && &piece[..4] == b"null".as_slice() {
-                4
-            } else {
-                0
-            }
-        }
-        Constant::True => {
-            if piece.len() >= 4 && &piece[..4] == b"true".as_slice() {
-                4
-            } else {
-                0
-            }
-        }
-        Constant::False => {
-            if piece.len() >= 5 && &piece[..5] == b"false".as_slice() {
-                5
-            } else {
-                0
-            }
-        }
+        Constant::Null if begins(piece, b"null            ", 4) => 4,
+        Constant::True if begins(piece, b"true            ", 4) => 4,
+        Constant::False if begins(piece, b"false           ", 5) => 5,
+        _ => 0,
     }
 }

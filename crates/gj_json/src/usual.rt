@@ -1,7 +1,7 @@
 //! The names and the types that most features have, each distinguished from others by a comparison of words. A word is filled up
 //! with spaces to the length of a vector.
 
-ghost use Rattle.std.specs.Prelude.{◌≡◌, ◌<◌, ◌≤◌, length, IsTrue};
+ghost use Rattle.std.specs.Prelude.{◌<◌, ◌≤◌, length};
 ghost use Rattle.gj_json.specs.Internal.WholeTokens.{IsUsualName, IsUsualText};
 
 use crate::lanes::begins;
@@ -34,20 +34,6 @@ const NO_TEXT: UsualText = UsualText {
     word: Word::Other,
 };
 
-/// The name, where its bytes were found, or `NO_NAME`.
-#[inline(always)]
-fn if_there(is_there: bool, count: usize, known: Known) -> UsualName
-    ensures there { 0 < result.count → IsTrue is_there }
-    ensures count { 0 < result.count → result.count ≡ count }
-    ensures known { 0 < result.count → result.known ≡ known }
-{
-    if is_there {
-        UsualName { count, known }
-    } else {
-        NO_NAME
-    }
-}
-
 /// The usual name that the piece starts with, where its colon follows at once.
 #[inline(always)]
 pub fn usual_name(piece: &[u8]) -> UsualName
@@ -58,23 +44,26 @@ pub fn usual_name(piece: &[u8]) -> UsualName
         return NO_NAME;
     }
     match piece[1] {
-        b't' => if_there(begins(piece, b"\"type\":         ", 7), 6, Known::TypeName),
-        b'g' => if_there(
-            begins(piece, b"\"geometry\":     ", 11),
-            10,
-            Known::Geometry,
-        ),
-        b'c' => if_there(
-            begins(piece, b"\"coordinates\":  ", 14),
-            13,
-            Known::Coordinates,
-        ),
-        b'p' => if_there(
-            begins(piece, b"\"properties\":   ", 13),
-            12,
-            Known::Properties,
-        ),
-        b'i' => if_there(begins(piece, b"\"id\":           ", 5), 4, Known::Id),
+        b't' if begins(piece, b"\"type\":         ", 7) => UsualName {
+            count: 6,
+            known: Known::TypeName,
+        },
+        b'g' if begins(piece, b"\"geometry\":     ", 11) => UsualName {
+            count: 10,
+            known: Known::Geometry,
+        },
+        b'c' if begins(piece, b"\"coordinates\":  ", 14) => UsualName {
+            count: 13,
+            known: Known::Coordinates,
+        },
+        b'p' if begins(piece, b"\"properties\":   ", 13) => UsualName {
+            count: 12,
+            known: Known::Properties,
+        },
+        b'i' if begins(piece, b"\"id\":           ", 5) => UsualName {
+            count: 4,
+            known: Known::Id,
+        },
         _ => NO_NAME,
     }
 }
@@ -90,37 +79,22 @@ pub fn usual_text(piece: &[u8]) -> UsualText
         return NO_TEXT;
     }
     match piece[1] {
-        b'F' => {
-            if begins(piece, b"\"Feature\"       ", 9) {
-                return UsualText {
-                    count: 9,
-                    word: Word::Feature,
-                };
-            }
-        }
-        b'P' => {
-            if begins(piece, b"\"Point\"         ", 7) {
-                return UsualText {
-                    count: 7,
-                    word: Word::Point,
-                };
-            }
-            if begins(piece, b"\"Polygon\"       ", 9) {
-                return UsualText {
-                    count: 9,
-                    word: Word::Polygon,
-                };
-            }
-        }
-        b'L' => {
-            if begins(piece, b"\"LineString\"    ", 12) {
-                return UsualText {
-                    count: 12,
-                    word: Word::LineString,
-                };
-            }
-        }
-        _ => {}
+        b'F' if begins(piece, b"\"Feature\"       ", 9) => UsualText {
+            count: 9,
+            word: Word::Feature,
+        },
+        b'P' if begins(piece, b"\"Point\"         ", 7) => UsualText {
+            count: 7,
+            word: Word::Point,
+        },
+        b'P' if begins(piece, b"\"Polygon\"       ", 9) => UsualText {
+            count: 9,
+            word: Word::Polygon,
+        },
+        b'L' if begins(piece, b"\"LineString\"    ", 12) => UsualText {
+            count: 12,
+            word: Word::LineString,
+        },
+        _ => NO_TEXT,
     }
-    NO_TEXT
 }

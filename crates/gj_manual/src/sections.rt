@@ -69,6 +69,7 @@ Usual causes:
 - A type of another format, such as `Topology` (TopoJSON), `Circle` or `Envelope`. The nine types cannot be extended: convert,
   or write the outline as a Polygon.
 - A type of your own, such as `\"type\":\"cafe\"`. Write `\"type\":\"Feature\"`, and put the other one into `properties`.
+- `null`, which PostGIS writes where a `LEFT JOIN` finds no row. Leave such rows out of `json_agg`, by `FILTER (WHERE id IS NOT NULL)`.
 
 RFC 7946, sections 1.4, 3, 3.1, 3.2, 3.3 and 7.
 ",
@@ -405,6 +406,7 @@ Mended:
 Usual causes:
 
 - `null` for an empty list, as Go prints a slice that was never filled. Write `[]`.
+- `null` for no rows, as PostgreSQL's `json_agg` answers. Write `coalesce(json_agg(..), '[]')`.
 - A single Feature that is not in a list, often after a conversion from XML. Put brackets around it.
 - A list printed as an object, `{\"0\":...,\"2\":...}`, as PHP does where elements were taken out. Use `array_values` first.
 

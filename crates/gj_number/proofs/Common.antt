@@ -4,8 +4,8 @@ pub use Rattle.gj_number.specs.Bytes.{plus_sign, space, zero_digit}
 pub use Rattle.gj_number.specs.Denotation.{Parts, Spells, SpellsExponent, SpellsExponentSign, SpellsFraction, SpellsSign, scale_of, whole_of}
 pub use Rattle.gj_number.specs.Exact.{Exact, IsNormal, cut_magnitude, cut_of, cut_within, places_of, signed, zero_exact}
 pub use Rattle.gj_number.specs.Grammar.{BeginsNumber, IsDigits, IsFraction, IsNatural, IsNumber}
-pub use Rattle.gj_number.specs.Internal.CutLanes.{IsFirstMark, IsSpan, IsUsualSpan, after_point, before_point, cut_in, end_of, in_lanes, is_mark_by}
-pub use Rattle.gj_number.specs.Internal.CutLanes.{number_marks, point_of, rests_in}
+pub use Rattle.gj_number.specs.Cuts.{IsSpan}
+pub use Rattle.gj_number.specs.Internal.CutLanes.{after_point, before_point, cut_in, in_lanes, rests_in}
 pub use Rattle.gj_number.specs.Internal.DigitLanes.{lane_of, leading, with_value}
 pub use Rattle.gj_number.specs.Internal.DigitRuns.{IsPointed, IsRun, SpellsOn, SpellsUnsigned, StartsSigned}
 pub use Rattle.gj_number.specs.Internal.KeptParts.{HasDigits, IsFar, IsKept, limited_cut, limited_to}
@@ -13,7 +13,6 @@ pub use Rattle.gj_number.specs.Internal.MovedPoint.{SpellsPlain}
 pub use Rattle.gj_number.specs.Internal.NumberMachine.{Means, Reaches, Scan, may_end_in, next_of, start, taken}
 pub use Rattle.gj_number.specs.Short.{StartsOrdinary, StartsUsual, StartsUsualPair, StartsWithNumber, StartsWithPair}
 pub use Rattle.gj_number.specs.Value.{number_of, stripped, tens_in, with_digit}
-pub use Rattle.gj_number.specs.declared.short.cuts.After.TheVariants.{Bracket, Comma, Space}
 pub use Rattle.gj_number.specs.declared.short.cuts.Span.{Span}
 pub use Rattle.gj_number.specs.declared.state.Class.{Class}
 pub use Rattle.gj_number.specs.declared.state.Class.TheVariants.{Letter, Minus, NonZero, Other, Plus, Point, Zero}

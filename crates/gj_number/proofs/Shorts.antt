@@ -12,12 +12,8 @@ pub mod WrittenExponents
 pub mod LongNumbers
 pub mod NumberPairs
 pub mod CutLanes
-pub mod FirstMarks
+pub mod DigitSpans
 pub mod CutPlaces
 pub mod CutPairs
-pub mod CutExamples
-pub mod UsualMarks
-pub mod UsualSpreads
 pub mod PointedNumbers
-pub mod LastDigits
 pub mod UnsignedNumbers

@@ -1,12 +1,13 @@
 //! Sixteen bytes at once.
-ghost use Rattle.std.specs.Prelude.{◌≡◌, ℕ, min, ◌-◌, ◌+◌, ◌*◌, ◌^◌, ◌<◌, ◌≤◌, nat_le, IfSome};
+ghost use Rattle.std.specs.Prelude.{◌≡◌, ℕ, min, ◌-◌, ◌+◌, ◌*◌, ◌^◌, ◌<◌, ◌≤◌, ◌⊎◌, nat_le, IfSome, MatchOption};
 ghost use Rattle.std.specs.Prelude.{◌++◌, [], ◌∷◌, length, map, take, drop, replicate, All, get_or};
 ghost use Rattle.std.specs.List.{fold};
 ghost use Rattle.std.specs.Option.{IsSome};
 ghost use Rattle.std.specs.Simd.Lanes.{Each1, mask_l};
-ghost use Rattle.gj_number.specs.Bytes.{IsDigit};
+ghost use Rattle.gj_number.specs.Bytes.{IsDigit, IsFirstDigit};
 ghost use Rattle.gj_number.specs.Internal.DigitLanes.{lane_of, with_value, by_twos, by_both, by_fours, by_eights, leading};
 ghost use Rattle.gj_number.specs.Value.{with_digit};
+ghost use Rattle.gj_number.specs.Short.{StartsUnsigned};
 ghost use Rattle.gj_number.specs.Internal.DigitRuns.{IsRun, IsPointed, SpellsOn, SpellsUnsigned};
 
 use std::simd::prelude::*;
@@ -94,7 +95,7 @@ fn from_ten_ended(lanes: u8x16) -> u64
 
 /// The number of lanes before the first that is 10 or more.
 #[inline(always)]
-fn leading_digits(lanes: u8x16) -> usize
+pub(crate) fn leading_digits(lanes: u8x16) -> usize
     ensures count { result ≡ leading lanes }
     ensures few { result ≤ 16 }
 {
@@ -272,6 +273,8 @@ pub(crate) fn unsigned_prefix(piece: &[u8]) -> Option<Unsigned>
     ensures spells { IfSome result (λ found.
         SpellsUnsigned piece.now found.natural found.fraction found.length found.value) }
     ensures ends { IfSome result (λ found. IsDigit (get_or piece.now found.natural 0) → ⊥) }
+    ensures taken { (n : ℕ) → n < 16 → StartsUnsigned piece.now n → MatchOption result ⊥ (λ found.
+        (found.length ≡ n) × ((found.natural ≡ 1) ⊎ IsFirstDigit (get_or piece.now 0 0))) }
 {
     let lanes = lanes_of(piece);
     let others = from_ten(lanes);

@@ -6,9 +6,9 @@
 //!
 //! A [`Short`] is an ordinary number, of at most eighteen digits and no exponent, which [`read_short`] reads whole from
 //! the start of a piece. What its methods say of it, they say of its decimal. [`read_decimal`] reads longer numbers too,
-//! and gives their decimal. [`read_pair`] reads two ordinary numbers at once, and [`read_cut_pair`] two of
-//! which no more is needed than their cut values, as [`read_spread_pair`] does of two on a line
-//! each. [`unsigned_run`] only counts the bytes of a number without a sign.
+//! and gives their decimal. [`read_pair`] reads two ordinary numbers at once, and [`cuts_at`] two of
+//! which no more is needed than their cut values, where [`digit_span`] found their digits. [`unsigned_run`] only counts the
+//! bytes of a number without a sign.
 #![tactic(auto)]
 
 mod decimal;
@@ -26,8 +26,7 @@ pub use decimal::Decimal;
 pub use literal::{Literal, Step};
 pub use prefix::read_decimal;
 pub use short::Short;
-pub use short::cuts::{After, Cut, CutPair, PairForm, Signs, read_cut_pair};
+pub use short::cuts::{Cut, Span, cuts_at, digit_span};
 pub use short::pair::{Pair, read_last_pair, read_pair};
 pub use short::prefix::read_short;
-pub use short::spread::read_spread_pair;
 pub use short::unsigned::unsigned_run;

@@ -7,7 +7,6 @@ pub(crate) mod cut_lanes;
 pub(crate) mod cuts;
 pub(crate) mod pair;
 pub(crate) mod prefix;
-pub(crate) mod spread;
 pub(crate) mod unsigned;
 
 use crate::decimal::{Decimal, with_sign};

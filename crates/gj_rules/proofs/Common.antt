@@ -44,8 +44,7 @@ pub use Rattle.gj_rules.specs.FeatureFindings.{complete_at, complete_in, element
 pub use Rattle.gj_rules.specs.Internal.BytesBefore.{has_byte}
 pub use Rattle.gj_rules.specs.Internal.EventSteps.{Core, Feed, State, core_step, idle, is_feeding, member_of, mode_behind, names_step, run, start}
 pub use Rattle.gj_rules.specs.Internal.EventSteps.{step}
-pub use Rattle.gj_rules.specs.Internal.FeatureSteps.{FeaturesAre, Stand, count_at, features_by, features_from, heard, list_step, no_count, starts_at}
-pub use Rattle.gj_rules.specs.Internal.FeatureSteps.{tells_at}
+pub use Rattle.gj_rules.specs.Internal.FeatureSteps.{FeaturesAre, Stand, features_by, features_from}
 pub use Rattle.gj_rules.specs.Internal.FrameCalls.{blank, settled, taken_any, taken_in}
 pub use Rattle.gj_rules.specs.Internal.FrameMeaning.{Findings, Frame, MemberSlots, MemberWarnings, Shapes}
 pub use Rattle.gj_rules.specs.Internal.FrameReading.{frame_in, slots_in}
@@ -74,8 +73,7 @@ pub use Rattle.gj_rules.specs.Sequence.{up_to_separator}
 pub use Rattle.gj_rules.specs.SequenceStands.{IsSettled, is_decided}
 pub use Rattle.gj_rules.specs.TextWarnings.{crs_warnings, first_value, first_warnings, text_warnings, warnings}
 pub use Rattle.gj_rules.specs.Verdict.{IsVerdict, Judgement, broken, valid}
-pub use Rattle.gj_rules.specs.declared.feature_count.FeatureCount.{FeatureCount}
-pub use Rattle.gj_rules.specs.declared.feature_count.Stage.{Stage}
+pub use Rattle.gj_rules.specs.declared.feature_rules.FeatureCount.{FeatureCount}
 pub use Rattle.gj_rules.specs.declared.member_slots.Slot.{Slot}
 pub use Rattle.gj_rules.specs.declared.member_slots.TypeValue.{TypeValue}
 pub use Rattle.gj_rules.specs.declared.member_slots.member_rules.MemberRules.{MemberRules}

@@ -1,9 +1,8 @@
 -- Text sequences, record by record.
 pub mod OpenRecords
-pub mod RecordCuts
-pub mod BytesOfSequences
-pub mod DecidingBytes
-pub mod SequenceSteps
 pub mod OneVerdict
+pub mod UndecidedSequences
+pub mod RefusedRecords
+pub mod SequenceSteps
 pub mod PlacesTold
 pub mod SaidSequences

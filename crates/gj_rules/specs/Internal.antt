@@ -14,12 +14,10 @@ pub mod LostObjects
 pub mod RulesState
 pub mod FeatureSteps
 pub mod OpenRecord
-pub mod OpenSequence
 pub mod BytesBefore
 pub mod OpenParts
 pub mod ToldRecords
 pub mod JudgementLaws
 pub mod ToldPlaces
 pub mod VerdictParts
-pub mod DecidedSequence
 pub mod SkippedLevels

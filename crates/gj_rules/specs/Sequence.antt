@@ -116,6 +116,10 @@ is_valid (Valid warnings) = true
 is_valid (Broken fault) = false
 is_valid (NotJson fault) = false
 
+abbrev pub is_valid_sequence : SeqVerdict → Bool
+is_valid_sequence (SeqVerdict.Valid count warnings) = true
+is_valid_sequence (SeqVerdict.Record number verdict) = false
+
 -- all records are valid, with these warnings in all
 abbrev pub AllValid : ℕ → List SequenceRecord → Warnings → Type 0
 AllValid levels [] warnings = warnings ≡ no_warnings

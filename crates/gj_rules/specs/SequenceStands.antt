@@ -1,22 +1,19 @@
 -- What a `Sequence` stands for, and what its calls answer.
-use Rattle.std.specs.Prelude.{◌≡◌, ℕ, List, ◌++◌, Bool, true, false, Option, Some, None}
+use Rattle.std.specs.Prelude.{◌≡◌, ℕ, List, ◌++◌, Bool, true, false, Option, Some, None, is_some}
 use Rattle.gj_json.specs.Limits.{Allowed}
-use Rattle.gj_rules.specs.declared.sequence.Decision.{Decision}
+use Rattle.gj_rules.specs.declared.records.record.Record.{Record}
 use Rattle.gj_rules.specs.declared.sequence.SeqProgress.{SeqProgress}
 use Rattle.gj_rules.specs.declared.sequence.SeqProgress.TheVariants.{Open, Decided}
 use Rattle.gj_rules.specs.declared.sequence.Sequence.{Sequence}
 use Rattle.gj_rules.specs.declared.sequence.verdict.SeqVerdict.{SeqVerdict}
-use Rattle.gj_rules.specs.Sequence.{IsSequenceVerdict, IsUndecided, IsDecidedAt}
-use Rattle.gj_rules.specs.Internal.OpenSequence.{IsLive}
+use Rattle.gj_rules.specs.RecordFindings.{whole_of}
+use Rattle.gj_rules.specs.RecordsStand.{StandsFor as RecordsStandFor}
+use Rattle.gj_rules.specs.Sequence.{IsSequenceVerdict, IsUndecided, IsDecidedAt, is_valid_sequence}
+use Rattle.gj_rules.specs.Internal.OpenRecord.{refused_in, refused_part}
 
 -- what a sequence is checked under
 abbrev pub limits_of : Sequence → Allowed
-limits_of s = s.limits
-
--- a sequence that is valid
-abbrev pub is_valid_sequence : SeqVerdict → Bool
-is_valid_sequence (SeqVerdict.Valid count warnings) = true
-is_valid_sequence (SeqVerdict.Record number verdict) = false
+limits_of s = s.records.limits
 
 -- The byte at the place decided: every input that begins with these bytes has this verdict.
 pub record IsSettled (limits : Allowed) (bytes : List ℕ) (place : ℕ) (verdict : SeqVerdict) : Type 0 where
@@ -24,9 +21,26 @@ pub record IsSettled (limits : Allowed) (bytes : List ℕ) (place : ℕ) (verdic
   pub fails : is_valid_sequence verdict ≡ false
   pub lasting : (more : List ℕ) → IsSequenceVerdict limits (bytes ++ more) verdict
 
-abbrev pub StandsBy : Option Decision → Sequence → List ℕ → Type 0
+-- no byte has decided
+pub record IsLive (s : Sequence) (bytes : List ℕ) : Type 0 where
+  pub found : List Record
+  pub stands : RecordsStandFor s.records bytes found
+  pub valid : is_valid_sequence (whole_of found) ≡ true
+  pub refused : refused_part s.records.number s.records.is_void (refused_in s.records.record) ≡ None
+
+-- the byte at the place has, and what came after is not taken
+pub record HasDecided (s : Sequence) (bytes : List ℕ) (place : ℕ) : Type 0 where
+  pub taken : List ℕ
+  pub rest : List ℕ
+  pub split : bytes ≡ taken ++ rest
+  pub found : List Record
+  pub stands : RecordsStandFor s.records taken found
+  pub verdict : SeqVerdict
+  pub settled : IsSettled s.records.limits taken place verdict
+
+abbrev pub StandsBy : Option ℕ → Sequence → List ℕ → Type 0
 StandsBy None s bytes = IsLive s bytes
-StandsBy (Some d) s bytes = IsSettled s.limits bytes d.place d.verdict
+StandsBy (Some place) s bytes = HasDecided s bytes place
 
 -- The sequence may have been fed these bytes. What it says is internal: a caller needs that `new` stands for no bytes, and that
 -- each call keeps it.
@@ -34,12 +48,8 @@ abbrev pub StandsFor : Sequence → List ℕ → Type 0
 StandsFor s bytes = StandsBy s.decided s bytes
 
 -- whether a byte has decided
-abbrev pub has_decided : Option Decision → Bool
-has_decided None = false
-has_decided (Some d) = true
-
 abbrev pub is_decided : Sequence → Bool
-is_decided s = has_decided s.decided
+is_decided s = is_some s.decided
 
 -- ---- what its calls answer
 

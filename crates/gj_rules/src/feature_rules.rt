@@ -1,13 +1,45 @@
 //! Rules that report each feature as it ends.
-ghost use Rattle.std.specs.Prelude.{◌≡◌, ℕ, ◌<◌, ◌≤◌, ◌^◌, [], ◌∷◌, ◌++◌, List, length, false};
+ghost use Rattle.std.specs.Prelude.{◌≡◌, ℕ, suc, ◌<◌, ◌≤◌, ◌^◌, [], ◌∷◌, ◌++◌, List, length, true, None};
+ghost use Rattle.gj_json.specs.declared.event.Event.{Event};
+ghost use Rattle.gj_json.specs.declared.event.What.TheVariants as W;
 
-mod heads;
-mod kinds;
-
-use crate::feature::{FeatureSink, ForgetfulSink};
-use crate::feature_count::FeatureCount;
+use crate::feature::{CleanFeature, Feature, FeatureSink, ForgetfulSink};
+use crate::mode::Mode;
 use crate::rules::Rules;
-use gj_json::{CutPosition, Event, EventSink, Flat, Head, LatePoint, Located, What};
+use crate::rules::features::no_feature;
+use gj_json::{CutPosition, Event, EventSink, Flat, Head, Known, LatePoint, Located, What};
+
+/// What is kept from one event to the next, so that each feature can be reported with its number and its `id`.
+#[derive(Clone, Copy)]
+pub struct FeatureCount {
+    /// How many features have ended.
+    pub index: u64,
+    /// Where the value of the first `id` of the open feature begins, or the feature itself where it is an array.
+    pub begun: Option<u64>,
+}
+
+impl FeatureCount {
+    /// Before the first feature.
+    fn new() -> Self
+        ensures index { result.index ≡ 0 }
+        ensures begun { result.begun ≡ None }
+    {
+        FeatureCount {
+            index: 0,
+            begun: None,
+        }
+    }
+
+    /// After the end of a feature.
+    #[inline(always)]
+    fn end(&mut self)
+        ensures index { self.old.index < 2 ^ 63 → self.new.index ≡ suc self.old.index }
+        ensures begun { self.new.begun ≡ None }
+    {
+        self.index = self.index.wrapping_add(1);
+        self.begun = None;
+    }
+}
 
 /// Rules that report what is found in each feature of a text, with the last event of the feature.
 ///
@@ -21,15 +53,17 @@ pub struct FeatureRules<S> {
 }
 
 impl<S: FeatureSink> FeatureRules<S> {
-    ghost use Rattle.gj_json.specs.declared.event.Event.{Event};
     ghost use Rattle.gj_json.specs.Events.{all_events, events_by};
-    ghost use Rattle.gj_json.specs.Flat.{flat_events};
+    ghost use Rattle.gj_json.specs.Head.{point_events};
     ghost use Rattle.gj_json.specs.Text.{IsText};
     ghost use Rattle.gj_json.specs.Tree.{Text, depth};
+    ghost use Rattle.gj_json.specs.declared.names.Word.{Word};
     ghost use Rattle.gj_rules.specs.declared.feature.Feature.{Feature};
+    ghost use Rattle.gj_rules.specs.CleanFeature.{feature_of};
     ghost use Rattle.gj_rules.specs.Levels.{most_levels};
     ghost use Rattle.gj_rules.specs.Rules.{StandsFor as RulesStandFor};
-    ghost use Rattle.gj_rules.specs.Internal.FeatureSteps.{Stand, features_by, concerned};
+    ghost use Rattle.gj_rules.specs.Internal.FeatureSteps.{Stand, Heard, IsHeard, features_by, ended, hear_at, at_end, no_feature};
+    ghost use Rattle.gj_rules.specs.Internal.RulesState.{core_of};
 
     /// Before the first event of a text.
     pub fn new(sink: S) -> Self
@@ -76,51 +110,133 @@ impl<S: FeatureSink> FeatureRules<S> {
         std::mem::replace(&mut self.sink, sink)
     }
 
-    /// An event of any kind.
-    #[inline(always)]
-    fn tell_any(&mut self, event: Event)
-        ensures { (events : List Event) → Stand (S.told self.old.sink) self.old.rules self.old.count events
-            → Stand (S.told self.new.sink) self.new.rules self.new.count (events ++ event ∷ []) }
+    /// A feature ends in which this is found.
+    fn tell_ended(&mut self, feature: &Feature)
+        ensures rules { self.new.rules ≡ self.old.rules }
+        ensures heard { (at : ℕ) (h : Heard) → length h.told < 2 ^ 63 → IsHeard (S.told self.old.sink) self.old.count h
+            → IsHeard (S.told self.new.sink) self.new.count (ended at feature.now h) }
     {
-        if self.count.concerns(&event.what) {
-            self.tell_concerned(event);
+        self.sink.tell_feature(feature);
+        self.count.end();
+    }
+
+    /// A feature ends in which nothing is found.
+    #[inline(always)]
+    fn tell_clean(&mut self, clean: &CleanFeature)
+        ensures rules { self.new.rules ≡ self.old.rules }
+        ensures heard { (at : ℕ) (h : Heard) → length h.told < 2 ^ 63 → IsHeard (S.told self.old.sink) self.old.count h
+            → IsHeard (S.told self.new.sink) self.new.count (ended at (feature_of clean.now) h) }
+    {
+        self.sink.tell_clean(clean);
+        self.count.end();
+    }
+
+    /// An element ends that is no object.
+    #[inline(never)]
+    fn tell_no_feature(&mut self, place: u64, close: Option<u64>)
+        ensures rules { self.new.rules ≡ self.old.rules }
+        ensures heard { (at : ℕ) (h : Heard) → length h.told < 2 ^ 63 → IsHeard (S.told self.old.sink) self.old.count h
+            → IsHeard (S.told self.new.sink) self.new.count (ended at (no_feature (length h.told) place close) h) }
+    {
+        self.tell_ended(&no_feature(self.count.index, place, close));
+    }
+
+    /// What an event does to the features, but for the end of an object, as the rules stand before it.
+    // Where the kind is known, this is a look or two.
+    #[inline(always)]
+    fn hear(&mut self, what: &What, place: u64)
+        requires open { what.now ≡ W.CloseObject → ⊥ }
+        ensures rules { self.new.rules ≡ self.old.rules }
+        ensures heard { (at : ℕ) (h : Heard) → length h.told < 2 ^ 63 → IsHeard (S.told self.old.sink) self.old.count h
+            → IsHeard (S.told self.new.sink) self.new.count
+            (hear_at self.old.rules.skipped self.old.rules.mode (core_of self.old.rules).top what.now place at h) }
+    {
+        match what {
+            What::Name(_) | What::CloseObject => {}
+            What::CloseArray => {
+                if self.rules.ends_array_feature() {
+                    self.tell_no_feature(self.count.begun.unwrap_or(0), Some(place));
+                }
+            }
+            What::OpenObject => {
+                if self.rules.awaits_id() {
+                    self.count.begun = Some(place);
+                }
+            }
+            What::OpenArray => {
+                if self.rules.awaits_id() || self.rules.awaits_feature() {
+                    self.count.begun = Some(place);
+                }
+            }
+            _ => {
+                if self.rules.awaits_id() {
+                    self.count.begun = Some(place);
+                }
+                if self.rules.awaits_feature() {
+                    self.tell_no_feature(place, None);
+                }
+            }
+        }
+    }
+
+    /// A feature ends that is an object. Mostly nothing is found in it.
+    #[inline(never)]
+    fn tell_end(&mut self, place: u64)
+        requires ends { at_end self.old.rules.skipped self.old.rules.mode (core_of self.old.rules).top.slots.role ≡ true }
+        ensures { (events : List Event) → Stand (S.told self.old.sink) self.old.rules self.old.count events
+            → Stand (S.told self.new.sink) self.new.rules self.new.count (events ++ record { place = place; what = W.CloseObject } ∷ []) }
+    {
+        if self.rules.is_clean_feature() {
+            let clean = CleanFeature {
+                index: self.count.index,
+                place: self.rules.place(),
+                close: place,
+                id: self.count.begun,
+            };
+            self.rules.close_clean();
+            self.tell_clean(&clean);
         } else {
-            self.tell_quiet(event);
+            let feature = self
+                .rules
+                .feature_found(self.count.index, place, self.count.begun);
+            self.rules.tell_close_object(place);
+            self.tell_ended(&feature);
         }
     }
 
-    /// An event that matters to no feature.
+    /// The end of an object.
     #[inline(always)]
-    fn tell_quiet(&mut self, event: Event)
-        requires quiet { concerned event.what self.old.count.inner self.old.count.stage self.old.count.id_due ≡ false }
+    fn tell_close_object(&mut self, place: u64)
         ensures { (events : List Event) → Stand (S.told self.old.sink) self.old.rules self.old.count events
-            → Stand (S.told self.new.sink) self.new.rules self.new.count (events ++ event ∷ []) }
+            → Stand (S.told self.new.sink) self.new.rules self.new.count (events ++ record { place = place; what = W.CloseObject } ∷ []) }
     {
-        self.count.pass_by(&event.what);
-        self.rules.tell(event);
-    }
-
-    /// An event that begins or ends a feature, or that is of its `id`, or about the array of the features.
-    #[inline(never)]
-    fn tell_concerned(&mut self, event: Event)
-        ensures { (events : List Event) → Stand (S.told self.old.sink) self.old.rules self.old.count events
-            → Stand (S.told self.new.sink) self.new.rules self.new.count (events ++ event ∷ []) }
-    {
-        let told = self.rules.feature_told(&event, &self.count);
-        self.count = self.count.next(&event, self.rules.starts_features());
-        self.rules.tell(event);
-        if let Some(feature) = told {
-            self.sink.tell_feature(&feature);
+        if self.rules.ends_feature() {
+            self.tell_end(place);
+        } else {
+            self.rules.tell_close_object(place);
         }
     }
 
-    /// An array of numbers where an event may matter to a feature, by its events in turn.
-    #[inline(never)]
-    fn tell_each(&mut self, flat: &Flat)
+    /// An event that is not the end of an object.
+    #[inline(always)]
+    fn tell_heard(&mut self, event: Event)
+        requires open { event.what ≡ W.CloseObject → ⊥ }
         ensures { (events : List Event) → Stand (S.told self.old.sink) self.old.rules self.old.count events
-            → Stand (S.told self.new.sink) self.new.rules self.new.count (events ++ flat_events flat.now) }
+            → Stand (S.told self.new.sink) self.new.rules self.new.count (events ++ event ∷ []) }
     {
-        self.tell_flat_in_turn(flat);
+        self.hear(&event.what, event.place);
+        self.rules.tell(event);
+    }
+
+    /// A whole Point where it is no first `geometry` of a feature, by its beginning, its position and its end.
+    #[inline(never)]
+    fn tell_point_in_turn(&mut self, located: &Located, flat: &Flat, close: u64)
+        ensures { (events : List Event) → Stand (S.told self.old.sink) self.old.rules self.old.count events
+            → Stand (S.told self.new.sink) self.new.rules self.new.count (events ++ point_events located.now flat.now close) }
+    {
+        self.tell_head(Head::Geometry(*located));
+        self.tell_flat(flat);
+        self.tell_close_object(close);
     }
 }
 
@@ -138,36 +254,33 @@ impl<S: ForgetfulSink> FeatureRules<S> {
 }
 
 impl<S: FeatureSink> EventSink for FeatureRules<S> {
-    ghost use Rattle.gj_rules.specs.Internal.FeatureSteps.{Stand, ignored_of};
+    ghost use Rattle.gj_rules.specs.Internal.FeatureSteps.{Stand, ignored_of, lists};
 
     ghost heard = { λ all events. Stand (S.told all.sink) all.rules all.count events };
 
-    ghost ignores = { λ all. ignored_of all.rules.skipped all.count.inner };
+    ghost ignores = { λ all. ignored_of (lists all.rules.mode) all.rules.skipped };
 
-    // Whoever reports an event mostly knows of which kind it is: then this is one call.
     #[inline(always)]
     fn tell(&mut self, event: Event) {
         match event.what {
-            What::Name(name) => self.tell_name(name, event.place),
-            What::Text(word) => self.tell_text(word, event.place),
-            What::OpenObject => self.tell_open_object(event.place),
             What::CloseObject => self.tell_close_object(event.place),
-            What::OpenArray => self.tell_open_array(event.place),
-            What::CloseArray => self.tell_close_array(event.place),
-            _ => self.tell_other(event),
+            _ => self.tell_heard(event),
         }
     }
 
+    // The numbers of an array that is a feature or that holds the features are reported one after another.
+    #[inline(always)]
     fn tell_flat(&mut self, flat: &Flat) {
-        if self.count.inner > 0 {
+        if self.rules.is_in_value() {
             self.rules.tell_flat(flat);
         } else {
-            self.tell_each(flat);
+            self.tell_flat_in_turn(flat);
         }
     }
 
+    #[inline(always)]
     fn tell_positions(&mut self, positions: &[CutPosition]) -> usize {
-        if self.count.inner > 0 {
+        if self.rules.awaits(Mode::Due(Known::Coordinates)) {
             self.rules.tell_positions(positions)
         } else {
             0
@@ -177,15 +290,18 @@ impl<S: FeatureSink> EventSink for FeatureRules<S> {
     #[inline(always)]
     fn tell_head(&mut self, head: Head) {
         match head {
-            Head::Object(typed) => self.tell_typed(&typed),
-            Head::Geometry(located) => self.tell_located(&located),
-            Head::Properties(opened) => self.tell_properties(&opened),
+            Head::Object(typed) => {
+                self.hear(&What::OpenObject, typed.place);
+                self.rules.tell_typed(&typed);
+            }
+            Head::Geometry(located) => self.rules.tell_located(&located),
+            Head::Properties(opened) => self.rules.tell_properties(&opened),
         }
     }
 
     #[inline(always)]
     fn tell_point(&mut self, located: &Located, flat: &Flat, close: u64) {
-        if self.count.is_in_members() {
+        if self.rules.takes_point() {
             self.rules.tell_point(located, flat, close);
         } else {
             self.tell_point_in_turn(located, flat, close);
@@ -194,25 +310,23 @@ impl<S: FeatureSink> EventSink for FeatureRules<S> {
 
     #[inline(always)]
     fn tell_late_point(&mut self, point: &LatePoint, flat: &Flat) {
-        if self.count.is_in_members() {
+        if self.rules.takes_point() {
             self.rules.tell_late_point(point, flat);
         } else {
             self.tell_late_point_in_turn(point, flat);
         }
     }
 
-    // Where the rules ignore more levels than are open in an element, the end of the element is among them.
+    // The end of a feature that is an array is reported.
     fn ignored(&self) -> u16 {
-        let ignored = self.rules.ignored();
-        if ignored as u64 <= self.count.inner {
-            ignored
-        } else {
+        if self.rules.lists_features() {
             0
+        } else {
+            self.rules.ignored()
         }
     }
 
     fn pass(&mut self, left: u16) {
-        self.count.pass_levels(self.rules.ignored(), left);
         self.rules.pass(left);
     }
 }

@@ -12,7 +12,6 @@
 #![tactic(auto)]
 
 mod feature;
-mod feature_count;
 pub mod feature_laws;
 mod feature_linter;
 mod feature_rules;

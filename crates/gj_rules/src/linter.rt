@@ -68,6 +68,7 @@ const _: () = prove!(
 );
 
 impl Linter {
+    ghost use Rattle.gj_json.specs.Refusal.{IsRefusal};
     ghost use Rattle.gj_rules.specs.Linter.{StandsFor, limits_of, refusal_of, offset_of, levels_of, Answers, refusal_in};
     ghost use Rattle.gj_coords.specs.Internal.KeptWarnings.{no_warnings};
     ghost use Rattle.gj_rules.specs.Verdict.{IsVerdict, NeverValid};
@@ -104,23 +105,7 @@ impl Linter {
     }
 
     /// The verdict of the input that was fed, however it came in pieces.
-    pub fn finish(self) -> Verdict
-        ensures verdict { (bytes : List ℕ) → StandsFor self bytes → IsVerdict (limits_of self) bytes result }
-        ensures again { (fault : JsonFault) → refusal_of self ≡ Some fault → result ≡ Verdict.NotJson fault }
-    {
-        bytes_taken();
-        few_events();
-        kept_warnings();
-        match self.reader.finish() {
-            Err(fault) => Verdict::NotJson(fault),
-            Ok(None) => verdict_of(self.rules.fault(), self.rules.warnings()),
-            Ok(Some(_)) => self.finish_number(),
-        }
-    }
-
-    /// The verdict of a number alone. Only then is an event left, and the linter copied, so that it can be reported.
-    #[inline(never)]
-    fn finish_number(mut self) -> Verdict
+    pub fn finish(mut self) -> Verdict
         ensures verdict { (bytes : List ℕ) → StandsFor self bytes → IsVerdict (limits_of self) bytes result }
         ensures again { (fault : JsonFault) → refusal_of self ≡ Some fault → result ≡ Verdict.NotJson fault }
     {
@@ -136,7 +121,7 @@ impl Linter {
         few_events();
         kept_warnings();
         match self.reader.finish() {
-            Err(refused) => Verdict::NotJson(refused),
+            Err(fault) => Verdict::NotJson(fault),
             Ok(last) => {
                 tell_last(&mut self.rules, last);
                 verdict_of(self.rules.fault(), self.rules.warnings())
@@ -202,6 +187,16 @@ impl Linter {
             Some(_) => true,
             None => self.rules.doomed(),
         }
+    }
+
+    /// The refusal, once there was one.
+    #[inline]
+    pub(crate) fn refusal(&self) -> Option<JsonFault>
+        ensures value { result ≡ refusal_of self.now }
+        ensures lasting { (bytes more : List ℕ) (fault : JsonFault) → StandsFor self.now bytes → refusal_of self.now ≡ Some fault
+            → IsRefusal (limits_of self.now) (bytes ++ more) fault }
+    {
+        self.reader.refusal()
     }
 
     /// How many bytes were taken: the place of the refused one, once there was one.

@@ -7,7 +7,6 @@ ghost use Rattle.gj_rules.specs.RecordFindings.{AreAllFindings, whole_of};
 ghost use Rattle.gj_rules.specs.Sequence.{IsSequenceVerdict};
 
 use crate::verdict::one_verdict;
-use gj_coords::laws::joined_warnings;
 
 /// Under any limits one list is found in the records of an input, and no other.
 pub fn one_finding()
@@ -23,6 +22,4 @@ pub fn one_finding()
 pub fn sequence_by_records()
     ensures { (limits : Allowed) (bytes : List ℕ) (found : List Record) → 1 ≤ limits.bytes → AreAllFindings Framing.Sequence limits bytes found
         → IsSequenceVerdict limits bytes (whole_of found) }
-{
-    joined_warnings();
-}
+{}

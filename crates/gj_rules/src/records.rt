@@ -1,16 +1,18 @@
 //! The records of an input that comes in pieces, each checked separately.
-ghost use Rattle.std.specs.Prelude.{◌≡◌, ◌↔◌, ℕ, ◌+◌, ◌<◌, ◌≤◌, ◌++◌, ◌∷◌, [], List, length, take, false, true, IsTrue};
+ghost use Rattle.std.specs.Prelude.{◌≡◌, ◌↔◌, ℕ, ◌+◌, ◌<◌, ◌≤◌, ◌++◌, ◌∷◌, [], List, length, take, false, true, not, IsTrue};
 
 mod framing;
+mod open_record;
 mod record;
 
-use crate::sequence::open_record::OpenRecord;
-use crate::sequence::{SeqVerdict, record_limits};
+use crate::sequence::SeqVerdict;
 use crate::verdict::{Verdict, one_verdict};
-pub(crate) use framing::run_before;
+use framing::run_before;
 pub use framing::{Framing, RecordEnd};
 use gj_coords::Warnings;
 use gj_json::{Cause, JsonFault, Limits};
+use open_record::OpenRecord;
+pub(crate) use record::NoRecords;
 pub use record::{Record, RecordSink};
 
 /// What was taken of a piece.
@@ -35,12 +37,12 @@ pub struct Whole {
 /// section 2.3, on which RFC 8142 rests).
 #[derive(Drop)]
 pub struct Records {
-    record: OpenRecord,
+    pub(crate) record: OpenRecord,
     /// Of the records that were reported.
     whole: SeqVerdict,
     limits: Limits,
     /// That of the open record.
-    number: u64,
+    pub(crate) number: u64,
     framing: Framing,
     /// Whether the open record has no byte so far that counts.
     is_void: bool,
@@ -48,6 +50,7 @@ pub struct Records {
     is_over: bool,
     ghost within: { record.end ≤ limits.bytes },
     ghost few: { number ≤ record.end + 1 },
+    ghost some_byte: { 1 ≤ limits.bytes },
 }
 
 impl Records {
@@ -55,13 +58,13 @@ impl Records {
     ghost use Rattle.gj_rules.specs.declared.records.framing.RecordEnd.{RecordEnd};
     ghost use Rattle.gj_rules.specs.declared.records.record.Record.{Record};
     ghost use Rattle.gj_rules.specs.Internal.BytesBefore.{has_byte};
-    ghost use Rattle.gj_rules.specs.Internal.OpenRecord.{StandsFor as RecordStandsFor};
+    ghost use Rattle.gj_rules.specs.Internal.OpenRecord.{StandsFor as RecordStandsFor, refused_in, refused_part};
     ghost use Rattle.gj_rules.specs.Internal.ToldRecords.{TellsOne, Keeps, KeepsAll};
     ghost use Rattle.gj_coords.specs.Internal.KeptWarnings.{no_warnings};
     ghost use Rattle.gj_rules.specs.RecordFindings.{IsOwnVerdict, IsNumberedVerdict, IsWholeVerdict, whole_of};
     ghost use Rattle.gj_rules.specs.Records.{part_at, separator_of, counts};
     ghost use Rattle.gj_rules.specs.RecordsStand.{StandsFor, limits_of, framing_of, HaveTold, HaveToldIf, HaveToldAll, HaveToldAllIf};
-    ghost use Rattle.gj_rules.specs.SequenceStands.{is_valid_sequence};
+    ghost use Rattle.gj_rules.specs.Sequence.{is_valid_sequence};
 
     /// Before the first byte of an input. The depth is allowed to each record, and the number of bytes to the whole input.
     pub fn new(framing: Framing, limits: Limits) -> Records
@@ -69,8 +72,9 @@ impl Records {
         ensures framing { framing_of result ≡ framing }
         ensures limits { limits_of result ≡ limits }
     {
+        let _least = limits.bytes();
         Records {
-            record: OpenRecord::new(record_limits(limits), 0),
+            record: OpenRecord::new(limits),
             whole: SeqVerdict::Valid {
                 records: 0,
                 warnings: Warnings::none(),
@@ -89,7 +93,8 @@ impl Records {
         ensures framing { framing_of self.new ≡ framing }
         ensures limits { limits_of self.new ≡ limits }
     {
-        self.record.begin_under(record_limits(limits), 0);
+        let _least = limits.bytes();
+        self.record.begin_under(limits);
         self.whole = SeqVerdict::Valid {
             records: 0,
             warnings: Warnings::none(),
@@ -150,11 +155,12 @@ impl Records {
     }
 
     /// Takes the next byte, or the next bytes of the open record.
-    fn take<S: RecordSink>(&mut self, rest: &[u8], sink: &mut S) -> Taken
+    pub(crate) fn take<S: RecordSink>(&mut self, rest: &[u8], sink: &mut S) -> Taken
         requires some { 0 < length rest.now }
         requires live { self.old.is_over ≡ false }
         ensures some { 0 < result.count }
         ensures within { result.count ≤ length rest.now }
+        ensures one { result.told ≡ true → result.count ≡ 1 }
         ensures told { (bytes : List ℕ) (before found : List Record) → StandsFor self.old bytes found → S.told sink.old (before ++ found)
             → HaveToldIf result.told (S.told sink.new) self.new (bytes ++ take result.count rest.now) before found }
         ensures keeps { Keeps self.old self.new }
@@ -341,6 +347,18 @@ impl Records {
         }
     }
 
+    /// The place of the byte of the open record that is refused, once there was one. Before the first separator of a sequence that
+    /// is any byte.
+    #[inline]
+    pub(crate) fn refused_at(&self) -> Option<u64>
+        ensures { result ≡ refused_part self.now.number self.now.is_void (refused_in self.now.record) }
+    {
+        if self.number == 0 && !self.is_void {
+            return Some(0);
+        }
+        self.record.refused_at()
+    }
+
     /// How many bytes were taken, of those that are allowed.
     pub fn offset(&self) -> u64
         ensures { (bytes : List ℕ) (found : List Record) → StandsFor self.now bytes found → result ≡ length (take (limits_of self.now).bytes bytes) }
@@ -357,13 +375,14 @@ impl Records {
         self.is_over
     }
 
-    /// Whether a record that was reported is not valid, or a byte came that is beyond the limit: what the input is as a whole is
-    /// known then, whatever follows.
+    /// Whether a record that was reported is not valid, as the one that the limit cuts off: what the input is as a whole is known
+    /// then, whatever follows.
     pub fn is_decided(&self) -> bool
         ensures lasting { (bytes more : List ℕ) (found : List Record) → StandsFor self.now bytes found → IsTrue result
             → IsWholeVerdict (framing_of self.now) (limits_of self.now) (bytes ++ more) (whole_of found) }
-        ensures valid { (bytes : List ℕ) (found : List Record) → StandsFor self.now bytes found → result ≡ false → is_valid_sequence (whole_of found) ≡ true }
+        ensures valid { (bytes : List ℕ) (found : List Record) → StandsFor self.now bytes found → is_valid_sequence (whole_of found) ≡ not result }
         ensures within { (bytes : List ℕ) (found : List Record) → StandsFor self.now bytes found → result ≡ false → length bytes ≤ (limits_of self.now).bytes }
+        ensures live { result ≡ false → self.now.is_over ≡ false }
     {
         one_verdict();
         match self.whole {

@@ -4,7 +4,7 @@ ghost use Rattle.gj_rules.specs.declared.rules.TheConstants.{MOST_FRAMES};
 
 mod doomed;
 mod events;
-mod features;
+pub(crate) mod features;
 mod flats;
 mod heads;
 mod kinds;

@@ -4,5 +4,4 @@ mod literal;
 mod pair;
 mod prefix;
 mod short;
-mod spread;
 mod unsigned;

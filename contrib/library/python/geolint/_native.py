@@ -5,6 +5,7 @@ from __future__ import annotations
 import ctypes
 import ctypes.util
 import os
+import sys
 from typing import Any, Iterator
 
 # `make install-library` writes here where it puts the shared object.
@@ -90,11 +91,12 @@ class Text(ctypes.Structure):
 def find() -> str:
     """The path of the shared object."""
     here = os.path.dirname(os.path.abspath(__file__))
-    near = [os.path.join(here, "libgeolint.so"), _INSTALLED, os.path.join(here, "..", "..", "..", "libgeolint.so.0")]
+    name = {"win32": "geolint.dll", "darwin": "libgeolint.dylib"}.get(sys.platform, "libgeolint.so")
+    near = [os.path.join(here, name), _INSTALLED, os.path.join(here, "..", "..", "..", "libgeolint.so.0")]
     found = [path for path in near if os.path.exists(path)]
     path = os.environ.get("GEOLINT_LIBRARY") or (found[0] if found else ctypes.util.find_library("geolint"))
     if not path:
-        raise ImportError("libgeolint.so is not installed; GEOLINT_LIBRARY may name it")
+        raise ImportError(f"{name} is not installed; GEOLINT_LIBRARY may name it")
     return path
 
 

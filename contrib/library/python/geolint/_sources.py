@@ -71,6 +71,8 @@ def _refuse(source: Any) -> NoReturn:
 
 def _encoded(text: str) -> Iterator[bytes]:
     """The bytes of a text in UTF-8."""
+    if len(text) <= 4096 and not text.lstrip("\ufeff\x1e \t\r\n").startswith("{") and os.path.isfile(text):
+        raise ValueError('the str names a file, and a str is the text itself: give pathlib.Path(..) of the name, or the file opened as "rb"')
     for at in range(0, len(text), PIECE):
         try:
             yield text[at : at + PIECE].encode("utf-8")

@@ -92,6 +92,8 @@ def verdict_of(report: Any) -> Verdict:
         raise ValueError(_ALLOWED)
     name = _NAMES[report.verdict]
     if name == "valid":
+        if not report.warned:
+            return Verdict(name)
         noted = [(kind, w.count, w.first) for kind, w in enumerate(report.warnings, 1) if w.count]
         return Verdict(name, warnings=tuple(Warning(*n, text_of(library.geolint_warning_text, n[0])) for n in noted))
     if name == "broken":

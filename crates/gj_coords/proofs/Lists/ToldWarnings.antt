@@ -65,14 +65,7 @@ places_in told other (kind ∷ ks) =
 
 own_places : (told : Warnings) (kind : Kind) → flat_map (of_each told kind) kinds ≡ places_alike (kept told kind)
 own_places told Kind.W1 = append-nil (places_alike (kept told Kind.W1))
-own_places told Kind.W2 = append-nil (places_alike (kept told Kind.W2))
-own_places told Kind.W3 = append-nil (places_alike (kept told Kind.W3))
-own_places told Kind.W4 = append-nil (places_alike (kept told Kind.W4))
-own_places told Kind.W5 = append-nil (places_alike (kept told Kind.W5))
-own_places told Kind.W6 = append-nil (places_alike (kept told Kind.W6))
-own_places told Kind.W7 = append-nil (places_alike (kept told Kind.W7))
-own_places told Kind.W8 = append-nil (places_alike (kept told Kind.W8))
-own_places told Kind.W9 = append-nil (places_alike (kept told Kind.W9))
+own_places told kind = append-nil (places_alike (kept told kind))
 
 places_told : (told : Warnings) (kind : Kind) → places_of kind (told_list told) ≡ places_alike (kept told kind)
 unfolding told_list

@@ -1,6 +1,6 @@
 -- How many events a value has: at least as many as it has levels, and more than its elements together.
 use Rattle.gj_coords.proofs.Common.{Elements, Event, Tree, What, ap, arith, array, constant, depth, element, elements_sent, end_of_array}
-use Rattle.gj_coords.proofs.Common.{end_of_object, event_at, items, member, number, object, sent, string, ◌∙◌}
+use Rattle.gj_coords.proofs.Common.{end_of_object, event_at, items, member, object, sent, ◌∙◌}
 use Rattle.std.proofs.Common.{◌≡◌, ℕ, ◌+◌, ◌<◌, ◌≤◌, List, [], ◌∷◌, ◌++◌, length, refl, length-append}
 use Rattle.gj_json.specs.Tree.{Members}
 use Rattle.gj_json.specs.Tree.{elements_depth, members_depth}
@@ -37,9 +37,6 @@ length_below (v ∷ more) =
 
 mutual
   pub depth_below : (v : Tree) → depth v ≤ length (sent v)
-  depth_below (constant which place) = omega arith
-  depth_below (number place literal end) = omega arith
-  depth_below (string place content end) = omega arith
   depth_below (array place es close) =
       let h = elements_below es in
       let f = closed_length (elements_sent es) (event_at close What.CloseArray) in
@@ -48,6 +45,7 @@ mutual
       let h = members_below ms in
       let f = closed_length (members_sent ms) (event_at close What.CloseObject) in
       omega arith
+  depth_below _ = omega arith
 
   elements_below : (es : Elements) → elements_depth es ≤ length (elements_sent es)
   elements_below end_of_array = omega arith

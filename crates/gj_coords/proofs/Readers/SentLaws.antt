@@ -1,6 +1,6 @@
 -- The events of a value, without their times, are those by recursion on it.
-use Rattle.gj_coords.proofs.Common.{Elements, Event, Tree, What, ap, array, constant, element, elements_sent, end_of_array, end_of_object, event_at}
-use Rattle.gj_coords.proofs.Common.{member, number, object, sent, string, value_events, ◌∙◌}
+use Rattle.gj_coords.proofs.Common.{Elements, Event, Tree, What, ap, array, element, elements_sent, end_of_array, end_of_object, event_at}
+use Rattle.gj_coords.proofs.Common.{member, object, sent, value_events, ◌∙◌}
 use Rattle.std.proofs.Common.{◌≡◌, List, [], ◌∷◌, ◌++◌, refl, map}
 use Rattle.std.proofs.lemmas.List.{map-append}
 use Rattle.gj_json.specs.Names.{known_of}
@@ -25,13 +25,11 @@ joined first more first_sent more_sent h k =
 
 mutual
   pub value_sent : (v : Tree) → value_events v ≡ sent v
-  value_sent (constant which place) = refl
-  value_sent (number place literal end) = refl
-  value_sent (string place content end) = refl
   value_sent (array place es close) =
       ap (λ xs. event_at place What.OpenArray ∷ xs) (closed (elements_events es) (elements_sent es) _ close What.CloseArray (elements_plain es))
   value_sent (object place ms close) =
       ap (λ xs. event_at place What.OpenObject ∷ xs) (closed (members_events ms) (members_sent ms) _ close What.CloseObject (members_plain ms))
+  value_sent _ = refl
 
   elements_plain : (es : Elements) → plain (elements_events es) ≡ elements_sent es
   elements_plain end_of_array = refl

@@ -1,8 +1,8 @@
 -- What a gathering of warnings says of its elements, and of the linear rings of a polygon.
 use Rattle.gj_coords.proofs.Common.{Concern, Elements, Fault, G14, Gathering, Tree, W2, Warned, Warning, Warnings, all_in, ap, arith, array, each}
 use Rattle.gj_coords.proofs.Common.{elements_of, flat_map, gathered, items, joined_none_first, least, place_of, position, position_answer}
-use Rattle.gj_coords.proofs.Common.{position_warned, position_warnings, ring, ring_answer, ring_gathering, ring_turn, role_behind, sent, sym}
-use Rattle.gj_coords.proofs.Common.{taken_is, turn_in, ◌&&◌, ◌∙◌}
+use Rattle.gj_coords.proofs.Common.{position_warned, position_warnings, ring, ring_turn, role_behind, sent, sym}
+use Rattle.gj_coords.proofs.Common.{taken_is, third_answer, third_gathering, ◌&&◌, ◌∙◌}
 use Rattle.std.specs.Prelude.{is_none, ⊤}
 use Rattle.std.proofs.Common.{◌≡◌, ℕ, zero, suc, ◌<◌, ◌^◌, List, [], ◌∷◌, ◌++◌, length, Option, Bool, true, false, refl, nat_lt}
 use Rattle.std.proofs.Common.{if◌then◌else◌}
@@ -71,16 +71,16 @@ sound_positions place vs h =
     ap is_empty (empty_front (flat_map position vs) (unclosed place vs) behind).0
 
 -- how its positions run, and what they warn of
-pub ring_turned : (v : Tree) → IsShort v → is_empty (ring v) ≡ true → turn_in (ring_answer v).positions.winding ≡ ring_turn (elements_of v)
+pub ring_turned : (v : Tree) → IsShort v → is_empty (ring v) ≡ true → (third_answer v).turn ≡ ring_turn (elements_of v)
 ring_turned (array place es close) short sound =
     let count = elements_short place es close short in
     let long = length_below (items es) in
     ring_turns place (items es) (sound_positions place (items es) sound) (omega arith)
 ring_turned _ short sound = cc
 
-pub ring_positions : (v : Tree) → IsShort v → all_in (ring_answer v).positions.warned ≡ warnings_of (each position_warnings v)
+pub ring_positions : (v : Tree) → IsShort v → all_in (third_answer v).warned ≡ warnings_of (each position_warnings v)
 ring_positions (array place es close) short =
-    elements_warned ring_gathering position_answer (λ g. g.positions.warned) position_warnings
+    elements_warned third_gathering position_answer (λ g. g.positions.warned) position_warnings
     (λ g v few. ap all_in (added_warned g.positions (position_answer v)) ∙ position_warned g.positions.warned v) place es close short refl
 ring_positions _ short = none_of
 

@@ -5,7 +5,7 @@ use Rattle.gj_coords.proofs.Common.{Polygon, Simple, Values, Warned, Warnings, W
 use Rattle.gj_coords.proofs.Common.{level, no_warned, other, position_closed, sound_noted, warned_as, ◌&&◌}
 use Rattle.std.proofs.Common.{◌≡◌, ℕ, Option, Some, None, Bool, true, false, ◌==◌, is_some, is_none, if◌then◌else◌, refl}
 use Rattle.std.proofs.lemmas.Bool.{and_parts}
-use Rattle.gj_coords.specs.declared.watcher.position.Position.{Position}
+use Rattle.gj_coords.specs.Internal.PositionGather.{Position}
 use Rattle.gj_coords.specs.Internal.PositionGather.{judged_noted}
 use Rattle.gj_coords.specs.Internal.LevelGather.{fault_in, some_warned_in, warned_in, some_quiet_in, quiet_as}
 use Rattle.gj_coords.specs.Internal.FlatPosition.{flat_count, flat_misshapen, held_fault, held_warned}
@@ -28,17 +28,9 @@ level_of third place values precise misshapen = record {
 level_fault : (simple : Simple) (third : Option Numbered) (place : ℕ) (values : Values) (precise : KindWarnings) (misshapen : Option Fault) →
     held_fault simple misshapen ≡ fault_in simple (level_of third place values precise misshapen)
 level_fault Point None place values precise misshapen = refl
-level_fault MultiPoint None place values precise misshapen = refl
-level_fault LineString None place values precise misshapen = refl
-level_fault MultiLineString None place values precise misshapen = refl
-level_fault Polygon None place values precise misshapen = refl
-level_fault MultiPolygon None place values precise misshapen = refl
+level_fault _ None place values precise misshapen = refl
 level_fault Point (Some number) place values precise misshapen = refl
-level_fault MultiPoint (Some number) place values precise misshapen = refl
-level_fault LineString (Some number) place values precise misshapen = refl
-level_fault MultiLineString (Some number) place values precise misshapen = refl
-level_fault Polygon (Some number) place values precise misshapen = refl
-level_fault MultiPolygon (Some number) place values precise misshapen = refl
+level_fault _ (Some number) place values precise misshapen = refl
 
 pub flat_fault : (simple : Simple) (f : Flat) → held_fault simple (flat_misshapen f) ≡ fault_in simple (flat_first f)
 flat_fault simple f =
@@ -52,17 +44,9 @@ position_of third place values precise =
 level_warned : (simple : Simple) (third : Option Numbered) (place : ℕ) (values : Values) (precise : KindWarnings) (misshapen : Option Fault) →
     held_warned simple (sound_noted no_warned (position_of third place values precise)) ≡ warned_in simple (level_of third place values precise misshapen)
 level_warned Point None place values precise misshapen = refl
-level_warned MultiPoint None place values precise misshapen = refl
-level_warned LineString None place values precise misshapen = refl
-level_warned MultiLineString None place values precise misshapen = refl
-level_warned Polygon None place values precise misshapen = refl
-level_warned MultiPolygon None place values precise misshapen = refl
+level_warned _ None place values precise misshapen = refl
 level_warned Point (Some number) place values precise misshapen = refl
-level_warned MultiPoint (Some number) place values precise misshapen = refl
-level_warned LineString (Some number) place values precise misshapen = refl
-level_warned MultiLineString (Some number) place values precise misshapen = refl
-level_warned Polygon (Some number) place values precise misshapen = refl
-level_warned MultiPolygon (Some number) place values precise misshapen = refl
+level_warned _ (Some number) place values precise misshapen = refl
 
 pub flat_warned : (simple : Simple) (f : Flat) →
     held_warned simple (sound_noted no_warned (flat_position f)) ≡ warned_in simple (flat_first f)

@@ -1,18 +1,21 @@
 -- A value that comes as one position breaks no rule as a Point, and deserves the warnings of the position: a plain one deserves none.
-use Rattle.gj_coords.proofs.Common.{Corner, Flat, Numbered, Point, Tree, Warned, all_in, ap, arith, coordinates_faults, done, fault_as, first_answer}
+use Rattle.gj_coords.proofs.Common.{Flat, Numbered, Point, Tree, Warned, all_in, ap, arith, coordinates_faults, done, fault_as, first_answer}
 use Rattle.gj_coords.proofs.Common.{flat_events, flat_first, flat_position, least, level, no_warned, progress_machine, sound_noted, subst, sym}
 use Rattle.gj_coords.proofs.Common.{value_events, waiting, warned_as, ◌∙◌}
-use Rattle.std.proofs.Common.{◌≡◌, ◌<◌, ◌^◌, [], length, Option, Some, None, IfSome, IsTrue, is_some, refl}
+use Rattle.std.proofs.Common.{◌≡◌, ◌<◌, ◌^◌, [], length, Option, Some, None, is_none, false, refl}
 use Rattle.gj_coords.specs.Coordinates.{IsAt}
 use Rattle.gj_coords.specs.PlainPoint.{IsPlainPoint, IsPointWith}
 use Rattle.gj_coords.specs.Internal.CoordinatesKept.{coordinates_kept}
-use Rattle.gj_coords.specs.Internal.FlatPosition.{IsPlain}
+use Rattle.gj_coords.specs.Internal.FlatPosition.{flat_values, flat_precise}
+use Rattle.gj_coords.specs.Internal.KeptWarnings.{nothing_noted}
+use Rattle.gj_coords.specs.Internal.PositionGather.{corner_in}
 use Rattle.gj_coords.proofs.Lists.KeptOfShortValues.{countable}
 use Rattle.gj_coords.proofs.Readers.RestsOfValues.{reads_on_answers}
 use Rattle.gj_coords.proofs.Walks.AnswersOfWalks.{none_read, flat_read}
 use Rattle.gj_coords.proofs.Walks.FaultsOfLevels.{first_least}
 use Rattle.gj_coords.proofs.Walks.FlatLaws.{flat_value}
 use Rattle.gj_coords.proofs.Walks.HeldPositions.{flat_fault, flat_warned}
+use Rattle.gj_coords.proofs.Walks.PreciseNumbers.{quiet_flat}
 
 few_by : (a b : Numbered) (third : Option Numbered) (f : Flat) → f.first ≡ a → f.second ≡ b → f.third ≡ third → length (flat_events f) < 2 ^ 64
 few_by a b None f i j k = rw k (omega arith)
@@ -40,6 +43,5 @@ position_kept f v e = ap (λ a. all_in (warned_as Point a)) (sym (answer_is f v 
 pub point_with : (f : Flat) (warned : Warned) → warned ≡ sound_noted no_warned (flat_position f) → IsPointWith (all_in warned) f
 point_with f warned is = λ v same. (no_fault f v same, position_kept f v same ∙ ap all_in (sym is))
 
-pub plain_point : (f : Flat) (corner : Option Corner) → IfSome corner (λ c. IsPlain f c) → IsTrue (is_some corner) → IsPlainPoint f
-plain_point f None plain e = cc
-plain_point f (Some c) plain e = λ v same. (no_fault f v same, position_kept f v same ∙ ap all_in (plain.quiet no_warned))
+pub plain_point : (f : Flat) → flat_precise f ≡ nothing_noted → is_none (corner_in (flat_values f)) ≡ false → IsPlainPoint f
+plain_point f short at = λ v same. (no_fault f v same, position_kept f v same ∙ ap all_in (quiet_flat f no_warned short at))

@@ -1,5 +1,5 @@
 -- What is known of a number's places by how it is written, and of a position's.
-use Rattle.gj_coords.proofs.Common.{Corner, Flat, IsCutPosition, KindWarnings, Numbered, W3, W4, W5, Warned, ap, arith, counted_noted, flat_position}
+use Rattle.gj_coords.proofs.Common.{Flat, IsCutPosition, KindWarnings, Numbered, W3, W4, W5, Warned, ap, arith, counted_noted, flat_position}
 use Rattle.gj_coords.proofs.Common.{ints, joined_noted, nat_tests, noted_as, pos, precise_noted, sound_noted, sym, ℤ, ◌∙◌}
 use Rattle.std.proofs.Common.{◌≡◌, ◌↔◌, ℕ, ◌+◌, ◌<◌, ◌≤◌, ◌==◌, suc, Bool, if◌then◌else◌, true, false, IsTrue, nat_lt, Option, Some, None, is_none, IfSome}
 use Rattle.std.proofs.Common.{negsuc, ◌-ℤ◌, refl}
@@ -16,8 +16,8 @@ use Rattle.gj_coords.specs.Internal.GatheredWarnings.{noted_when, some_noted}
 use Rattle.gj_coords.specs.Internal.GatheredWarningLaws.{some_noted_twice}
 use Rattle.gj_coords.specs.Internal.KeptWarnings.{nothing_noted, is_nothing}
 use Rattle.gj_coords.specs.Internal.KeptWarningLaws.{joined_noted_none, joined_noted_assoc}
-use Rattle.gj_coords.specs.Internal.PositionGather.{corner_in, position_noted, precise_with}
-use Rattle.gj_coords.specs.Internal.FlatPosition.{flat_count, flat_values, flat_precise, third_precise, IsPlain}
+use Rattle.gj_coords.specs.Internal.PositionGather.{corner_in, precise_with}
+use Rattle.gj_coords.specs.Internal.FlatPosition.{flat_count, flat_values, flat_precise, third_precise}
 
 -- ---- there are no more places than are written
 
@@ -34,18 +34,15 @@ pub written_short : (negative : Bool) (digits places : ℕ) → places ≤ 7 →
 unfolding short_value
 written_short negative digits places k = short_if (digits == 0) negative _ _ places k
 
--- ---- a position in range without such a number is plain
+-- ---- in a position in range without such a number nothing deserves a warning
 
-quiet_by : (w : Warned) (place : ℕ) (third : Option Numbered) (corner : Option Corner) (c : Corner) (precise : KindWarnings) → precise ≡ nothing_noted
-    → corner ≡ Some c →
-    position_noted w place (flat_count third) corner precise ≡ w
-quiet_by w place None corner c precise e k = rw e (rw k refl)
-quiet_by w place (Some number) corner c precise e k = rw e (rw k refl)
+-- a position of two or three numbers has no more than three
+few_numbers : (third : Option Numbered) → nat_lt 3 (flat_count third) ≡ false
+few_numbers None = refl
+few_numbers (Some number) = refl
 
-pub plain_if : (f : Flat) (result : Option Corner) → flat_precise f ≡ nothing_noted → result ≡ corner_in (flat_values f)
-    → IfSome result (λ corner. IsPlain f corner)
-plain_if f None e k = tt
-plain_if f (Some c) e k = record { in_range = sym k; quiet = λ w. quiet_by w f.place f.third (corner_in (flat_values f)) c (flat_precise f) e (sym k) }
+pub quiet_flat : (f : Flat) (w : Warned) → flat_precise f ≡ nothing_noted → is_none (corner_in (flat_values f)) ≡ false → sound_noted w (flat_position f) ≡ w
+quiet_flat f w short at = rw (short, at, few_numbers f.third) refl
 
 -- ---- numbers that are counted and noted at once
 
@@ -69,11 +66,6 @@ pair_precise p f is =
     let second = flag_is f.second.value (record { value = p.second; precise = p.second_precise }) is.second in
     third_short f.third _ is.third
     ∙ (λ i. precise_with (second i) (is.second_place i) (precise_with (first i) (is.first_place i) nothing_noted))
-
--- a position of two or three numbers has no more than three
-few_numbers : (third : Option Numbered) → nat_lt 3 (flat_count third) ≡ false
-few_numbers None = refl
-few_numbers (Some number) = refl
 
 pair_noted_is : (p : CutPosition) (f : Flat) (w : Warned) → IsCutPosition p f → is_none (corner_in (flat_values f)) ≡ false
     → sound_noted w (flat_position f) ≡ precise_noted w (pair_with p nothing_noted)

@@ -1,13 +1,11 @@
 -- Each role of each level of a value has the warnings of its concern.
-use Rattle.gj_coords.proofs.Common.{Elements, Level, LineString, MultiLineString, MultiPoint, MultiPolygon, Outermost, Point, Polygon, Simple, Tree}
-use Rattle.gj_coords.proofs.Common.{W6, added_is, all_in, ap, array, coordinates_warnings, each, element, elements_of, end_of_array, first_answer}
+use Rattle.gj_coords.proofs.Common.{Elements, LineString, MultiLineString, MultiPoint, MultiPolygon, Level, Outermost, Point, Polygon, Simple, Tree}
+use Rattle.gj_coords.proofs.Common.{added_is, all_in, ap, array, coordinates_warnings, each, element, elements_of, end_of_array, first_answer}
 use Rattle.gj_coords.proofs.Common.{first_gathering, flat_map, gathered, head, items, joined_none_first, no_warned, numbers_gathering, place_of}
-use Rattle.gj_coords.proofs.Common.{position, position_answer, position_closed, position_warned, position_warnings, ring, ring_gathering, ring_turn}
-use Rattle.gj_coords.proofs.Common.{role_behind, second_answer, second_gathering, sym, taken_is, third_answer, third_gathering, turn_in, warned_as}
-use Rattle.gj_coords.proofs.Common.{◌∙◌}
+use Rattle.gj_coords.proofs.Common.{position, position_answer, position_closed, position_warned, position_warnings, ring, ring_least, ring_turn}
+use Rattle.gj_coords.proofs.Common.{role_behind, second_answer, second_gathering, sym, taken_is, third_answer, warned_as, W6, ◌∙◌}
 use Rattle.std.proofs.Common.{◌≡◌, ℕ, [], ◌∷◌, true, false, refl, if◌then◌else◌}
-use Rattle.gj_coords.specs.declared.watcher.position.Position.{Position}
-use Rattle.gj_coords.specs.declared.watcher.ring.RingGather.{RingGather}
+use Rattle.gj_coords.specs.Internal.PositionGather.{Position}
 use Rattle.gj_coords.specs.Shape.{is_empty}
 use Rattle.gj_coords.specs.CoordinateWarnings.{sound_position_warnings, rings_warnings, polygon_warnings, concern_of}
 use Rattle.gj_coords.specs.Internal.KeptWarnings.{warnings_of, no_warnings, joined}
@@ -18,37 +16,19 @@ use Rattle.gj_coords.specs.Internal.PositionLaws.{position_head}
 use Rattle.gj_coords.specs.Internal.PositionWarnings.{place_head}
 use Rattle.gj_coords.proofs.Readers.WarningsOfElements.{IsShort, elements_short, elements_warned, none_of, from_none, ring_warnings}
 use Rattle.gj_coords.proofs.Readers.WarningsOfElements.{ring_turned, ring_positions, ring_warned, gathered_rings}
-use Rattle.gj_coords.proofs.Walks.FaultsOfLevels.{project, third_position, third_as_ring, third_ring, second_position, second_as_ring, second_ring, not_empty}
+use Rattle.gj_coords.proofs.Walks.FaultsOfLevels.{project, third_position, second_position, second_as_ring, second_ring, not_empty}
 
 -- where the answer as a position says it is
 answered_place : (p : Position) (v : Tree) → p ≡ position_answer v → p.head.place ≡ place_of v
 answered_place p v e = ap (λ q. q.head.place) e ∙ (ap (λ h. h.place) (position_head v) ∙ place_head v)
 
--- ---- the third level
-
-third_warned : (v : Tree) → IsShort v → all_in (third_answer v).warned ≡ warnings_of (each position_warnings v)
-third_warned v short = ap all_in (third_as_ring (λ b. b.warned) (λ d. d.positions.warned) (λ g. refl) (λ e. refl) v) ∙ ring_positions v short
-
-third_turn : (v : Tree) → IsShort v → is_empty (ring v) ≡ true → (third_answer v).turn ≡ ring_turn (elements_of v)
-third_turn (array place es close) short sound =
-    ap (λ (h : RingGather). turn_in h.positions.winding)
-    (project third_gathering ring_gathering (λ g. record { positions = g.positions; tally = g.numbers.tally }) (λ a. a) position_answer position_answer
-    (λ g a. refl) (λ v. refl) (items es) (third_gathering.opened place)) ∙
-    ring_turned (array place es close) short sound
-third_turn _ short sound = cc
-
 -- ---- the second level
 
 second_warned : (v : Tree) → IsShort v → all_in (second_answer v).warned ≡ warnings_of (each position_warnings v)
-second_warned v short = ap all_in (second_as_ring (λ b. b.warned) (λ d. d.positions.warned) (λ g. refl) (λ e. refl) v) ∙ ring_positions v short
+second_warned v short = ap all_in (second_as_ring (λ b. b.warned) (λ b. b.warned) (λ g. refl) (λ e. refl) v) ∙ ring_positions v short
 
 second_turn : (v : Tree) → IsShort v → is_empty (ring v) ≡ true → (second_answer v).turn ≡ ring_turn (elements_of v)
-second_turn (array place es close) short sound =
-    ap (λ (h : RingGather). turn_in h.positions.winding)
-    (project second_gathering ring_gathering (λ g. record { positions = g.positions; tally = g.numbers.tally }) (λ a. a.position) third_answer position_answer
-    (λ g a. refl) third_position (items es) (second_gathering.opened place)) ∙
-    ring_turned (array place es close) short sound
-second_turn _ short sound = cc
+second_turn v short sound = second_as_ring (λ b. b.turn) (λ b. b.turn) (λ g. refl) (λ e. refl) v ∙ ring_turned v short sound
 
 second_ring_step : (g : Level) (v : Tree) → IsShort v →
     all_in (second_gathering.added g (third_answer v)).rings_warned ≡ joined (all_in g.rings_warned)
@@ -56,7 +36,7 @@ second_ring_step : (g : Level) (v : Tree) → IsShort v →
 second_ring_step g v short =
     let a = third_answer v in
     ring_warned (role_behind g.numbers.tally.count) g.rings_warned a.position.head.place a.ring a.turn a.warned v
-    (answered_place a.position v (third_position v)) (third_ring v) (third_turn v short) (third_warned v short)
+    (answered_place a.position v (third_position v)) (ring_least v) (ring_turned v short) (ring_positions v short)
 
 second_rings_warned : (v : Tree) → IsShort v → all_in (second_answer v).rings_warned ≡ warnings_of (polygon_warnings v)
 second_rings_warned (array place es close) short =

@@ -40,36 +40,15 @@ with_value values kind value = each (λ other. if same_kind kind other then valu
 
 pub of_each : {T : Type 0} (value : Kind → T) (kind : Kind) → of_kind (each value) kind ≡ value kind
 of_each value Kind.W1 = refl
-of_each value Kind.W2 = refl
-of_each value Kind.W3 = refl
-of_each value Kind.W4 = refl
-of_each value Kind.W5 = refl
-of_each value Kind.W6 = refl
-of_each value Kind.W7 = refl
-of_each value Kind.W8 = refl
-of_each value Kind.W9 = refl
+of_each value _ = refl
 
 pub kind_range : (kind : Kind) → (1 ≤ kind_number kind) × (kind_number kind ≤ length kinds)
 kind_range Kind.W1 = (omega arith, omega arith)
-kind_range Kind.W2 = (omega arith, omega arith)
-kind_range Kind.W3 = (omega arith, omega arith)
-kind_range Kind.W4 = (omega arith, omega arith)
-kind_range Kind.W5 = (omega arith, omega arith)
-kind_range Kind.W6 = (omega arith, omega arith)
-kind_range Kind.W7 = (omega arith, omega arith)
-kind_range Kind.W8 = (omega arith, omega arith)
-kind_range Kind.W9 = (omega arith, omega arith)
+kind_range _ = (omega arith, omega arith)
 
 pub kind_at_index : (kind : Kind) → get_or kinds (index_of kind) Kind.W1 ≡ kind
 kind_at_index Kind.W1 = refl
-kind_at_index Kind.W2 = refl
-kind_at_index Kind.W3 = refl
-kind_at_index Kind.W4 = refl
-kind_at_index Kind.W5 = refl
-kind_at_index Kind.W6 = refl
-kind_at_index Kind.W7 = refl
-kind_at_index Kind.W8 = refl
-kind_at_index Kind.W9 = refl
+kind_at_index _ = refl
 
 pub index_small : (kind : Kind) → index_of kind < length kinds
 index_small kind = omega (arith, (kind_range kind).0, (kind_range kind).1)

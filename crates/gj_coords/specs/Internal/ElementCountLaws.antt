@@ -1,16 +1,20 @@
--- What a count that stops says of an array, and what a gathering of faults says of its elements.
+-- What a count that stops says of an array, and what a gathering of faults says of its elements and of a list.
 use Rattle.std.specs.Prelude.{◌≡◌, ℕ, suc, ◌+◌, ◌≤◌, List, [], ◌∷◌, ◌++◌, Option, Some, None, refl, length, nat_lt, if◌then◌else◌}
 use Rattle.std.specs.List.{flat_map}
 use Rattle.std.proofs.Common.{arith, sym, ◌∙◌, ap, add-one}
 use Rattle.std.proofs.lemmas.Bool.Decides.{nat_tests}
-use Rattle.gj_json.specs.Tree.{Tree}
+use Rattle.gj_json.specs.declared.event.Event.{Event}
+use Rattle.gj_json.specs.Tree.{Tree, array}
 use Rattle.gj_coords.specs.declared.fault.Fault.{Fault}
 use Rattle.gj_coords.specs.declared.fault.Rule.{Rule}
+use Rattle.gj_coords.specs.declared.fault.Rule.TheVariants.{G13}
 use Rattle.gj_coords.specs.declared.tally.Tally.{Tally}
 use Rattle.gj_coords.specs.Fault.{fault_at, lesser, least}
-use Rattle.gj_coords.specs.Shape.{Shape, few}
-use Rattle.gj_coords.specs.Internal.Gathering.{Gathering, gathered}
+use Rattle.gj_coords.specs.Items.{items}
+use Rattle.gj_coords.specs.Shape.{Shape, few, several}
+use Rattle.gj_coords.specs.Internal.Gathering.{Gathering, gathered, given}
 use Rattle.gj_coords.specs.Internal.ElementCount.{tally_at, counted, one_counted, few_in}
+use Rattle.gj_coords.specs.Internal.PositionGather.{misshapen_at}
 use Rattle.gj_coords.specs.Internal.LeastLaws.{lesser-none, lesser_step, least-append, least_if}
 
 -- the tests of a count that stops at four
@@ -54,3 +58,19 @@ gathered_fault r meaning fault fault_of shape h k (v ∷ more) g =
 -- both together
 pub both_least : (a b : Option Fault) (xs ys : List Fault) → a ≡ least xs → b ≡ least ys → lesser a b ≡ least (xs ++ ys)
 both_least a b xs ys h k = ap (λ z. lesser z b) h ∙ (ap (λ z. lesser (least xs) z) k ∙ sym (least-append xs ys))
+
+-- a list of values of one shape, whatever else is gathered of it
+pub several_least : {G A B : Type 0} (r : Gathering G A B) (meaning : Tree → A) (tally : G → Tally) (fault : G → Option Fault)
+    (fault_of : A → Option Fault) (shape : Shape) (needed : ℕ) (out : B → Option Fault) → needed ≤ 4 →
+    ((g : G) (a : A) → tally (r.added g a) ≡ counted (tally g)) → ((g : G) (a : A) → fault (r.added g a) ≡ lesser (fault g) (fault_of a)) →
+    ((place : ℕ) → tally (r.opened place) ≡ tally_at place) → ((place : ℕ) → fault (r.opened place) ≡ None) →
+    ((g : G) → out (r.closed g) ≡ lesser (few_in needed G13 (tally g)) (fault g)) → ((e : Event) → out (r.otherwise e) ≡ misshapen_at e.place) →
+    ((v : Tree) → fault_of (meaning v) ≡ least (shape v)) →
+    (v : Tree) → out (given r meaning v) ≡ least (several needed shape v)
+several_least r meaning tally fault fault_of shape needed out enough counts joins begins none closed otherwise each (array place es close) =
+    closed (gathered r meaning (r.opened place) (items es)) ∙
+    both_least _ _ (few needed G13 place (items es)) (flat_map shape (items es))
+    (few_gathered r meaning tally counts needed enough G13 place (items es) (r.opened place) (begins place))
+    (gathered_fault r meaning fault fault_of shape joins each (items es) (r.opened place) ∙
+    ap (λ f. lesser f (least (flat_map shape (items es)))) (none place))
+several_least r meaning tally fault fault_of shape needed out enough counts joins begins none closed otherwise each _ = otherwise _

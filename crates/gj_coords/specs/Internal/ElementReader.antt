@@ -1,9 +1,8 @@
 -- A value is read past by the count of its open levels.
-use Rattle.std.specs.Prelude.{◌≡◌, ℕ, zero, suc, ◌-◌, ◌^◌, Bool, true, false, ◌&&◌, if◌then◌else◌, nat_lt}
+use Rattle.std.specs.Prelude.{ℕ, zero, suc, ◌-◌, ◌^◌, Bool, true, false, ◌&&◌, if◌then◌else◌, nat_lt}
 use Rattle.gj_json.specs.declared.event.Event.{Event}
 use Rattle.gj_json.specs.declared.event.What.{What}
 use Rattle.gj_coords.specs.declared.element.Element.{Element}
-use Rattle.gj_coords.specs.Internal.ValueMachine.{Machine}
 use Rattle.gj_coords.specs.Internal.SentEvents.{event_at}
 
 abbrev pub most_levels : ℕ
@@ -27,8 +26,8 @@ abbrev pub is_zero : ℕ → Bool
 is_zero zero = true
 is_zero (suc n) = false
 
-abbrev pub due : Event → Element
-due first = record { first = first; started = false; levels = 0 }
+abbrev pub due : Element
+due = record { first = event_at 0 What.Null; started = false; levels = 0 }
 
 abbrev pub inside : Event → ℕ → Element
 inside first levels = record { first = first; started = true; levels = levels }
@@ -38,15 +37,3 @@ element_after s e = inside (if s.started then s.first else e) (levels_after s.le
 
 abbrev pub element_ended : Element → Bool
 element_ended s = s.started && is_zero s.levels
-
--- it answers the first event
-abbrev pub element_machine : Machine Element Event
-element_machine = record {
-  start = due (event_at 0 What.Null);
-  after = element_after;
-  ended = element_ended;
-  answered = λ s. s.first;
-  again = λ s. due s.first;
-  Ready = λ s. s ≡ due s.first;
-  single = λ e. e;
-}

@@ -1,5 +1,5 @@
 -- What each level of a value gathers of a position that is reported as one.
-use Rattle.std.specs.Prelude.{◌≡◌, ℕ, min, Option, Some, None, true, is_none, if◌then◌else◌, nat_lt}
+use Rattle.std.specs.Prelude.{ℕ, min, Option, Some, None, if◌then◌else◌, nat_lt}
 use Rattle.gj_number.specs.Exact.{Exact}
 use Rattle.gj_number.specs.Short.{exact_of}
 use Rattle.gj_json.specs.declared.event.What.{What}
@@ -7,13 +7,11 @@ use Rattle.gj_json.specs.declared.flat.Flat.{Flat}
 use Rattle.gj_json.specs.declared.flat.Numbered.{Numbered}
 use Rattle.gj_coords.specs.declared.fault.Fault.{Fault}
 use Rattle.gj_coords.specs.declared.fault.Rule.TheVariants.{G11, G14}
-use Rattle.gj_coords.specs.declared.flat.JudgedPair.{JudgedPair}
 use Rattle.gj_coords.specs.declared.kind_warnings.KindWarnings.{KindWarnings}
 use Rattle.gj_coords.specs.declared.position.Numbers.{Numbers}
-use Rattle.gj_coords.specs.declared.watcher.position.Position.{Position}
+use Rattle.gj_coords.specs.Internal.PositionGather.{Position}
 use Rattle.gj_coords.specs.declared.position.Values.{Values}
 use Rattle.gj_coords.specs.declared.walk.outermost.Outermost.{Outermost}
-use Rattle.gj_coords.specs.declared.winding.Corner.{Corner}
 use Rattle.gj_coords.specs.declared.winding.Turn.TheVariants.{Straight}
 use Rattle.gj_coords.specs.Fault.{fault_at}
 use Rattle.gj_coords.specs.Internal.SentEvents.{event_at}
@@ -24,7 +22,7 @@ use Rattle.gj_coords.specs.declared.simple.Simple.{Simple}
 use Rattle.gj_coords.specs.declared.simple.Simple.TheVariants.{Point}
 use Rattle.gj_coords.specs.declared.warned.Warned.{Warned}
 use Rattle.gj_coords.specs.Internal.GatheredWarnings.{no_warned, some_noted}
-use Rattle.gj_coords.specs.Internal.PositionGather.{precise_with, corner_in, misshapen_at, sound_noted}
+use Rattle.gj_coords.specs.Internal.PositionGather.{precise_with, misshapen_at, sound_noted}
 use Rattle.gj_coords.specs.Internal.LevelGather.{LineSummary, LevelSummary}
 
 -- ---- as a position, which breaks no rule
@@ -51,10 +49,6 @@ third_precise (Some number) noted = number_precise number noted
 abbrev pub flat_precise : Flat → KindWarnings
 flat_precise f = third_precise f.third (number_precise f.second (number_precise f.first nothing_noted))
 
--- what is noted of both of two numbers
-abbrev pub pair_noted : Flat → KindWarnings
-pair_noted f = record { count = 2; first = min f.first.place f.second.place }
-
 -- with what is noted of numbers that are too precise
 abbrev pub precise_noted : Warned → KindWarnings → Warned
 precise_noted w precise = some_noted (is_nothing precise) w W4 precise
@@ -75,18 +69,6 @@ flat_position f = record {
   count = flat_count f.third;
   precise = flat_precise f;
 }
-
--- it has two numbers and is in range, with this corner, and these of its numbers are too precise
-pub record IsJudged (f : Flat) (pair : JudgedPair) : Type 0 where
-  pub two : is_none f.third ≡ true
-  pub in_range : corner_in (flat_values f) ≡ Some pair.corner
-  pub first : is_precise (Some (exact_of f.first.value)) ≡ pair.first
-  pub second : is_precise (Some (exact_of f.second.value)) ≡ pair.second
-
--- it is in range, with this corner, and nothing in it is worth a warning
-pub record IsPlain (f : Flat) (corner : Corner) : Type 0 where
-  pub in_range : corner_in (flat_values f) ≡ Some corner
-  pub quiet : (w : Warned) → sound_noted w (flat_position f) ≡ w
 
 -- ---- as an array of positions: no number has that shape
 

@@ -2,7 +2,7 @@
 use Rattle.std.specs.Prelude.{ℕ, Option, None, is_some, is_none, Bool, false, ◌&&◌, ◌==◌, if◌then◌else◌}
 use Rattle.gj_coords.specs.declared.fault.Fault.{Fault}
 use Rattle.gj_coords.specs.declared.position.Numbers.{Numbers}
-use Rattle.gj_coords.specs.declared.watcher.position.Position.{Position}
+use Rattle.gj_coords.specs.Internal.PositionGather.{Position}
 use Rattle.gj_coords.specs.declared.ring.Positions.{Positions}
 use Rattle.gj_coords.specs.declared.simple.Simple.{Simple}
 use Rattle.gj_coords.specs.declared.simple.Simple.TheVariants.{Point, MultiPoint, LineString, MultiLineString, Polygon, MultiPolygon}
@@ -14,7 +14,7 @@ use Rattle.gj_coords.specs.declared.winding.Turn.{Turn}
 use Rattle.gj_coords.specs.declared.winding.Turn.TheVariants.{Unjudged}
 use Rattle.gj_coords.specs.Fault.{lesser}
 use Rattle.gj_coords.specs.Internal.Gathering.{Gathering}
-use Rattle.gj_coords.specs.Internal.ListGather.{line_closed}
+use Rattle.gj_coords.specs.Internal.ElementCount.{line_closed}
 use Rattle.gj_coords.specs.Internal.GatheredWarnings.{no_warned, noted_in, taken}
 use Rattle.gj_coords.specs.Internal.WindingGather.{turn_in}
 use Rattle.gj_coords.specs.Internal.PositionGather.{numbers_start, number_added, position_least, position_closed, no_position, misshapen_at}

@@ -11,7 +11,6 @@ use Rattle.gj_coords.specs.declared.kind.Kind.TheVariants.{W3, W4, W5}
 use Rattle.gj_coords.specs.declared.kind_warnings.KindWarnings.{KindWarnings}
 use Rattle.gj_coords.specs.declared.position.Values.{Values}
 use Rattle.gj_coords.specs.declared.position.Numbers.{Numbers}
-use Rattle.gj_coords.specs.declared.watcher.position.Position.{Position}
 use Rattle.gj_coords.specs.declared.warned.Warned.{Warned}
 use Rattle.gj_coords.specs.declared.winding.Corner.{Corner}
 use Rattle.gj_coords.specs.Fault.{fault_at, lesser}
@@ -22,6 +21,15 @@ use Rattle.gj_coords.specs.Internal.KeptWarnings.{noted_as, nothing_noted, is_no
 use Rattle.gj_coords.specs.Winding.{corner_of}
 use Rattle.gj_coords.specs.CoordinateWarnings.{is_precise}
 use Rattle.gj_coords.specs.Internal.GatheredWarnings.{noted_when, some_noted}
+
+-- What is known of a value that was read as a position: its values, its first event, its least fault, how many elements it has as far
+-- as they are counted, and which of its numbers are too precise.
+pub record Position : Type 0 where
+  pub values : Values
+  pub head : Event
+  pub fault : Option Fault
+  pub count : ℕ
+  pub precise : KindWarnings
 
 abbrev pub misshapen_at : ℕ → Option Fault
 misshapen_at place = Some (fault_at place G11)

@@ -8,9 +8,9 @@ use Rattle.std.proofs.Common.{arith, sym, ◌∙◌, ap, append_assoc}
 use Rattle.std.proofs.lemmas.Bool.Decides.{nat_tests}
 use Rattle.gj_number.specs.Exact.{Exact, same_parts}
 use Rattle.gj_number.specs.Value.{value_of}
-use Rattle.gj_json.specs.declared.constant.Constant.TheVariants.{Null, True, False}
+use Rattle.gj_json.specs.declared.constant.Constant.TheVariants.{Null}
 use Rattle.gj_json.specs.declared.event.What.{What}
-use Rattle.gj_json.specs.Tree.{Tree, constant, number, string, array, object}
+use Rattle.gj_json.specs.Tree.{Tree, constant, number, array}
 use Rattle.gj_coords.specs.declared.fault.Fault.{Fault}
 use Rattle.gj_coords.specs.declared.fault.Rule.TheVariants.{G11, G12, G16}
 use Rattle.gj_coords.specs.declared.kind_warnings.KindWarnings.{KindWarnings}
@@ -44,21 +44,13 @@ any_least place None = refl
 
 held_number_least : (v : Tree) → number_fault true (head v).place (head v).what ≡ least (held_number v)
 held_number_least (constant Null place) = refl
-held_number_least (constant True place) = refl
-held_number_least (constant False place) = refl
 held_number_least (number place literal end) = held_least place (value_of literal)
-held_number_least (string place content end) = refl
-held_number_least (array place es close) = refl
-held_number_least (object place ms close) = refl
+held_number_least _ = refl
 
 any_number_least : (v : Tree) → number_fault false (head v).place (head v).what ≡ least (number_or G11 v)
 any_number_least (constant Null place) = refl
-any_number_least (constant True place) = refl
-any_number_least (constant False place) = refl
 any_number_least (number place literal end) = any_least place (value_of literal)
-any_number_least (string place content end) = refl
-any_number_least (array place es close) = refl
-any_number_least (object place ms close) = refl
+any_number_least _ = refl
 
 pub among_first : (c left : ℕ) → c + suc left ≡ 3 → nat_lt c 3 ≡ true
 among_first c left h = grind (arith, nat_tests)
@@ -94,25 +86,17 @@ numbers_fault (v ∷ more) (suc left) s h =
     (sym (append_assoc (held_number v) (flat_map held_number (take left more)) (flat_map (number_or G11) (drop left more))))
 
 pub position_fault : (v : Tree) → (position_answer v).fault ≡ least (position v)
-position_fault (constant which place) = refl
-position_fault (number place literal end) = refl
-position_fault (string place content end) = refl
-position_fault (object place ms close) = refl
 position_fault (array place es close) =
     both_least _ _ (few 2 G12 place (items es)) (numbers_faults 3 (items es))
     (few_gathered numbers_gathering head (λ g. g.tally) (λ g a. refl) 2 (omega arith) G12 place (items es) (numbers_start place) refl)
     (numbers_fault (items es) 3 (numbers_start place) refl)
+position_fault _ = refl
 
 -- ---- the values
 
 pub value_head : (v : Tree) → value_in (head v).what ≡ exact_value v
 value_head (constant Null place) = refl
-value_head (constant True place) = refl
-value_head (constant False place) = refl
-value_head (number place literal end) = refl
-value_head (string place content end) = refl
-value_head (array place es close) = refl
-value_head (object place ms close) = refl
+value_head _ = refl
 
 -- the record of at most three values
 abbrev pub values_from : List (Option Exact) → Values
@@ -144,19 +128,13 @@ gathered_values (u ∷ v ∷ w ∷ more) place =
     ap (λ c. values_from (exact_value u ∷ exact_value v ∷ c ∷ [])) (value_head w)))
 
 pub position_values : (v : Tree) → (position_answer v).values ≡ values_from (first_values v)
-position_values (constant which place) = refl
-position_values (number place literal end) = refl
-position_values (string place content end) = refl
-position_values (object place ms close) = refl
 position_values (array place es close) = gathered_values (items es) place
+position_values _ = refl
 
 pub position_head : (v : Tree) → (position_answer v).head ≡ head v
-position_head (constant which place) = refl
-position_head (number place literal end) = refl
-position_head (string place content end) = refl
-position_head (object place ms close) = refl
 position_head (array place es close) =
     ap (λ p. event_at p What.OpenArray) (gathered_place numbers_gathering head (λ g. g.tally) (λ g a. refl) (items es) (numbers_start place))
+position_head _ = refl
 
 -- ---- the same values
 
@@ -181,22 +159,15 @@ record_of vs = values_from (map exact_value (take 3 vs))
 
 same_from : (us vs : List Tree) →
     same_values (record_of us) (record_of vs) ≡ pointwise (option_eq same_parts) (map exact_value (take 3 us)) (map exact_value (take 3 vs))
-same_from [] [] = refl
-same_from [] (a ∷ []) = refl
-same_from [] (a ∷ b ∷ []) = refl
 same_from [] (a ∷ b ∷ c ∷ more) = refl
-same_from (x ∷ []) [] = refl
-same_from (x ∷ []) (a ∷ []) = refl
 same_from (x ∷ []) (a ∷ b ∷ []) = and_false (same_value x a)
 same_from (x ∷ []) (a ∷ b ∷ c ∷ more) = and_false (same_value x a)
-same_from (x ∷ y ∷ []) [] = refl
 same_from (x ∷ y ∷ []) (a ∷ []) = and_false (same_value x a)
-same_from (x ∷ y ∷ []) (a ∷ b ∷ []) = refl
 same_from (x ∷ y ∷ []) (a ∷ b ∷ c ∷ more) = and_and_false (same_value x a) (same_value y b)
-same_from (x ∷ y ∷ z ∷ others) [] = refl
 same_from (x ∷ y ∷ z ∷ others) (a ∷ []) = and_false (same_value x a)
 same_from (x ∷ y ∷ z ∷ others) (a ∷ b ∷ []) = and_and_false (same_value x a) (same_value y b)
 same_from (x ∷ y ∷ z ∷ others) (a ∷ b ∷ c ∷ more) = ap (λ q. same_value x a && (same_value y b && q)) (and_true (same_value z c))
+same_from _ _ = refl
 
 pub same_agree : (u v : Tree) → same_values (position_answer u).values (position_answer v).values ≡ agree u v
 same_agree u v =

@@ -4,12 +4,12 @@ use Rattle.std.specs.Prelude.{length, nat_lt, if◌then◌else◌}
 use Rattle.std.specs.List.{flat_map}
 use Rattle.std.proofs.Common.{arith, ◌∙◌, ap}
 use Rattle.std.proofs.lemmas.Bool.Decides.{nat_tests}
-use Rattle.gj_json.specs.Tree.{Tree, constant, number, string, array, object}
+use Rattle.gj_json.specs.Tree.{Tree, array}
 use Rattle.gj_coords.specs.declared.fault.Fault.{Fault}
 use Rattle.gj_coords.specs.declared.kind.Kind.TheVariants.{W3, W4, W5}
 use Rattle.gj_coords.specs.declared.kind_warnings.KindWarnings.{KindWarnings}
 use Rattle.gj_coords.specs.declared.position.Numbers.{Numbers}
-use Rattle.gj_coords.specs.declared.watcher.position.Position.{Position}
+use Rattle.gj_coords.specs.Internal.PositionGather.{Position}
 use Rattle.gj_coords.specs.declared.warned.Warned.{Warned}
 use Rattle.gj_coords.specs.declared.warnings.Warnings.{Warnings}
 use Rattle.gj_coords.specs.declared.winding.Corner.{Corner}
@@ -35,11 +35,8 @@ use Rattle.gj_coords.specs.Internal.WindingLaws.{answered_corner}
 -- ---- numbers of more than seven places
 
 pub place_head : (v : Tree) → (head v).place ≡ place_of v
-place_head (constant which place) = refl
-place_head (number place literal end) = refl
-place_head (string place content end) = refl
 place_head (array place es close) = refl
-place_head (object place ms close) = refl
+place_head _ = refl
 
 with_precise : (precise : Bool) (a : Warnings) (noted : KindWarnings) (place : ℕ) →
     with_noted a W4 (precise_with precise place noted) ≡ joined (with_noted a W4 noted) (warnings_of (warned_if precise place W4))
@@ -132,11 +129,8 @@ judged_position (x ∷ xs) fault w p warnings e h =
 -- what a position adds
 pub position_warned : (w : Warned) (v : Tree) →
     all_in (judged_noted (position_answer v).fault w (position_answer v)) ≡ joined (all_in w) (warnings_of (position_warnings v))
-position_warned w (constant which place) = none_more (all_in w)
-position_warned w (number place literal end) = none_more (all_in w)
-position_warned w (string place content end) = none_more (all_in w)
-position_warned w (object place ms close) = none_more (all_in w)
 position_warned w (array place es close) =
     let v : Tree = array place es close in
     judged_position (position v) (position_answer v).fault w (position_answer v) (sound_position_warnings v) (position_fault v)
     (sound_position_noted w place es close)
+position_warned w _ = none_more (all_in w)

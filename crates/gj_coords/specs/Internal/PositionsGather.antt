@@ -3,11 +3,9 @@ use Rattle.std.specs.Prelude.{ℕ, zero, suc, Option, Some, None, is_none, Bool,
 use Rattle.gj_coords.specs.declared.fault.Fault.{Fault}
 use Rattle.gj_coords.specs.declared.fault.Rule.TheVariants.{G14, G15}
 use Rattle.gj_coords.specs.declared.kind.Kind.TheVariants.{W2}
-use Rattle.gj_coords.specs.declared.watcher.ring.LinearRing.{LinearRing}
-use Rattle.gj_coords.specs.declared.watcher.position.Position.{Position}
+use Rattle.gj_coords.specs.Internal.PositionGather.{Position}
 use Rattle.gj_coords.specs.declared.position.Values.{Values}
 use Rattle.gj_coords.specs.declared.ring.Positions.{Positions}
-use Rattle.gj_coords.specs.declared.watcher.ring.RingGather.{RingGather}
 use Rattle.gj_coords.specs.declared.ring.RingRole.{RingRole}
 use Rattle.gj_coords.specs.declared.ring.RingRole.TheVariants.{Exterior, Hole}
 use Rattle.gj_coords.specs.declared.tally.Tally.{Tally}
@@ -15,12 +13,9 @@ use Rattle.gj_coords.specs.declared.warned.Warned.{Warned}
 use Rattle.gj_coords.specs.declared.winding.Corner.{Corner}
 use Rattle.gj_coords.specs.declared.winding.Turn.{Turn}
 use Rattle.gj_coords.specs.Fault.{fault_at, lesser}
-use Rattle.gj_coords.specs.Internal.Findings.{Judgement}
-use Rattle.gj_coords.specs.Internal.Gathering.{Gathering}
-use Rattle.gj_coords.specs.Internal.ElementCount.{tally_at, counted, few_in}
+use Rattle.gj_coords.specs.Internal.ElementCount.{few_in}
 use Rattle.gj_coords.specs.Internal.GatheredWarnings.{no_warned, noted_when, taken}
-use Rattle.gj_coords.specs.Internal.AllCorners.{wrong_for_exterior, wrong_for_hole}
-use Rattle.gj_coords.specs.Internal.WindingGather.{no_winding, winding_added, turn_in}
+use Rattle.gj_coords.specs.Internal.WindingGather.{no_winding, winding_added, wrong_for_exterior, wrong_for_hole}
 use Rattle.gj_coords.specs.Internal.PositionGather.{same_values, misshapen_at, corner_in, sound_noted}
 
 abbrev pub no_positions : Positions
@@ -61,14 +56,6 @@ unclosed_or place s = if is_none s.fault && not s.closes then Some (fault_at pla
 abbrev pub ring_closed : Tally → Positions → Option Fault
 ring_closed t s = lesser (few_in 4 G14 t) (unclosed_or t.place s)
 
-abbrev pub ring_gathering : Gathering RingGather Position LinearRing
-ring_gathering = record {
-  opened = λ place. record { positions = no_positions; tally = tally_at place };
-  added = λ s p. record { positions = position_added s.positions p; tally = counted s.tally };
-  closed = λ s. record { positions = s.positions; place = s.tally.place; fault = ring_closed s.tally s.positions };
-  otherwise = λ e. record { positions = no_positions; place = e.place; fault = misshapen_at e.place };
-}
-
 -- ---- what is worth a warning in a linear ring
 
 -- the first ring of a polygon is the exterior one, and those after it are holes
@@ -83,10 +70,3 @@ runs_wrong Hole turn = wrong_for_hole turn
 -- of a ring at this place, by its least fault, how it runs and what is worth a warning in its positions
 abbrev pub ring_noted : RingRole → Warned → ℕ → Option Fault → Turn → Warned → Warned
 ring_noted role w place fault turn positions = taken (noted_when (is_none fault && runs_wrong role turn) w W2 place) positions
-
--- as a ring of a polygon after so many others
-abbrev pub ring_judged : Judgement LinearRing
-ring_judged = record {
-  fault_of = λ ring. ring.fault;
-  warned_behind = λ others w ring. ring_noted (role_behind others) w ring.place ring.fault (turn_in ring.positions.winding) ring.positions.warned;
-}

@@ -1,5 +1,5 @@
 -- How far a value of `coordinates` is read, what its open arrays have gathered, and where an event leads.
-use Rattle.std.specs.Prelude.{◌≡◌, Bool, true, false, if◌then◌else◌}
+use Rattle.std.specs.Prelude.{Bool, true, false, if◌then◌else◌}
 use Rattle.gj_json.specs.declared.event.Event.{Event}
 use Rattle.gj_json.specs.declared.event.What.{What}
 use Rattle.gj_coords.specs.declared.element.Element.{Element}
@@ -87,12 +87,4 @@ answered (broken o) = other o.first.place
 answered _ = other 0
 
 abbrev pub progress_machine : Machine Progress WholeSummary
-progress_machine = record {
-  start = waiting;
-  after = step;
-  ended = ended;
-  answered = answered;
-  again = λ s. waiting;
-  Ready = λ s. s ≡ waiting;
-  single = λ e. other e.place;
-}
+progress_machine = record { after = step; ended = ended; answered = answered }

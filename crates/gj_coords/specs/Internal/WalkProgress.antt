@@ -1,5 +1,4 @@
 -- How far a `Walk` is: the levels that are not open do not matter.
-use Rattle.std.specs.Prelude.{ℕ, ◌^◌, ◌-◌}
 use Rattle.gj_coords.specs.declared.walk.Depth.{Depth}
 use Rattle.gj_coords.specs.declared.walk.Depth.TheVariants.{First, Second, Third, Fourth}
 use Rattle.gj_coords.specs.declared.walk.Stage.{Stage}
@@ -34,7 +33,3 @@ answer_at _ s = level s.outer
 
 abbrev pub answer_of : Walk → WholeSummary
 answer_of s = answer_at s.stage s
-
--- no place is after this one
-abbrev pub never : ℕ
-never = 2 ^ 64 - 1

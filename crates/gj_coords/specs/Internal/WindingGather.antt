@@ -1,14 +1,12 @@
--- What a `Winding` holds, and what it stands for: the corners that it was given.
-use Rattle.std.specs.Prelude.{◌≡◌, ◌*◌, ◌^◌, ◌≤◌, List, [], ◌∷◌, Option, Some, None, IfSome, true, false, if◌then◌else◌, length, ℤ, pos, ◌+ℤ◌, unsigned_abs}
-use Rattle.std.specs.Prelude.{FitsSigned}
-use Rattle.std.specs.Int.{int_wrap, w32, w128}
+-- What a `Winding` holds of the corners that it was given, and how they run by that.
+use Rattle.std.specs.Prelude.{List, [], ◌∷◌, Option, Some, None, Bool, true, false, if◌then◌else◌, ℤ, pos, ◌+ℤ◌}
+use Rattle.std.specs.Int.{int_wrap, w128}
 use Rattle.gj_coords.specs.declared.winding.Corner.{Corner}
 use Rattle.gj_coords.specs.declared.winding.RunningSum.{RunningSum}
 use Rattle.gj_coords.specs.declared.winding.Turn.{Turn}
-use Rattle.gj_coords.specs.declared.winding.Turn.TheVariants.{Unjudged}
+use Rattle.gj_coords.specs.declared.winding.Turn.TheVariants.{Left, Right, Unjudged}
 use Rattle.gj_coords.specs.declared.winding.Winding.{Winding}
-use Rattle.gj_coords.specs.Winding.{cross, area_of, sign_of}
-use Rattle.gj_coords.specs.Internal.AllCorners.{all_corners}
+use Rattle.gj_coords.specs.Winding.{cross, sign_of, same_turn}
 
 abbrev pub no_winding : Winding
 no_winding = record { area = pos 0; last = None; unjudged = false }
@@ -49,32 +47,8 @@ all_added winding (corner ∷ more) = all_added (winding_added winding corner) m
 abbrev pub turn_in : Winding → Turn
 turn_in winding = if winding.unjudged then Unjudged else sign_of winding.area
 
--- as each corner is that the code holds
-pub record IsSmall (corner : Corner) : Type 0 where
-  pub x : FitsSigned w32 corner.x
-  pub y : FitsSigned w32 corner.y
+abbrev pub wrong_for_exterior : Turn → Bool
+wrong_for_exterior turn = same_turn turn Right
 
--- the last of a corner and those after it
-abbrev pub last_from : Corner → List Corner → Corner
-last_from a [] = a
-last_from a (b ∷ more) = last_from b more
-
-abbrev pub last_corner : List Corner → Option Corner
-last_corner [] = None
-last_corner (a ∷ more) = Some (last_from a more)
-
--- All corners are there, and each term is at most 2^63 in magnitude.
-pub record Runs (winding : Winding) (corners : List Corner) : Type 0 where
-  pub judged : winding.unjudged ≡ false
-  pub last : winding.last ≡ last_corner corners
-  pub small : IfSome winding.last IsSmall
-  pub area : winding.area ≡ int_wrap w128 (area_of corners)
-  pub size : unsigned_abs (area_of corners) ≤ 2 ^ 63 * length corners
-
--- a position out of range makes all that is held of no use
-abbrev pub HasRun : Winding → Option (List Corner) → Type 0
-HasRun winding (Some corners) = Runs winding corners
-HasRun winding None = winding.unjudged ≡ true
-
-abbrev pub StandsFor : Winding → List (Option Corner) → Type 0
-StandsFor winding corners = HasRun winding (all_corners corners)
+abbrev pub wrong_for_hole : Turn → Bool
+wrong_for_hole turn = same_turn turn Left

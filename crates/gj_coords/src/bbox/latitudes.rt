@@ -48,7 +48,7 @@ fn is_above(south: Option<i64>, north: Option<i64>) -> bool
 
 impl Latitudes {
     ghost use Rattle.std.specs.Prelude.{◌≡◌};
-    ghost use Rattle.gj_coords.specs.Internal.BoxGather.{no_latitudes, latitude_added, is_upside_down};
+    ghost use Rattle.gj_coords.specs.Internal.BoxElements.{no_latitudes, latitude_added, is_upside_down};
 
     /// No element has come.
     pub fn none() -> Latitudes

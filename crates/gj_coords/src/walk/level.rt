@@ -28,7 +28,7 @@ impl Level {
     ghost use Rattle.gj_coords.specs.Internal.SentEvents.{event_at};
     ghost use Rattle.gj_coords.specs.Internal.PositionGather.{position_closed};
     ghost use Rattle.gj_coords.specs.Internal.PositionsGather.{ring_closed};
-    ghost use Rattle.gj_coords.specs.Internal.ListGather.{line_closed};
+    ghost use Rattle.gj_coords.specs.Internal.ElementCount.{line_closed};
     ghost use Rattle.gj_coords.specs.Internal.SteadyWalk.{IsCounted, second_steady};
     ghost use Rattle.gj_coords.specs.Internal.FlatPosition.{flat_third};
     ghost use Rattle.gj_coords.specs.Internal.LevelGather.{line_of, third_gathering, second_gathering};
@@ -93,7 +93,7 @@ impl Level {
         ensures { IsCounted self.old.numbers → self.new ≡ second_steady position.now self.old }
     {
         self.numbers.count_array();
-        self.positions.add_quick(position);
+        self.positions.add_flat(position);
     }
 
     /// Adds such elements that come as their cut values, up to the first of which more is asked, where they change no

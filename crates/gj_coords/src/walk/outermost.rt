@@ -4,7 +4,6 @@ use crate::kind::Kind;
 use crate::position::{Numbers, misshapen};
 use crate::ring::RingRole;
 use crate::simple::Simple;
-use crate::simple_faults::SimpleFaults;
 use crate::tally::line_fault;
 use crate::walk::level::Level;
 use crate::warned::Warned;
@@ -33,10 +32,8 @@ impl Outermost {
     ghost use Rattle.gj_coords.specs.Internal.AddedPositions.{all_first};
     ghost use Rattle.gj_coords.specs.Internal.SteadyWalk.{IsCounted, first_steady};
     ghost use Rattle.gj_coords.specs.Internal.FlatPosition.{flat_second, flat_held, held_fault, held_warned};
-    ghost use Rattle.gj_coords.specs.SimpleFaults.{by_simple};
     ghost use Rattle.gj_coords.specs.Internal.LevelGather.{second_gathering, first_gathering, fault_in, some_fault_in, warned_in, some_warned_in};
     ghost use Rattle.gj_coords.specs.Internal.LevelGather.{point_warned_in, some_quiet_in, quiet_in};
-    ghost use Rattle.gj_coords.specs.Internal.GatheredWarnings.{taken};
 
     pub fn new() -> Outermost
         ensures { result ≡ first_gathering.opened 0 }
@@ -98,7 +95,7 @@ impl Outermost {
         ensures { self.new ≡ first_gathering.added self.old (flat_second position.now) }
     {
         let misshapen = flat::misshapen_numbers(position);
-        flat::warn_quick(position, &mut self.positions_warned);
+        flat::judge(position, &mut self.positions_warned);
         self.numbers.add_array(position.place);
         join_fault(&mut self.lines, misshapen);
         join_fault(&mut self.rings, flat::ring_fault(position));
@@ -111,7 +108,7 @@ impl Outermost {
         ensures { IsCounted self.old.numbers → self.new ≡ first_steady position.now self.old }
     {
         self.numbers.count_array();
-        flat::warn_quick(position, &mut self.positions_warned);
+        flat::judge(position, &mut self.positions_warned);
     }
 
     /// Adds such elements that come as their cut values, up to the first of which more is asked, where they change no
@@ -134,7 +131,7 @@ impl Outermost {
     {
         self.positions = flat::misshapen_numbers(position);
         self.positions_warned.clear();
-        flat::warn_quick(position, &mut self.positions_warned);
+        flat::judge(position, &mut self.positions_warned);
     }
 
     /// The least fault of such a value for a type.
@@ -146,19 +143,6 @@ impl Outermost {
             Simple::Point => None,
             _ => self.positions,
         }
-    }
-
-    /// The least fault of such a value for each type.
-    #[inline]
-    pub fn held_faults(&self, faults: &mut SimpleFaults)
-        ensures { faults.new ≡ by_simple (λ simple. held_fault simple self.now.positions) }
-    {
-        faults.point = None;
-        faults.multi_point = self.positions;
-        faults.line_string = self.positions;
-        faults.multi_line_string = self.positions;
-        faults.polygon = self.positions;
-        faults.multi_polygon = self.positions;
     }
 
     /// What deserves a warning in such a value for a type.
@@ -181,23 +165,6 @@ impl Outermost {
         join_fault(&mut self.lines, misshapen(head.place));
         join_fault(&mut self.rings, misshapen(head.place));
         join_fault(&mut self.polygons, misshapen(head.place));
-    }
-
-    /// The least fault for each type.
-    #[inline]
-    pub fn faults(&self, faults: &mut SimpleFaults)
-        ensures { faults.new ≡ by_simple (λ simple. fault_in simple self.now) }
-    {
-        if self.numbers.tally.count == 0 {
-            *faults = SimpleFaults::all(None);
-        } else {
-            faults.point = self.numbers.least_fault();
-            faults.multi_point = self.positions;
-            faults.line_string = line_fault(&self.numbers.tally, self.positions);
-            faults.multi_line_string = self.lines;
-            faults.polygon = self.rings;
-            faults.multi_polygon = self.polygons;
-        }
     }
 
     /// Whether a few comparisons show that nothing deserves a warning for any type. `false` promises nothing.
@@ -270,30 +237,6 @@ impl Outermost {
             Simple::MultiLineString => self.lines_warned,
             Simple::Polygon => self.rings_warned,
             Simple::MultiPolygon => self.polygons_warned,
-        }
-    }
-
-    /// Adds what deserves a warning for a type to other warnings.
-    pub fn warn(&self, simple: Simple, warned: &mut Warned)
-        ensures { warned.new ≡ taken warned.old (warned_in simple self.now) }
-    {
-        if self.numbers.tally.count == 0 {
-            warned.take(&self.warned(simple));
-        } else {
-            self.warn_some(simple, warned);
-        }
-    }
-
-    /// Adds what deserves a warning in an array that is not empty.
-    fn warn_some(&self, simple: Simple, warned: &mut Warned)
-        ensures { warned.new ≡ taken warned.old (some_warned_in simple self.now) }
-    {
-        match simple {
-            Simple::Point => warned.take(&self.point_warned()),
-            Simple::MultiPoint | Simple::LineString => warned.take(&self.positions_warned),
-            Simple::MultiLineString => warned.take(&self.lines_warned),
-            Simple::Polygon => warned.take(&self.rings_warned),
-            Simple::MultiPolygon => warned.take(&self.polygons_warned),
         }
     }
 

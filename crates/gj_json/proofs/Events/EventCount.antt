@@ -1,6 +1,6 @@
 -- Each event of a text has a byte of its own.
-use Rattle.gj_json.proofs.Common.{Bool, Constant, Elements, False, IsNumber, IsText, List, Members, Null, Spells, SpellsElements, SpellsMark}
-use Rattle.gj_json.proofs.Common.{SpellsMembers, SpellsMoreElements, SpellsMoreMembers, Text, Timed, Tree, True, all_events, ap, arith, array}
+use Rattle.gj_json.proofs.Common.{Bool, Constant, Elements, IsNumber, IsText, List, Members, Null, Spells, SpellsElements, SpellsMark}
+use Rattle.gj_json.proofs.Common.{SpellsMembers, SpellsMoreElements, SpellsMoreMembers, Text, Timed, Tree, all_events, ap, arith, array}
 use Rattle.gj_json.proofs.Common.{constant, element, elements_events, end_of_array, end_of_object, events, false, inl, inr, length, length-map}
 use Rattle.gj_json.proofs.Common.{letters_of, mark_events, member, members_events, object, string, text_events, timed, true, ℕ, [], ◌++◌, ◌+◌, ◌∷◌}
 use Rattle.gj_json.proofs.Common.{◌≡◌, ◌≤◌}

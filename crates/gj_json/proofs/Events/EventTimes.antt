@@ -1,6 +1,6 @@
 -- Which events are complete in a prefix of a text.
-use Rattle.gj_json.proofs.Common.{AllByRecursion, Bool, Constant, Elements, Event, False, InTime, List, Members, Null, Quoted, Spells, SpellsElements}
-use Rattle.gj_json.proofs.Common.{SpellsMembers, SpellsMoreElements, SpellsMoreMembers, Timed, Tree, True, ap, arith, array, constant, element}
+use Rattle.gj_json.proofs.Common.{AllByRecursion, Bool, Constant, Elements, Event, InTime, List, Members, Null, Quoted, Spells, SpellsElements}
+use Rattle.gj_json.proofs.Common.{SpellsMembers, SpellsMoreElements, SpellsMoreMembers, Timed, Tree, ap, arith, array, constant, element}
 use Rattle.gj_json.proofs.Common.{elements_events, end_of_array, end_of_object, events, false, if◌then◌else◌, length, letters_of, map, member}
 use Rattle.gj_json.proofs.Common.{members_events, nat_le, nat_tests, object, refl, string, timed, true, ℕ, [], ◌++◌, ◌+◌, ◌<◌, ◌∷◌, ◌≡◌, ◌≤◌}
 use Rattle.gj_json.specs.declared.event.What.TheVariants as What

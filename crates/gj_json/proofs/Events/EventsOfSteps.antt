@@ -1,8 +1,8 @@
 -- Which events a step of the machine completes.
 use Rattle.gj_json.proofs.Common.{BegunAs, Bool, Class, CloseArray, CloseObject, Colon, Comma, Constant, ConstantAt, ConstantOn, EdgeAt, Ending}
-use Rattle.gj_json.proofs.Common.{Event, Exact, False, Go, HasValue, HasWords, InTime, IsTimely, LeafAs, Letter, Level, List, MarkOne, MarkTwo, Mode}
-use Rattle.gj_json.proofs.Common.{Move, None, Null, NumberOn, NumberStart, NumberTurn, OpenArray, OpenObject, Option, Other, Quote, Refuse, Some}
-use Rattle.gj_json.proofs.Common.{StandsAs, StringState, StringStep, Timed, Tree, True, Turns, ValueDone, ValueDue, What, Words, after_move}
+use Rattle.gj_json.proofs.Common.{Event, Exact, Go, HasValue, HasWords, InTime, IsTimely, LeafAs, Letter, Level, List, MarkOne, MarkTwo, Mode}
+use Rattle.gj_json.proofs.Common.{Move, None, Null, NumberOn, NumberStart, NumberTurn, OpenArray, OpenObject, Option, Quote, Refuse, Some}
+use Rattle.gj_json.proofs.Common.{StandsAs, StringState, StringStep, Timed, Tree, Turns, ValueDone, ValueDue, What, Words, after_move}
 use Rattle.gj_json.proofs.Common.{after_value, ap, append_assoc, arith, begin_value, constant, constant_move, done_elements, done_members, drop}
 use Rattle.gj_json.proofs.Common.{element, emitted, end_of_array, end_of_object, event_at, events, false, get_or, if◌then◌else◌, inner_of, leaf_timed}
 use Rattle.gj_json.proofs.Common.{length, letters_after, letters_of, levels_of, levels_with, mark_events, mark_first, mark_second, mark_third, member}

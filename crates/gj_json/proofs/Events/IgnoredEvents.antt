@@ -1,6 +1,6 @@
 -- Events that do not matter, one after another.
-use Rattle.gj_json.proofs.Common.{Applied, Array, Close, Ending, Err, Event, Exact, False, FeedsAll, FeedsTo, FeedsWithin, Go, JsonFault, Leaves}
-use Rattle.gj_json.proofs.Common.{Level, List, Mode, Move, Null, NumberOn, NumberTurn, Object, Ok, Open, Option, Reader, Refuse, Result, Takes, True}
+use Rattle.gj_json.proofs.Common.{Applied, Array, Close, Ending, Err, Event, Exact, FeedsAll, FeedsTo, FeedsWithin, Go, JsonFault, Leaves}
+use Rattle.gj_json.proofs.Common.{Level, List, Mode, Move, Null, NumberOn, NumberTurn, Object, Ok, Open, Option, Reader, Refuse, Result, Takes}
 use Rattle.gj_json.proofs.Common.{above, ap, arith, emitted, ending_event, inl, inr, length, move_by, number_events, option_to_list, outer_of, refl}
 use Rattle.gj_json.proofs.Common.{subst, suc, sym, told_by, told_on, zero, ℕ, [], ◌++◌, ◌+◌, ◌-◌, ◌<◌, ◌∷◌, ◌≡◌, ◌≤◌}
 use Rattle.std.specs.Prelude.{MatchResult, take}

@@ -1,47 +1,21 @@
 -- An array of two or three numbers is spelled by its numbers, each where it stands, and what stands around them.
-use Rattle.gj_json.proofs.Common.{AllByRecursion, Bool, IsItem, IsValued, IsWhite, List, Numbered, SFits, Short, SpellsNumbers, StartsWithNumber}
-use Rattle.gj_json.proofs.Common.{arith, bool_byte, cut, drop, exact_of, false, get_or, inl, length, open_bracket, option_to_list, refl, space, subst}
-use Rattle.gj_json.proofs.Common.{sym, true, w64, ℕ, ◌+◌, ◌-◌, ◌<◌, ◌∷◌, ◌≡◌, ◌≤◌}
-use Rattle.std.proofs.Common.{IsTrue, take}
+use Rattle.gj_json.proofs.Common.{AllByRecursion, IsItem, IsValued, IsWhite, List, Numbered, SFits, Short, SpellsNumbers}
+use Rattle.gj_json.proofs.Common.{arith, cut, get_or, length, open_bracket, option_to_list, subst}
+use Rattle.gj_json.proofs.Common.{sym, w64, ℕ, ◌+◌, ◌<◌, ◌∷◌, ◌≡◌, ◌≤◌}
+use Rattle.std.proofs.Common.{take}
 use Rattle.std.proofs.lemmas.Int.{to_z-of_z}
-use Rattle.std.proofs.lemmas.List.{drop-drop}
 use mir.Val.{to_z, of_z}
 use Rattle.gj_number.specs.declared.short.cuts.Cut.{Cut}
 use Rattle.gj_number.specs.Cuts.{IsCut}
 use Rattle.gj_json.specs.Bytes.{comma}
 use Rattle.gj_json.specs.Internal.SpelledPositions.{ClosesAt}
-use Rattle.gj_json.proofs.Pieces.PieceCuts.{cut_byte}
-use Rattle.gj_json.proofs.Grammar.SpelledPairs.{none_cut, valued_cut}
+use Rattle.gj_json.proofs.Grammar.SpelledPairs.{none_cut}
 use Rattle.gj_json.proofs.Grammar.SpelledFlats.{item_cut, more_cut, flat_cut}
-
-pub at_most_one : (b : Bool) → bool_byte b ≤ 1
-at_most_one false = omega arith
-at_most_one true = omega arith
-
--- one space or nothing
-pub one_space : (piece : List ℕ) (at : ℕ) (spaced : Bool) → at < length piece → (IsTrue spaced → get_or piece at 0 ≡ space)
-    → AllByRecursion IsWhite (cut piece at (at + bool_byte spaced))
-one_space piece at false within is =
-    let e : at ≡ at + 0 = omega arith in
-    let P : ℕ → Type 0 = λ n. AllByRecursion IsWhite (cut piece at n) in
-    subst P e (none_cut piece at)
-one_space piece at true within is =
-    let Q : List ℕ → Type 0 = λ xs. AllByRecursion IsWhite xs in
-    subst Q (sym (cut_byte piece at (at + 1) within (omega arith))) (inl (is refl), none_cut piece (at + 1))
 
 -- the cut value as a field of 64 bits has it
 pub of_value : (short : Short) (cut : Cut) → SFits w64 cut.value → IsCut short cut
     → IsCut short (record { value = to_z w64 (of_z w64 cut.value); precise = cut.precise })
 of_value short cut fits is = subst (λ v. IsCut short (record { value = v; precise = cut.precise })) (sym (to_z-of_z w64 cut.value fits)) is
-
--- a number of a rest of a piece, as it stands in the piece
-pub valued_there : (piece : List ℕ) (at k end : ℕ) (value : Short) → k ≤ end → StartsWithNumber (drop k (drop at piece)) (exact_of value) (end - k)
-    → IsValued value (cut piece (at + k) (at + end))
-valued_there piece at k end value less read =
-    let e : at + k + (end - k) ≡ at + end = omega arith in
-    let P : ℕ → Type 0 = λ n. IsValued value (cut piece (at + k) n) in
-    let Q : List ℕ → Type 0 = λ xs. StartsWithNumber xs (exact_of value) (end - k) in
-    subst P e (valued_cut piece (at + k) (end - k) value (subst Q (drop-drop k at piece) read))
 
 -- where the first number begins, the comma after it, the second number and its end, and the closing bracket
 module _ (piece : List ℕ) (start : ℕ) (first second : Numbered) (first_at comma_at second_at end close : ℕ) (closes : ClosesAt piece start end close)

@@ -1,99 +1,99 @@
--- A piece that starts with the known bytes of a member `geometry` around its type.
-use Rattle.gj_json.proofs.Common.{AllByRecursion, IsTyped, IsWhite, List, Word, ap, append_assoc, arith, codes, cut, drop, get_or, length}
-use Rattle.gj_json.proofs.Common.{length-take-le, open_brace, refl, subst, take-add, take_more, ℕ, [], ◌++◌, ◌+◌, ◌-◌, ◌<◌, ◌∙◌, ◌∷◌, ◌≡◌, ◌≤◌}
+-- The beginnings of objects and of members `geometry`, by the bytes between one index and the next.
+use Rattle.gj_json.proofs.Common.{AllByRecursion, IsTyped, IsWhite, List, Word, ap, ap₂, arith, codes, cut, drop, get_or, inl, length}
+use Rattle.gj_json.proofs.Common.{length-take-le, open_brace, refl, suc, zero, ℕ, ◌++◌, ◌+◌, ◌-◌, ◌<◌, ◌∙◌, ◌∷◌, ◌≡◌, ◌≤◌}
 use Rattle.std.proofs.Common.{take}
-use Rattle.std.proofs.lemmas.List.{length-append}
+use Rattle.std.proofs.lemmas.List.{length-drop}
 use Rattle.gj_json.specs.Bytes.{comma}
-use Rattle.gj_json.specs.Internal.WholeHeads.{named, ComesToType, IsLocated}
+use Rattle.gj_json.specs.Internal.WholeHeads.{spaces, BeginsTyped, IsLocated}
 use Rattle.gj_json.specs.Internal.WholeTokens.{IsUsualText}
-use Rattle.gj_json.proofs.Pieces.PieceRests.{rest_of}
+use Rattle.gj_json.proofs.Pieces.PieceCuts.{cut_joins, cut_byte}
 
--- the bytes after the type
-abbrev pub after_type : List ℕ → List ℕ
-after_type gap = comma ∷ (gap ++ named (codes "coordinates") gap)
+pub white_spaces : (n : ℕ) → AllByRecursion IsWhite (spaces n)
+white_spaces zero = tt
+white_spaces (suc n) = (inl refl, white_spaces n)
 
-in_parts : (a b i c d text gap last : List ℕ) → a ≡ b ++ (open_brace ∷ (i ++ c)) → d ≡ comma ∷ (gap ++ last)
-    → (a ++ text) ++ d ≡ b ++ ((open_brace ∷ (i ++ (c ++ (text ++ (comma ∷ gap))))) ++ last)
-in_parts a b i c d text gap last e f = rw (e, f) (simp append_assoc)
+pub length-spaces : (n : ℕ) → length (spaces n) ≡ n
+length-spaces zero = refl
+length-spaces (suc n) = ap suc (length-spaces n)
 
-pub located_by : (gap piece : List ℕ) (bracket a n b name_at coordinates : ℕ) (word : Word) → ComesToType piece bracket a gap
-    → AllByRecursion IsWhite gap → IsUsualText (take (length piece - a) (drop a piece)) n word
-    → n ≤ length (take (length piece - a) (drop a piece)) → take b (drop (a + n) piece) ≡ after_type gap
-    → coordinates ≡ a + n + 1 + length gap → a ≡ name_at + length (named (codes "type") gap)
-    → IsLocated piece (a + n + b) bracket name_at a coordinates word
-located_by gap piece bracket a n b name_at coordinates word to white usual few rear place name =
-    let inside = to.inside in
-    let P : List ℕ → Type 0 = λ xs. IsUsualText xs n word in
-    let u : IsUsualText (drop a piece) n word = subst P (rest_of piece a) usual in
-    let text = take n (drop a piece) in
-    let w : length text ≡ n = length-take-le n (drop a piece) (omega (arith, few, ap length (rest_of piece a))) in
-    let first = named (codes "geometry") to.before in
-    let last = named (codes "type") gap in
-    let object = open_brace ∷ (inside ++ (last ++ (text ++ (comma ∷ gap)))) in
-    let split : take (a + n + b) piece ≡ (take a piece ++ text) ++ take b (drop (a + n) piece) =
-    take-add (a + n) b piece ∙ ap (λ xs. xs ++ take b (drop (a + n) piece)) (take-add a n piece) in
+pub from_start : (piece : List ℕ) (n : ℕ) → take n piece ≡ cut piece 0 n
+from_start piece n = let e : n ≡ n - 0 = omega arith in ap (λ k. take k piece) e
+
+-- bytes, and those that stand after them
+pub goes_on : (piece : List ℕ) (a b c : ℕ) (xs ys : List ℕ) → a ≤ b → b ≤ c → cut piece a b ≡ xs → cut piece b c ≡ ys → cut piece a c ≡ xs ++ ys
+goes_on piece a b c xs ys v w e f = cut_joins piece a b c v w ∙ ap₂ (λ us vs. us ++ vs) e f
+
+pub byte_on : (piece : List ℕ) (a c b : ℕ) (xs : List ℕ) → a < c → c ≤ length piece → get_or piece a 0 ≡ b → cut piece (a + 1) c ≡ xs → cut piece a c ≡ b ∷ xs
+byte_on piece a c b xs v w e f = cut_byte piece a c (omega arith) v ∙ ap₂ (λ u vs. u ∷ vs) e f
+
+-- an object up to the comma after its type, and the spaces after that
+pub typed_by : (piece : List ℕ) (inside gap n : ℕ) (word : Word) → get_or piece 0 0 ≡ open_brace → cut piece 1 (1 + inside) ≡ spaces inside
+    → cut piece (1 + inside) (1 + inside + 7) ≡ codes "\"type\":" → cut piece (1 + inside + 7) (1 + inside + 7 + gap) ≡ spaces gap
+    → IsUsualText (drop (1 + inside + 7 + gap) piece) n word → get_or piece (1 + inside + 7 + gap + n) 0 ≡ comma
+    → cut piece (1 + inside + 7 + gap + n + 1) (1 + inside + 7 + gap + n + 1 + gap) ≡ spaces gap → 1 + inside + 7 + gap + n + 1 + gap ≤ length piece
+    → BeginsTyped 0 (1 + inside) (1 + inside + 7 + gap) word (spaces inside) (spaces gap) (take (1 + inside + 7 + gap + n + 1 + gap) piece)
+typed_by piece inside gap n word first space_inside name space_after u ends space_behind within =
+    let word_at = 1 + inside + 7 + gap in
+    let end = word_at + n + 1 + gap in
+    let few : word_at + n - word_at ≡ n = omega arith in
+    let rest =
+    goes_on piece (1 + inside + 7) word_at end _ _ (omega arith) (omega arith) space_after
+    (goes_on piece word_at (word_at + n) end _ _ (omega arith) (omega arith) (ap (λ k. take k (drop word_at piece)) few)
+    (byte_on piece (word_at + n) end comma _ (omega arith) within ends space_behind)) in
+    let all =
+    byte_on piece 0 end open_brace _ (omega arith) within first
+    (goes_on piece 1 (1 + inside) end _ _ (omega arith) (omega arith) space_inside
+    (goes_on piece (1 + inside) (1 + inside + 7) end _ _ (omega arith) (omega arith) name rest)) in
     record {
-      before = to.before;
-      inside = inside;
-      gap = gap;
-      white_before = to.white_before;
-      white_inside = to.white_inside;
-      white = white;
-      object_bytes = object;
-      begins = record {
-        content = cut (drop a piece) 1 (n - 1);
-        type_bytes = text;
-        is_quoted = u.quoted;
-        known_as = u.known_as;
-        spelled = refl;
-        name_place = omega (
-          arith,
-          name,
-          to.long,
-          to.bracket_place,
-          length-append first (open_brace ∷ (inside ++ last)),
-          length-append inside last,
-        );
-        word_place = name;
-      };
-      spelled = split
-          ∙ in_parts (take a piece) first inside last (take b (drop (a + n) piece)) text gap (named (codes "coordinates") gap) to.spelled rear;
-      bracket_place = to.bracket_place;
-      coordinates_place = omega (
-        arith,
-        place,
-        to.long,
-        to.bracket_place,
-        w,
-        length-append first (open_brace ∷ (inside ++ last)),
-        length-append inside last,
-        length-append inside (last ++ (text ++ (comma ∷ gap))),
-        length-append last (text ++ (comma ∷ gap)),
-        length-append text (comma ∷ gap),
-      );
+      content = cut (drop word_at piece) 1 (n - 1);
+      type_bytes = take n (drop word_at piece);
+      is_quoted = u.quoted;
+      known_as = u.known_as;
+      spelled = from_start piece end ∙ all;
+      name_place = omega (arith, length-spaces inside);
+      word_place = omega (arith, length-spaces gap);
     }
 
-pub typed_by : (piece : List ℕ) (a n : ℕ) (word : Word) → take a piece ≡ open_brace ∷ named (codes "type") []
-    → a ≡ length (open_brace ∷ named (codes "type") []) → IsUsualText (take (length piece - a) (drop a piece)) n word
-    → n ≤ length (take (length piece - a) (drop a piece)) → a + n < length piece → get_or piece (a + n) 0 ≡ comma → IsTyped piece (a + n + 1) 1 a word
-typed_by piece a n word front long usual few within ends =
-    let P : List ℕ → Type 0 = λ xs. IsUsualText xs n word in
-    let u : IsUsualText (drop a piece) n word = subst P (rest_of piece a) usual in
-    let text = take n (drop a piece) in
-    let split : take (a + n + 1) piece ≡ (take a piece ++ text) ++ comma ∷ [] =
-    take_more piece (a + n) 0 within ∙ ap (λ b. take (a + n) piece ++ b ∷ []) ends ∙ ap (λ xs. xs ++ comma ∷ []) (take-add a n piece) in
+pub typed_is : (piece : List ℕ) (count name_at word_at inside gap : ℕ) (word : Word)
+    → BeginsTyped 0 name_at word_at word (spaces inside) (spaces gap) (take count piece) → IsTyped piece count name_at word_at word
+typed_is piece count name_at word_at inside gap word h =
+    record { inside = spaces inside; gap = spaces gap; white_inside = white_spaces inside; white = white_spaces gap; begins = h }
+
+-- a member up to its coordinates
+pub located_by : (piece : List ℕ) (before inside gap count name_at word_at : ℕ) (word : Word) → cut piece 0 11 ≡ codes "\"geometry\":"
+    → cut piece 11 (11 + before) ≡ spaces before
+    → BeginsTyped 0 name_at word_at word (spaces inside) (spaces gap) (take count (drop (11 + before) piece))
+    → cut piece (11 + before + count) (11 + before + count + 14) ≡ codes "\"coordinates\":"
+    → cut piece (11 + before + count + 14) (11 + before + count + 14 + gap) ≡ spaces gap → 11 + before + count ≤ length piece
+    → IsLocated piece (11 + before + count + 14 + gap) (11 + before) (11 + before + name_at) (11 + before + word_at) (11 + before + count) word
+located_by piece before inside gap count name_at word_at word name space_before h last space_after within =
+    let bracket = 11 + before in
+    let coordinates = bracket + count in
+    let total = coordinates + 14 + gap in
+    let few : coordinates - bracket ≡ count = omega arith in
+    let object = take count (drop bracket piece) in
+    let size : length object ≡ count = length-take-le count (drop bracket piece) (omega (arith, length-drop bracket piece)) in
     record {
-      inside = [];
-      gap = [];
-      white_inside = tt;
-      white = tt;
+      before = spaces before;
+      inside = spaces inside;
+      gap = spaces gap;
+      white_before = white_spaces before;
+      white_inside = white_spaces inside;
+      white = white_spaces gap;
+      object_bytes = object;
       begins = record {
-        content = cut (drop a piece) 1 (n - 1);
-        type_bytes = text;
-        is_quoted = u.quoted;
-        known_as = u.known_as;
-        spelled = split ∙ ap (λ xs. (xs ++ text) ++ comma ∷ []) front ∙ append_assoc (open_brace ∷ named (codes "type") []) text (comma ∷ []);
-        name_place = refl;
-        word_place = long;
+        content = h.content;
+        type_bytes = h.type_bytes;
+        is_quoted = h.is_quoted;
+        known_as = h.known_as;
+        spelled = h.spelled;
+        name_place = omega (arith, h.name_place);
+        word_place = omega (arith, h.word_place);
       };
+      spelled = from_start piece total ∙ goes_on piece 0 11 total _ _ (omega arith) (omega arith) name
+          (goes_on piece 11 bracket total _ _ (omega arith) (omega arith) space_before
+          (goes_on piece bracket coordinates total _ _ (omega arith) (omega arith) (ap (λ k. take k (drop bracket piece)) few)
+          (goes_on piece coordinates (coordinates + 14) total _ _ (omega arith) (omega arith) last space_after)));
+      bracket_place = omega (arith, length-spaces before);
+      coordinates_place = omega (arith, size);
     }

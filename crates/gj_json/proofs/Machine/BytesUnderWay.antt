@@ -1,6 +1,6 @@
 -- Which number or string is under way after a byte.
-use Rattle.gj_json.proofs.Common.{BeginsNumber, Bool, Class, CloseArray, CloseObject, Colon, ComesFrom, Comma, Constant, LeafAs, Letter, Level, List}
-use Rattle.gj_json.proofs.Common.{Mode, None, NumberStart, OpenArray, OpenObject, Option, Other, Quote, Some, StandsAs, StringState, StringStep, Tree}
+use Rattle.gj_json.proofs.Common.{BeginsNumber, Bool, Class, CloseArray, CloseObject, ComesFrom, Comma, Constant, LeafAs, Letter, Level, List}
+use Rattle.gj_json.proofs.Common.{Mode, None, NumberStart, OpenArray, OpenObject, Option, Quote, Some, StandsAs, StringState, StringStep, Tree}
 use Rattle.gj_json.proofs.Common.{Under, after_value, begin_value, constant, false, if◌then◌else◌, in_number, mark_first, mark_second, mark_third}
 use Rattle.gj_json.proofs.Common.{refl, run_from, step, step_array_opened, step_colon_due, step_constant, step_leaf, step_name, step_name_due}
 use Rattle.gj_json.proofs.Common.{step_number, step_object_opened, step_string, step_value_due, string_ends, string_goes, string_next, string_refuses}

@@ -1,5 +1,5 @@
 -- Each state completes, and no deeper than it is: what is under way is ended, and what is open is closed.
-use Rattle.gj_json.proofs.Common.{AfterE0, AfterED, AfterF0, AfterF4, AllByRecursion, Any, Bounds, Constant, Elements, Exactly, FitsBroken, FitsLeaf}
+use Rattle.gj_json.proofs.Common.{AllByRecursion, Any, Bounds, Constant, Elements, Exactly, FitsBroken, FitsLeaf}
 use Rattle.gj_json.proofs.Common.{FitsName, IsViableWithin, List, Members, None, Null, Option, Some, StringState, Text, Tree, ap, arith, array}
 use Rattle.gj_json.proofs.Common.{close_brace, close_bracket, constant, depth, element, elements_depth, end_of_array, end_of_object, false, length}
 use Rattle.gj_json.proofs.Common.{letters_after, low_of, mark_second, mark_third, member, object, refl, run, string, string_goes, string_next, suc}

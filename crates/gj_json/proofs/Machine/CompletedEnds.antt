@@ -1,7 +1,7 @@
 -- Where nothing more comes, a state completes to the tree that it finishes with.
-use Rattle.gj_json.proofs.Common.{Bool, Constant, Elements, Exactly, False, IsNumber, List, Members, None, Null, Option, Quoted, Some, Spells}
+use Rattle.gj_json.proofs.Common.{Bool, Constant, Elements, Exactly, IsNumber, List, Members, None, Null, Option, Quoted, Some, Spells}
 use Rattle.gj_json.proofs.Common.{SpellsContent, SpellsElements, SpellsMark, SpellsMembers, SpellsMoreElements, SpellsMoreMembers, StringState, Text}
-use Rattle.gj_json.proofs.Common.{Tree, True, ap, arith, array, constant, element, end_of_array, end_of_object, false, finish, finish_leaf}
+use Rattle.gj_json.proofs.Common.{Tree, ap, arith, array, constant, element, end_of_array, end_of_object, false, finish, finish_leaf}
 use Rattle.gj_json.proofs.Common.{if◌then◌else◌, length, letters_of, member, object, open_brace, open_bracket, refl, string, sym, text_with, true, ℕ}
 use Rattle.gj_json.proofs.Common.{[], ◌++◌, ◌+◌, ◌∷◌, ◌≡◌}
 use Rattle.std.proofs.lemmas.List.{append-nil}

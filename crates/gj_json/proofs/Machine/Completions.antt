@@ -1,6 +1,6 @@
 -- Which bytes make a state of the machine the tree T, and the text T.
-use Rattle.gj_json.proofs.Common.{Constant, Elements, Exactly, False, IsNumber, List, Members, None, Null, Option, Quoted, Some, Spells}
-use Rattle.gj_json.proofs.Common.{SpellsElements, SpellsMark, SpellsMembers, SpellsMoreElements, SpellsMoreMembers, StringState, Text, Tree, True}
+use Rattle.gj_json.proofs.Common.{Constant, Elements, Exactly, IsNumber, List, Members, None, Null, Option, Quoted, Some, Spells}
+use Rattle.gj_json.proofs.Common.{SpellsElements, SpellsMark, SpellsMembers, SpellsMoreElements, SpellsMoreMembers, StringState, Text, Tree}
 use Rattle.gj_json.proofs.Common.{array, constant, element, first_letter, letters_after, letters_of, mark_second, mark_third, member, object, refl}
 use Rattle.gj_json.proofs.Common.{string, string_goes, string_next, true, ℕ, [], ◌++◌, ◌∷◌, ◌≡◌}
 use Rattle.gj_json.specs.Bytes.{colon as colon_byte, quote as quote_byte}

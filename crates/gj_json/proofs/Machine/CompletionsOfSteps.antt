@@ -12,7 +12,7 @@ use Rattle.gj_json.specs.Tree.{number}
 use Rattle.gj_json.specs.Grammar.{Then, White, Ends}
 use Rattle.gj_json.specs.declared.class.Class.TheVariants.{White as white, OpenArray as open_array, CloseArray as close_array, OpenObject as open_object}
 use Rattle.gj_json.specs.declared.class.Class.TheVariants.{CloseObject as close_object, Comma as comma, Colon as colon, Quote as quote}
-use Rattle.gj_json.specs.declared.class.Class.TheVariants.{NumberStart as number_start, Letter as letter, Other as other}
+use Rattle.gj_json.specs.declared.class.Class.TheVariants.{NumberStart as number_start, Letter as letter}
 use Rattle.gj_json.specs.Internal.ByteClasses.{class_of}
 use Rattle.gj_json.proofs.Grammar.ClassOfBytes.{means}
 use Rattle.gj_json.proofs.Grammar.SpelledForms

@@ -1,6 +1,6 @@
 -- Nothing is left to the end of a text only after a value that nothing is around.
 use Rattle.gj_json.proofs.Common.{Bool, Event, Exact, IsAdmitted, JsonFault, Level, List, Mode, None, NumberOn, Option, Reader, Some, StandsFor}
-use Rattle.gj_json.proofs.Common.{StandsRefused, Text, Truncated, ValueDone, all_events, ap, arith, events_by, false, inner_of, length, not, refl}
+use Rattle.gj_json.proofs.Common.{StandsRefused, Text, Truncated, ValueDone, all_events, ap, arith, events_by, inner_of, length, not, refl}
 use Rattle.gj_json.proofs.Common.{sym, true, ℕ, [], ◌++◌, ◌∙◌, ◌∷◌, ◌≡◌}
 use Rattle.std.specs.Option.{is_some}
 use Rattle.std.proofs.lemmas.List.{length-append}

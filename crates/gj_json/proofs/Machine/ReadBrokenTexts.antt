@@ -1,6 +1,6 @@
 -- The bytes of a text that is broken off lead the machine to it, and to nothing else.
-use Rattle.gj_json.proofs.Common.{BeginsCharacter, BeginsQuoted, Constant, Exactly, False, List, Named, None, Null, Opened, Quoted, Some, Spells}
-use Rattle.gj_json.proofs.Common.{SpellsBroken, SpellsContent, SpellsLeaf, StringState, Tree, True, ap, arith, array, constant, eqb_tells, false}
+use Rattle.gj_json.proofs.Common.{BeginsCharacter, BeginsQuoted, Constant, Exactly, List, Named, None, Null, Opened, Quoted, Some, Spells}
+use Rattle.gj_json.proofs.Common.{SpellsBroken, SpellsContent, SpellsLeaf, StringState, Tree, ap, arith, array, constant, eqb_tells, false}
 use Rattle.gj_json.proofs.Common.{first_letter, inl, inr, length, letters_after, letters_of, mark_first, mark_second, mark_third, object, refl, run}
 use Rattle.gj_json.proofs.Common.{run_from, step_leaf, string, subst, sym, true, ℕ, [], ◌++◌, ◌+◌, ◌∙◌, ◌∷◌, ◌≡◌, ◌≢◌}
 use Rattle.std.proofs.Common.{append-nil}

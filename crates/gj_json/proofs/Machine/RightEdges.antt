@@ -1,6 +1,6 @@
 -- What one byte more makes of what is due or under way at the right edge.
-use Rattle.gj_json.proofs.Common.{BeginsCharacter, BeginsQuoted, Constant, Exactly, False, IsNumber, IsWhite, List, Null, Quoted, Spells}
-use Rattle.gj_json.proofs.Common.{SpellsContent, SpellsLeaf, StringState, StringStep, True, ap, append_assoc, arith, first_letter, length}
+use Rattle.gj_json.proofs.Common.{BeginsCharacter, BeginsQuoted, Constant, Exactly, IsNumber, IsWhite, List, Null, Quoted, Spells}
+use Rattle.gj_json.proofs.Common.{SpellsContent, SpellsLeaf, StringState, StringStep, ap, append_assoc, arith, first_letter, length}
 use Rattle.gj_json.proofs.Common.{letters_after, letters_of, refl, string_ends, string_goes, string_next, subst, sym, ℕ, [], ◌++◌, ◌+◌, ◌∙◌, ◌∷◌, ◌≡◌}
 use Rattle.gj_json.proofs.Common.{◌≢◌}
 use Rattle.std.proofs.Common.{append-nil}

@@ -10,7 +10,7 @@ use Rattle.std.proofs.lemmas.List.{length-append}
 use Rattle.gj_json.specs.Bytes.{comma as comma_byte, mark_bytes}
 use Rattle.gj_json.specs.declared.class.Class.TheVariants.{White as white, OpenArray as open_array, CloseArray as close_array, OpenObject as open_object}
 use Rattle.gj_json.specs.declared.class.Class.TheVariants.{CloseObject as close_object, Comma as comma, Colon as colon, Quote as quote}
-use Rattle.gj_json.specs.declared.class.Class.TheVariants.{NumberStart as number_start, Letter as letter, Other as other}
+use Rattle.gj_json.specs.declared.class.Class.TheVariants.{NumberStart as number_start, Letter as letter}
 use Rattle.gj_number.proofs.Grammar.DecidedNumbers.{number as decided_number, begins as decided_begins}
 use Rattle.gj_json.specs.declared.mode.StringState.TheVariants.{Plain as plain}
 use Rattle.gj_json.specs.Tree.{number}

@@ -1,7 +1,7 @@
 -- A byte that the machine takes: the bytes with it are spelled as the state after it.
 use Rattle.gj_json.proofs.Common.{Elements, Exactly, IsWhite, List, Members, Named, Opened, Spells, SpellsElements, SpellsMembers, Tree, ap}
 use Rattle.gj_json.proofs.Common.{append_assoc, arith, array, close_brace, close_bracket, constant, element, end_of_array, end_of_object, length}
-use Rattle.gj_json.proofs.Common.{member, object, open_brace, open_bracket, refl, string, sym, ℕ, [], ◌++◌, ◌+◌, ◌∙◌, ◌∷◌, ◌≡◌, ◌≢◌}
+use Rattle.gj_json.proofs.Common.{member, object, open_brace, open_bracket, refl, sym, ℕ, [], ◌++◌, ◌+◌, ◌∙◌, ◌∷◌, ◌≡◌, ◌≢◌}
 use Rattle.std.proofs.Common.{append-nil}
 use Rattle.std.proofs.lemmas.List.{length-append}
 use Rattle.gj_json.specs.Tree.{number}

@@ -1,11 +1,11 @@
 -- One array of numbers after another, within an array: what was taken of the piece before, and the rest of it.
-use Rattle.gj_json.proofs.Common.{AllByRecursion, Array, Event, FeedsAll, Flat, IsDueAt, IsFlat, IsWhite, List, Mode, Passed, Reader, Some, ValueDone}
-use Rattle.gj_json.proofs.Common.{ValueDue, ap, arith, cut, drop, flat_events, get_or, get_or-drop, inner_of, length, length-take-le, open_bracket}
-use Rattle.gj_json.proofs.Common.{refl, subst, sym, ℕ, ◌++◌, ◌+◌, ◌-◌, ◌<◌, ◌∙◌, ◌≡◌, ◌≤◌}
-use Rattle.std.proofs.Common.{length-drop, take}
+use Rattle.gj_json.proofs.Common.{AllByRecursion, Array, Event, FeedsAll, Flat, IsDueAt, IsFlat, IsWhite, List, Passed, Reader, Some, ValueDone}
+use Rattle.gj_json.proofs.Common.{ValueDue, arith, cut, drop, flat_events, get_or, inner_of, length, length-take-le}
+use Rattle.gj_json.proofs.Common.{subst, ℕ, ◌++◌, ◌+◌, ◌-◌, ◌<◌, ◌≡◌, ◌≤◌}
+use Rattle.std.proofs.Common.{take}
 use Rattle.gj_json.specs.Bytes.{comma}
 use Rattle.gj_json.specs.Internal.OpenLevels.{levels_in}
-use Rattle.gj_json.proofs.Pieces.PieceRests.{rest_of, more_within}
+use Rattle.gj_json.proofs.Pieces.PieceRests.{more_within}
 use Rattle.gj_json.proofs.Pieces.TakenFlats.{flat_taken, comma_taken}
 use Rattle.gj_json.proofs.Readers.CallsInTurn.{piece_all, piece_left}
 

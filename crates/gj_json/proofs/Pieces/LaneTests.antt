@@ -1,6 +1,6 @@
 -- Bytes that pass a test, seen a vector at a time.
 use Rattle.gj_json.proofs.Common.{Bool, Each1, List, agree_below, agree_below_at, ap, ap₂, arith, cond, drop, eqb, false, get_or, leading_from_mask_l}
-use Rattle.gj_json.proofs.Common.{length, length-map, ltb, map, mask_l, mask_l-mod, not, prefix_len, prefix_len-le-length, refl, subst, suc, sym}
+use Rattle.gj_json.proofs.Common.{length, length-map, ltb, map, mask_l, mask_l-mod, not, prefix_len, prefix_len-le-length, refl, suc, sym}
 use Rattle.gj_json.proofs.Common.{trailing_mask_l, true, w8, zero, zip2, ℕ, [], ◌%◌, ◌*◌, ◌+◌, ◌/◌, ◌<◌, ◌^◌, ◌∙◌, ◌∷◌, ◌≡◌, ◌≤◌}
 use Rattle.std.proofs.Common.{Fits, take}
 use Rattle.std.proofs.Common.{drop-drop}
@@ -65,34 +65,31 @@ module _ (q : ℕ → Bool) where
       let all : prefix_len q v ≡ n = sym (same_prefix v) ∙ leading_from_mask_l (λ b. not (q b)) v none ∙ length-chunk at n piece room in
       split piece at n room ∙ ap (λ t. cond t (n + prefix_len q (drop (at + n) piece)) (prefix_len q v)) (eq-eqb _ _ all)
 
+  no_more : (b : Bool) (m k l : ℕ) → m ≤ l → cond b (1 + m) 0 ≡ 1 + l → (m ≡ l → k ≡ 0) → cond (not b) 1 0 + 2 * k ≡ 0
+  no_more true m k l w e h = let z : k ≡ 0 = h (omega arith) in omega arith
+  no_more false m k l w e h = let no : ⊥ = omega arith in absurd no
+
+  no_bit : (v : List ℕ) → prefix_len q v ≡ length v → mask_l (map (λ b. not (q b)) v) ≡ 0
+  no_bit [] e = refl
+  no_bit (x ∷ v) e = no_more (q x) (prefix_len q v) (mask_l (map (λ b. not (q b)) v)) (length v) (prefix_len-le-length q v) (omega (arith, e)) (no_bit v)
+
+  first_bit : (v : List ℕ) → length v ≤ 64 → 0 < mask_l (map (λ b. not (q b)) v)
+      → (count_trailing_zeros 64 (mask_l (map (λ b. not (q b)) v)) ≡ prefix_len q v) × (prefix_len q v < length v)
+  first_bit v few some =
+      let other : prefix_len q v ≡ length v → ⊥ = λ e. omega (arith, no_bit v e) in
+      (trailing_mask_l (λ b. not (q b)) 64 v few some ∙ same_prefix v, omega (arith, prefix_len-le-length q v, other))
+
   -- and else it ends at the first that does
   pub lanes_stop : (piece : List ℕ) (at n : ℕ) → at + n ≤ length piece → n ≤ 64 → 0 < mask_l (map (λ b. not (q b)) (chunk at n piece))
-      → prefix_len q (drop at piece) ≡ count_trailing_zeros 64 (mask_l (map (λ b. not (q b)) (chunk at n piece)))
+      → (prefix_len q (drop at piece) ≡ count_trailing_zeros 64 (mask_l (map (λ b. not (q b)) (chunk at n piece))))
+      × (prefix_len q (drop at piece) < n)
   lanes_stop piece at n room few some =
       let v = chunk at n piece in
       let l : length v ≡ n = length-chunk at n piece room in
-      let first : count_trailing_zeros 64 (mask_l (map (λ b. not (q b)) v)) ≡ prefix_len q v =
-      trailing_mask_l (λ b. not (q b)) 64 v (omega arith) some ∙ same_prefix v in
-      split piece at n room
-      ∙ ap (λ t. cond t (n + prefix_len q (drop (at + n) piece)) (prefix_len q v))
-      (ne_eqb _ _ (λ (e : prefix_len q v ≡ n). omega (arith, no_bit v (e ∙ sym l)))) ∙ sym first
-    where
-      no_more : (b : Bool) (m k l : ℕ) → m ≤ l → cond b (1 + m) 0 ≡ 1 + l → (m ≡ l → k ≡ 0) → cond (not b) 1 0 + 2 * k ≡ 0
-      no_more true m k l w e h = let z : k ≡ 0 = h (omega arith) in omega arith
-      no_more false m k l w e h = let no : ⊥ = omega arith in absurd no
-
-      no_bit : (v : List ℕ) → prefix_len q v ≡ length v → mask_l (map (λ b. not (q b)) v) ≡ 0
-      no_bit [] e = refl
-      no_bit (x ∷ v) e = no_more (q x) (prefix_len q v) (mask_l (map (λ b. not (q b)) v)) (length v) (prefix_len-le-length q v) (omega (arith, e)) (no_bit v)
-
-  -- so many lanes pass it where no bit before that one is set
-  pub lanes_pass : (piece : List ℕ) (at n mask count : ℕ) → at + n ≤ length piece → n ≤ 64 → count ≤ n
-      → mask ≡ mask_l (map (λ b. not (q b)) (chunk at n piece)) → count ≤ count_trailing_zeros 64 mask → count ≤ prefix_len q (drop at piece)
-  lanes_pass piece at n zero count room lanes few e h = let on = lanes_on piece at n room (sym e) in omega (arith, on)
-  lanes_pass piece at n (suc m) count room lanes few e h =
-      let P : ℕ → Type 0 = λ m. 0 < m in
-      let end = lanes_stop piece at n room lanes (subst P e (omega arith)) ∙ ap (count_trailing_zeros 64) (sym e) in
-      omega (arith, end, h)
+      let first = first_bit v (omega arith) some in
+      let end : prefix_len q (drop at piece) ≡ prefix_len q v = split piece at n room
+      ∙ ap (λ t. cond t (n + prefix_len q (drop (at + n) piece)) (prefix_len q v)) (ne_eqb (prefix_len q v) n (omega (arith, first.1))) in
+      (end ∙ sym first.0, omega (arith, end, first.1))
 
 -- the blocks of a piece
 pub block_at : (n k i : ℕ) (piece : List ℕ) → i < k → get_or (first_chunks n k piece) i [] ≡ chunk (i * n) n piece
@@ -122,7 +119,7 @@ module _ (q : ℕ → Bool) (piece : List ℕ) (index : ℕ) (blocks : List (Lis
       → index * 16 + count_trailing_zeros 64 stops ≡ prefix_len q piece
   block_stops stops more mask some =
       let is = lanes stops more mask in
-      let end = lanes_stop q piece (index * 16) 16 (omega (arith, more, many)) (omega arith) (omega (arith, some, is))
+      let end = (lanes_stop q piece (index * 16) 16 (omega (arith, more, many)) (omega arith) (omega (arith, some, is))).0
       ∙ ap (count_trailing_zeros 64) (sym is) in
       omega (arith, run, end)
 

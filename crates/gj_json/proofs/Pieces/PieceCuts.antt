@@ -1,5 +1,5 @@
 -- The bytes of a piece from one index up to another.
-use Rattle.gj_json.proofs.Common.{List, ap, arith, cut, drop, get_or, length, length-take-le, suc, sym, take-add, ℕ, [], ◌++◌, ◌+◌, ◌-◌, ◌<◌, ◌∙◌}
+use Rattle.gj_json.proofs.Common.{List, ap, arith, cut, drop, get_or, length, length-take-le, suc, sym, take-add, ℕ, ◌++◌, ◌+◌, ◌-◌, ◌<◌, ◌∙◌}
 use Rattle.gj_json.proofs.Common.{◌∷◌, ◌≡◌, ◌≤◌}
 use Rattle.std.proofs.Common.{take}
 use Rattle.std.proofs.lemmas.List.{drop-drop, length-drop}
@@ -21,10 +21,6 @@ cut_byte piece a c w v =
     let e : c - a ≡ suc (c - (a + 1)) = omega arith in
     let f : suc a ≡ a + 1 = omega arith in
     ap (λ n. take n (drop a piece)) e ∙ ap (λ xs. take (suc (c - (a + 1))) xs) (drop-cons piece a 0 w ∙ ap (λ n. get_or piece a 0 ∷ drop n piece) f)
-
--- none of them
-pub cut_none : (piece : List ℕ) (a : ℕ) → cut piece a a ≡ []
-cut_none piece a = let e : a - a ≡ 0 = omega arith in ap (λ n. take n (drop a piece)) e
 
 -- a prefix of the rest of a piece
 pub cut_front : (piece : List ℕ) (at n : ℕ) → cut piece at (at + n) ≡ take n (take (length piece - at) (drop at piece))

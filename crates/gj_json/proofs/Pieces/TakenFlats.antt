@@ -15,8 +15,8 @@ use Rattle.gj_json.specs.declared.class.Class.TheVariants.{OpenArray as open_arr
 use Rattle.gj_json.specs.Internal.ByteClasses.{class_of}
 use Rattle.gj_json.specs.Events.{value_events}
 use Rattle.gj_json.specs.Internal.OpenLevels.{levels_in}
-use Rattle.gj_json.specs.Internal.TextMachine.{Frame, in_array, Leaf, value_due, value_done, array_opened, object_opened, constant_on, number_on}
-use Rattle.gj_json.specs.Internal.TextMachine.{string_on, name_due, name_on, colon_due, Partial, Broken, text_due, mark_one, mark_two, begun}
+use Rattle.gj_json.specs.Internal.TextMachine.{Frame, in_array, Leaf, value_due, value_done, array_opened, object_opened, constant_on}
+use Rattle.gj_json.specs.Internal.TextMachine.{Partial, Broken, text_due, mark_one, mark_two, begun}
 use Rattle.gj_json.specs.Internal.ReaderState.{Fits}
 use Rattle.gj_json.proofs.Grammar.ClassOfBytes.{class_is}
 use Rattle.gj_json.proofs.Machine.BytesUnderWay.{mode_under, mode_state}

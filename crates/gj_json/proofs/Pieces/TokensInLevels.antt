@@ -1,6 +1,6 @@
 -- Tokens within levels that are open: of the events that one completes, the last alone may close a level.
-use Rattle.gj_json.proofs.Common.{Array, Bool, Close, Constant, Ending, Event, Exact, False, FeedsAll, FeedsAny, FeedsWithin, Go, IsNumber, IsString}
-use Rattle.gj_json.proofs.Common.{Lands, Leaves, Level, List, Mode, NameDue, None, Null, Object, Option, Passed, Reader, Skips, Some, True, ValueDone}
+use Rattle.gj_json.proofs.Common.{Array, Bool, Close, Constant, Ending, Event, Exact, FeedsAll, FeedsAny, FeedsWithin, Go, IsNumber, IsString}
+use Rattle.gj_json.proofs.Common.{Lands, Leaves, Level, List, Mode, NameDue, None, Null, Object, Option, Passed, Reader, Skips, Some, ValueDone}
 use Rattle.gj_json.proofs.Common.{What, above, after_move, ap, arith, awaits, closing_of, drop, event_at, false, get_or, inner_of, is_white, length}
 use Rattle.gj_json.proofs.Common.{letters_of, opening_of, outer_of, refl, subst, suc, sym, take-add, take_more, true, value_of, what_of, zero, ℕ, []}
 use Rattle.gj_json.proofs.Common.{◌++◌, ◌+◌, ◌-◌, ◌<◌, ◌∙◌, ◌∷◌, ◌≡◌, ◌≤◌}

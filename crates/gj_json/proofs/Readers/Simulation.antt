@@ -1,8 +1,8 @@
 -- What the reader keeps moves as the machine does.
-use Rattle.gj_json.proofs.Common.{Array, Bool, Class, Close, CloseArray, CloseObject, Colon, Comma, Constant, ConstantOn, Ending, False, FitsBroken}
+use Rattle.gj_json.proofs.Common.{Array, Bool, Class, Close, CloseArray, CloseObject, Colon, Comma, Constant, ConstantOn, Ending, FitsBroken}
 use Rattle.gj_json.proofs.Common.{FitsLeaf, FitsName, Go, LeafAs, Letter, Level, List, MarkOne, MarkTwo, Mode, Move, None, Null, NumberStart}
-use Rattle.gj_json.proofs.Common.{NumberTurn, Object, Open, OpenArray, OpenObject, Option, Other, Quote, Refuse, Some, StandsAs, StringStep, Tree}
-use Rattle.gj_json.proofs.Common.{True, Turns, ValueDone, ValueDue, Words, after_move, after_value, ap, arith, begin_value, constant, constant_move}
+use Rattle.gj_json.proofs.Common.{NumberTurn, Object, Open, OpenArray, OpenObject, Option, Quote, Refuse, Some, StandsAs, StringStep, Tree}
+use Rattle.gj_json.proofs.Common.{Turns, ValueDone, ValueDue, Words, after_move, after_value, ap, arith, begin_value, constant, constant_move}
 use Rattle.gj_json.proofs.Common.{depth, drop, element, end_of_array, end_of_object, false, get_or, if◌then◌else◌, inner_of, length, letters_after}
 use Rattle.gj_json.proofs.Common.{letters_of, levels_of, levels_with, mark_first, mark_second, mark_third, member, move_of, name_string_move}
 use Rattle.gj_json.proofs.Common.{nat_tests, number_move, opened, outer_of, refl, step, step_array_opened, step_colon_due, step_constant, step_leaf}

@@ -1,44 +1,58 @@
 -- Arrays of two or three numbers that stand at the start of a piece, each with a comma and another array after it.
-use Rattle.std.specs.Prelude.{◌≡◌, ℕ, ◌+◌, ◌-◌, ◌<◌, ◌≤◌, Bool, true, IsTrue, if◌then◌else◌, List, [], ◌∷◌, Option, IfSome, get_or, length, take, drop}
+use Rattle.std.specs.Prelude.{◌≡◌, ℕ, ◌+◌, ◌-◌, ◌<◌, ◌≤◌, ◌⊎◌, false, IsTrue, List, [], ◌∷◌, Option, IfSome, get_or, length, take, drop}
 use Rattle.std.specs.List.{AllByRecursion}
 use Rattle.std.specs.Option.{option_map_or, option_to_list}
 use mir.Val.{bool_byte}
-use Rattle.gj_json.specs.Bytes.{IsWhite, open_bracket, close_bracket, comma, space}
+use Rattle.gj_json.specs.Bytes.{IsWhite, open_bracket, close_bracket, comma, minus_sign}
 use Rattle.gj_json.specs.declared.flat.Flat.{Flat}
 use Rattle.gj_json.specs.declared.flat.Numbered.{Numbered}
 use Rattle.gj_json.specs.declared.cut_position.CutPosition.{CutPosition}
-use Rattle.gj_json.specs.declared.run_form.ArrayForm.{ArrayForm}
-use Rattle.gj_json.specs.declared.run_form.RunForm.{RunForm}
-use Rattle.gj_json.specs.declared.run_form.RunForm.TheVariants.{Near, Spread}
+use Rattle.gj_json.specs.declared.separators.Inner.{Inner}
+use Rattle.gj_json.specs.declared.separators.Outer.{Outer}
+use Rattle.gj_json.specs.declared.separators.Separators.{Separators}
 use Rattle.gj_json.specs.CutPosition.{IsCutPosition}
 use Rattle.gj_json.specs.Internal.FlatParts.{cut, IsMore}
 use Rattle.gj_json.specs.Internal.SpelledNumbers.{IsFlat}
 
--- how many bytes of white space stand after a comma
-abbrev pub near_gap : ArrayForm → ℕ
-near_gap form = bool_byte form.after_comma
+-- a comma and white space, and a minus sign if it is so
+pub record IsInner (inner : Inner) : Type 0 where
+  pub room : 1 + bool_byte inner.negative ≤ length inner.separator.bytes.now
+  pub comma : get_or inner.separator.bytes.now 0 0 ≡ comma
+  pub white : AllByRecursion IsWhite (cut inner.separator.bytes.now 1 (length inner.separator.bytes.now - bool_byte inner.negative))
+  pub sign : IsTrue inner.negative → get_or inner.separator.bytes.now (length inner.separator.bytes.now - 1) 0 ≡ minus_sign
 
-abbrev pub gap_of : RunForm → ℕ
-gap_of (Near form) = near_gap form
-gap_of (Spread form) = form.bracket_gap
+-- a closing bracket, a comma and an opening bracket, with white space around them, and a minus sign if it is so
+pub record IsOuter (outer : Outer) : Type 0 where
+  pub before : AllByRecursion IsWhite (cut outer.separator.bytes.now 0 outer.close)
+  pub bracket : get_or outer.separator.bytes.now outer.close 0 ≡ close_bracket
+  pub comma : get_or outer.separator.bytes.now (outer.close + 1) 0 ≡ comma
+  pub on : outer.close + 2 ≤ outer.open
+  pub between : AllByRecursion IsWhite (cut outer.separator.bytes.now (outer.close + 2) outer.open)
+  pub head : outer.head.bytes.now ≡ drop outer.open outer.separator.bytes.now
+  pub room : outer.open + 1 + bool_byte outer.negative ≤ length outer.separator.bytes.now
+  pub opens : get_or outer.head.bytes.now 0 0 ≡ open_bracket
+  pub white : AllByRecursion IsWhite (cut outer.head.bytes.now 1 (length outer.head.bytes.now - bool_byte outer.negative))
+  pub sign : IsTrue outer.negative → get_or outer.head.bytes.now (length outer.head.bytes.now - 1) 0 ≡ minus_sign
 
--- the other form is the same, but that the first two numbers of an array may be integers in it
-abbrev pub IsWithIntegers : RunForm → RunForm → Type 0
-IsWithIntegers (Near form) (Near other) =
-    (other.inside ≡ form.inside) × (other.after_comma ≡ form.after_comma) × (other.third ≡ form.third) × (other.integers ≡ true)
-IsWithIntegers (Spread form) (Spread other) =
-    (other.number_gap ≡ form.number_gap) × (other.bracket_gap ≡ form.bracket_gap) × (other.integers ≡ true)
-IsWithIntegers _ _ = ⊥
+pub record AreSeparators (separators : Separators) : Type 0 where
+  pub inner : IsInner separators.inner
+  pub third : IfSome separators.third (λ third. IsInner third × (third.negative ≡ false))
+  pub outer : IsOuter separators.outer
 
--- the byte after the second number
-abbrev pub second_ends_with : ArrayForm → ℕ
-second_ends_with form = if form.third then comma else if form.inside then space else close_bracket
+-- what stands between two numbers, and what stands after them, is sixteen bytes at most
+pub record AreFew (separators : Separators) : Type 0 where
+  pub inner : length separators.inner.separator.bytes.now ≤ 16
+  pub outer : length separators.outer.separator.bytes.now ≤ 16
 
--- A comma and a bracket stand at an index, with one space between them if it is so.
-pub record BeginsNext (piece : List ℕ) (at : ℕ) (spaced : Bool) : Type 0 where
-  pub comma : get_or piece at 0 ≡ comma
-  pub between : IsTrue spaced → get_or piece (at + 1) 0 ≡ space
-  pub bracket : get_or piece (at + 1 + bool_byte spaced) 0 ≡ open_bracket
+-- how many bytes of white space stand after a comma and before the next array
+abbrev pub gap_of : Separators → ℕ
+gap_of separators = separators.outer.open - separators.outer.close - 2
+
+-- how long a piece must be at the least for its position to be read
+abbrev pub room_of : Separators → ℕ
+room_of separators =
+    160 + length separators.outer.head.bytes.now + length separators.inner.separator.bytes.now
+    + option_map_or (λ third. length third.separator.bytes.now) separators.third 0 + length separators.outer.separator.bytes.now
 
 -- After the second number, which ends at an index, no number stands or one with at most seven places, and then the closing
 -- bracket at another index. The piece begins at the place `start`.
@@ -51,6 +65,17 @@ pub record ClosesAt (piece : List ℕ) (start end close : ℕ) : Type 0 where
   pub more : IsMore (option_to_list third) (start + close) (start + last) (cut piece last (close + 1))
   pub few : IfSome third (λ number. number.value.places ≤ 7)
   pub place : start ≤ option_map_or (λ number. number.place) third start
+
+-- After the second number, which ends at an index, no number stands or one as above, which ends at the other index.
+pub record EndsAt (piece : List ℕ) (at last : ℕ) : Type 0 where
+  pub on : at ≤ last
+  pub after : (last ≡ at) ⊎ (get_or piece at 0 ≡ comma)
+  pub closes : (start close : ℕ) → last ≤ close → close < length piece → AllByRecursion IsWhite (cut piece last close)
+      → get_or piece close 0 ≡ close_bracket → ClosesAt piece start at close
+
+-- the piece starts with what stands from a bracket up to the first digit
+abbrev pub HasHead : Separators → List ℕ → Type 0
+HasHead separators piece = cut piece 0 (length separators.outer.head.bytes.now) ≡ separators.outer.head.bytes.now
 
 -- The piece, which begins at the place `start`, starts with the array, a comma, so many bytes of white space and a bracket.
 pub record SpellsPosition (gap : ℕ) (position : CutPosition) (start : ℕ) (piece : List ℕ) : Type 0 where

@@ -1,7 +1,7 @@
 -- The beginnings of objects that are reported at once, as they are read.
-use Rattle.std.specs.Prelude.{◌≡◌, ℕ, ◌+◌, ◌≤◌, ◌<◌, List, [], ◌∷◌, ◌++◌, codes, get_or, length, take, drop}
+use Rattle.std.specs.Prelude.{◌≡◌, ℕ, zero, suc, ◌+◌, ◌≤◌, ◌<◌, List, [], ◌∷◌, ◌++◌, codes, get_or, length, take, drop}
 use Rattle.std.specs.List.{AllByRecursion}
-use Rattle.gj_json.specs.Bytes.{IsWhite, open_brace, close_brace, comma as comma_byte, colon, quote}
+use Rattle.gj_json.specs.Bytes.{IsWhite, space, open_brace, close_brace, comma as comma_byte, colon, quote}
 use Rattle.gj_json.specs.declared.flat.Flat.{Flat}
 use Rattle.gj_json.specs.declared.head.Located.{Located}
 use Rattle.gj_json.specs.declared.heads.UsualLocated.{UsualLocated}
@@ -11,6 +11,11 @@ use Rattle.gj_json.specs.Names.{word_of}
 use Rattle.gj_json.specs.Internal.FlatParts.{cut}
 use Rattle.gj_json.specs.Internal.SpelledNumbers.{IsFlat}
 use Rattle.gj_json.specs.Internal.WholeTokens.{IsQuoted}
+
+-- so many spaces
+abbrev pub spaces : ℕ → List ℕ
+spaces zero = []
+spaces (suc n) = space ∷ spaces n
 
 abbrev pub quoted : List ℕ → List ℕ
 quoted content = quote ∷ (content ++ quote ∷ [])
@@ -46,20 +51,6 @@ pub record IsFollowing (piece : List ℕ) (next : UsualNext) : Type 0 where
   pub after : next.close + 2 ≤ next.at
   pub white_after : AllByRecursion IsWhite (cut piece (next.close + 2) next.at)
   pub typed : IsTyped (drop next.at piece) next.typed.count next.typed.name_at next.typed.word_at next.typed.word
-
--- a member `geometry` up to its type, with such white space before the bracket, after it, and after the colon of the type
-abbrev pub before_type : List ℕ → List ℕ → List ℕ → List ℕ
-before_type before inside gap = named (codes "geometry") before ++ (open_brace ∷ (inside ++ named (codes "type") gap))
-
--- a piece starts with these bytes, so many, and the bracket stands at an index
-pub record ComesToType (piece : List ℕ) (bracket count : ℕ) (gap : List ℕ) : Type 0 where
-  pub before : List ℕ
-  pub inside : List ℕ
-  pub white_before : AllByRecursion IsWhite before
-  pub white_inside : AllByRecursion IsWhite inside
-  pub spelled : take count piece ≡ before_type before inside gap
-  pub bracket_place : bracket ≡ length (named (codes "geometry") before)
-  pub long : count ≡ length (before_type before inside gap)
 
 -- a piece starts with a member `geometry` that begins so and goes on by its coordinates
 pub record IsLocated (piece : List ℕ) (count bracket name_at word_at coordinates : ℕ) (word : Word) : Type 0 where

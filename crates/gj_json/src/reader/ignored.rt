@@ -22,7 +22,7 @@ impl Reader {
         ensures feeds { FeedsAny self.old self.new (take result piece.now) }
     {
         if piece[0] <= b' ' {
-            return self.take_gap(piece, &mut NoEvents);
+            return self.take_white(piece, &mut NoEvents);
         }
         match self.mode {
             Mode::ValueDue | Mode::ArrayOpened => {

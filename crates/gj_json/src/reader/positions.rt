@@ -8,9 +8,8 @@ ghost use Rattle.gj_json.specs.declared.levels.Level.TheVariants.{Array};
 use super::Reader;
 use crate::mode::Mode;
 use crate::positions::{MOST_POSITIONS, read_positions};
-use crate::run_form::RunForm;
+use crate::separators::Separators;
 use crate::sink::EventSink;
-use gj_number::Signs;
 
 /// After so many arrays, one after another, positions are looked for again where none was found.
 const MANY: u8 = 32;
@@ -24,17 +23,18 @@ pub(super) fn arrays_before_next(count: usize) -> u8 {
 impl Reader {
     ghost use Rattle.gj_json.specs.Internal.FedReader.{IsOpenFor};
     ghost use Rattle.gj_json.specs.Internal.FedReader.{FeedsAll};
+    ghost use Rattle.gj_json.specs.Internal.SpelledPositions.{AreSeparators};
 
-    /// Takes the positions at the start of the piece whose arrays have this form and whose numbers have these signs, each with a
-    /// comma and another array after it, as long as the sink takes them by their cut values: how many bytes.
+    /// Takes the positions at the start of the piece whose arrays have these separators, each with a comma and another array after
+    /// it, as long as the sink takes them by their cut values: how many bytes.
     #[inline(never)]
     pub(super) fn take_positions<S: EventSink>(
         &mut self,
         piece: &[u8],
-        signs: Signs,
-        form: RunForm,
+        separators: &Separators<'_>,
         sink: &mut S,
     ) -> usize
+        requires separators { AreSeparators separators.now }
         requires next { IsDueAt self.old.mode piece.now }
         requires takes { IsOpenFor self.old piece.now }
         requires deep { length (levels_in self.old.levels) < self.old.limits.depth }
@@ -47,13 +47,13 @@ impl Reader {
         let mut rest = piece;
         let mut taken = MOST_POSITIONS;
         while taken == MOST_POSITIONS {
-            let found = read_positions(rest, signs, form, self.offset, &mut self.positions);
+            let found = read_positions(rest, separators, self.offset, &mut self.positions);
             taken = sink.tell_positions(&self.positions[..found]);
             if taken == 0 {
                 return piece.len() - rest.len();
             }
             let last = self.positions[taken - 1];
-            let next = last.place + last.close_at as u64 + 2 + form.gap() as u64;
+            let next = last.place + last.close_at as u64 + 2 + separators.gap() as u64;
             let count = (next - self.offset) as usize;
             self.skip(count, Mode::ValueDue);
             rest = &rest[count..];

@@ -19,14 +19,13 @@ use super::Reader;
 use super::flats::is_due;
 use crate::constant::Constant;
 use crate::event::{Event, What};
-use crate::flats::{space_end, white_end};
+use crate::flats::white_end;
 use crate::lanes::white_run;
 use crate::levels::Level;
 use crate::mode::{Mode, Move};
 use crate::move_events::{closing, is_on, opening, what_of};
 use crate::moves::{after_value, opened_mode};
 use crate::names::{name_of, type_of};
-use crate::runs::is_between_tokens;
 use crate::sink::EventSink;
 use crate::tokens::{constant_run, plain_quoted_run, quoted_run};
 use crate::usual::{usual_name, usual_text};
@@ -41,9 +40,6 @@ fn colon_run(piece: &[u8]) -> usize
     ensures within { result ≤ length piece.now }
     ensures leads { 0 < result → Leads ColonDue (take result piece.now) ValueDue }
 {
-    if !piece.is_empty() && piece[0] == b':' {
-        return white_end(piece, 1);
-    }
     let white = white_run(piece);
     if white >= piece.len() || piece[white] != b':' {
         return 0;
@@ -226,7 +222,7 @@ impl Reader {
         if usual.count == 0 {
             return self.take_plain_name(piece, sink);
         }
-        let colon = space_end(&piece[usual.count..], 1);
+        let colon = white_end(&piece[usual.count..], 1);
         sink.tell(Event {
             place: self.offset,
             what: What::Name(usual.known),
@@ -513,21 +509,6 @@ impl Reader {
         }
     }
 
-    /// As `take_white`. Mostly it is one space before a token, as GDAL puts one inside each bracket.
-    #[inline(always)]
-    pub(super) fn take_gap<S: EventSink>(&mut self, piece: &[u8], sink: &mut S) -> usize
-        requires some { 0 < length piece.now }
-        requires takes { IsOpenFor self.old piece.now }
-        ensures within { result ≤ length piece.now }
-        ensures feeds { FeedsAll (S.heard sink.old) (S.heard sink.new) self.old self.new (take result piece.now) }
-        ensures any { FeedsAny self.old self.new (take result piece.now) }
-    {
-        if piece.len() > 1 && piece[1] > b' ' && piece[0] == b' ' && is_between_tokens(self.mode) {
-            return self.skip_space(piece);
-        }
-        self.take_white(piece, sink)
-    }
-
     /// Takes a token that is whole at the start of the piece, or the white space there: how many bytes, or 0 where there is
     /// none or no event matters to the sink.
     #[inline(always)]
@@ -538,7 +519,7 @@ impl Reader {
         ensures feeds { FeedsAll (S.heard sink.old) (S.heard sink.new) self.old self.new (take result piece.now) }
     {
         if piece[0] <= b' ' {
-            return self.take_gap(piece, sink);
+            return self.take_white(piece, sink);
         }
         match self.mode {
             Mode::ValueDone => self.take_ends(piece, sink),

@@ -1,6 +1,6 @@
 -- What the bytes that a literal stands for say of it.
-use Rattle.gj_number.proofs.Common.{AfterPoint, BeginsNumber, InExponent, InFraction, InNatural, IsDigit, IsNumber, List, None, Parts, Point, Reaches}
-use Rattle.gj_number.proofs.Common.{Scan, Some, Spells, State, arith, decimal_point, length, may_end_in, next_of, recursion_from_All, refl, signed}
+use Rattle.gj_number.proofs.Common.{BeginsNumber, InExponent, InFraction, InNatural, IsDigit, IsNumber, List, None, Parts, Reaches}
+use Rattle.gj_number.proofs.Common.{Scan, Some, Spells, State, length, may_end_in, next_of, recursion_from_All, refl, signed}
 use Rattle.gj_number.proofs.Common.{start, subst, sym, true, with_digit, ℕ, [], ◌++◌, ◌+◌, ◌<◌, ◌^◌, ◌↔◌, ◌∷◌, ◌≡◌}
 use Rattle.gj_number.specs.Value.{held_value, value_of}
 use Rattle.gj_number.specs.Internal.NumberMachine.{class_of}
@@ -9,7 +9,6 @@ use Rattle.gj_number.proofs.Grammar.RestsByState.{rest_is}
 use Rattle.gj_number.proofs.Grammar.SpelledParts.{parts_of}
 use Rattle.gj_number.proofs.Grammar.PartScans.{parts_reach, Says, at, natural_run, fraction_run, exponent_run}
 use Rattle.std.specs.List.{All, fold}
-use Rattle.gj_number.proofs.Grammar.ByteClasses.{class_is, digit_goes}
 use Rattle.gj_number.proofs.Grammar.FoundParts.{value_is, parts_digits}
 use Rattle.gj_number.proofs.Value.NormalForm.{number_bounded}
 

@@ -1,13 +1,10 @@
 -- The prefix of a piece that a literal takes.
-use Rattle.gj_number.proofs.Common.{BeginsNumber, List, Other, Reaches, Scan, Some, State, ap, append_assoc, decimal_point, drop, get_or, length}
-use Rattle.gj_number.proofs.Common.{next_of, start, subst, sym, take, take-add, take_more, take_rest, taken, ℕ, [], ◌++◌, ◌+◌, ◌-◌, ◌<◌, ◌∙◌, ◌∷◌}
+use Rattle.gj_number.proofs.Common.{BeginsNumber, List, ap, append_assoc, drop, get_or, length}
+use Rattle.gj_number.proofs.Common.{subst, sym, take, take-add, take_rest, ℕ, [], ◌++◌, ◌+◌, ◌-◌, ◌∙◌, ◌∷◌}
 use Rattle.gj_number.proofs.Common.{◌≡◌}
 use Rattle.gj_number.specs.Literal.{StandsFor}
 use Rattle.gj_number.specs.declared.literal.Literal.{Literal}
-use Rattle.gj_number.specs.Internal.NumberMachine.{class_of}
-use Rattle.gj_number.proofs.Shorts.PiecePrefixes.{first_is}
-use Rattle.gj_number.proofs.Grammar.ScanPaths.{reaches_one}
-use Rattle.gj_number.proofs.Literals.LiteralBytes.{begins, begins_none}
+use Rattle.gj_number.proofs.Literals.LiteralBytes.{begins}
 
 -- the bytes so far with one more of the piece
 pub one_more : (bytes piece : List ℕ) (i : ℕ) → take (i + 1) piece ≡ take i piece ++ get_or piece i 0 ∷ []

@@ -1,6 +1,6 @@
 -- The lanes from which a cut value is read.
 use Rattle.gj_number.proofs.Common.{Each1-chunk, Fits, List, after_point, ap, append-nil, arith, before_point, bit_and, cases_lt, cond, cut_in, false}
-use Rattle.gj_number.proofs.Common.{get_or, in_lanes, inl, inr, length, ltb, map, nat_tests, refl, replicate, rests_in, subst, suc, sym}
+use Rattle.gj_number.proofs.Common.{get_or, in_lanes, inl, inr, length, ltb, map, nat_tests, refl, rests_in, subst, suc, sym}
 use Rattle.gj_number.proofs.Common.{tops_compared, true, w8, zero, zip2, ℕ, [], ◌%◌, ◌*◌, ◌++◌, ◌+◌, ◌-◌, ◌<◌, ◌^◌, ◌||◌, ◌∙◌, ◌∷◌, ◌≡◌, ◌≤◌, ◌⊎◌}
 use Rattle.std.proofs.Common.{T}
 use mir.Val.{zeroes}
@@ -15,93 +15,48 @@ use Rattle.gj_number.proofs.Shorts.SixteenLanes.{Below, below_at, every_each}
 
 -- ---- where the digits are placed
 
-pub placed_ok : (at : ℕ) → at ≤ 1008 → SwzOk w8 16 16 0 (chunk 0 16 (chunk at (1024 - at) PLACED))
+pub placed_ok : (at : ℕ) → at ≤ 752 → SwzOk w8 16 16 0 (chunk 0 16 (chunk at (768 - at) PLACED))
 placed_ok at h =
     let P : ℕ → Type 0 = λ j. T (zeroes 16 w8 j || ltb j 16) in
     let all : Each1 P PLACED = every_each (λ j. zeroes 16 w8 j || ltb j 16) PLACED tt in
-    let rest = Each1-chunk P at (1024 - at) PLACED all in
-    let long : length (chunk 0 16 (chunk at (1024 - at) PLACED)) ≡ 16 = length-chunk 0 16 _ (omega (arith, length-chunk at (1024 - at) PLACED (omega arith))) in
+    let rest = Each1-chunk P at (768 - at) PLACED all in
+    let long : length (chunk 0 16 (chunk at (768 - at) PLACED)) ≡ 16 = length-chunk 0 16 _ (omega (arith, length-chunk at (768 - at) PLACED (omega arith))) in
     SwzOk-from_Each1 w8 16 1 16 0 _ refl (omega arith) (Each1-chunk P 0 16 _ rest)
 
 -- what a row of the table makes of the lanes
 abbrev pub placed : List ℕ → ℕ → ℕ → List ℕ
-placed xs n f = swz_l w8 16 xs 0 (chunk 0 16 (chunk (256 * n + 16 * f) (1024 - (256 * n + 16 * f)) PLACED))
+placed xs n f = swz_l w8 16 xs 0 (chunk 0 16 (chunk (256 * (n - 1) + 16 * f) (768 - (256 * (n - 1) + 16 * f)) PLACED))
 
 abbrev pub IsPlaced : List ℕ → ℕ → ℕ → Type 0
 IsPlaced xs n f = placed xs n f ≡ in_lanes (before_point n xs) (after_point n f xs)
 
-placed_one : (xs : List ℕ) → length xs ≡ 16 → (f : ℕ) → 0 < f → f < 16 → IsPlaced xs 1 f
-placed_one (a ∷ b ∷ c ∷ d ∷ e ∷ f ∷ g ∷ h ∷ p ∷ q ∷ r ∷ s ∷ t ∷ u ∷ v ∷ w ∷ []) len f' some few =
+placed_one : (xs : List ℕ) → length xs ≡ 16 → (f : ℕ) → f < 16 → IsPlaced xs 1 f
+placed_one (a ∷ b ∷ c ∷ d ∷ e ∷ f ∷ g ∷ h ∷ p ∷ q ∷ r ∷ s ∷ t ∷ u ∷ v ∷ w ∷ []) len f' few =
     let xs : List ℕ = a ∷ b ∷ c ∷ d ∷ e ∷ f ∷ g ∷ h ∷ p ∷ q ∷ r ∷ s ∷ t ∷ u ∷ v ∷ w ∷ [] in
-    let eight : Below (λ g. 0 < g → IsPlaced xs 1 g) 8 =
-    ((((((((tt, λ z. absurd (omega arith)), λ _. refl), λ _. refl), λ _. refl), λ _. refl), λ _. refl), λ _. refl), λ _. refl) in
-    let all : Below (λ g. 0 < g → IsPlaced xs 1 g) 16 =
-    ((((((((eight, λ _. refl), λ _. refl), λ _. refl), λ _. refl), λ _. refl), λ _. refl), λ _. refl), λ _. refl) in
-    below_at (λ g. 0 < g → IsPlaced xs 1 g) 16 f' all few some
-placed_one _ len f' some few = absurd (omega arith)
+    let all : Below (IsPlaced xs 1) 16 = ((((((((((((((((tt, refl), refl), refl), refl), refl), refl), refl), refl), refl), refl), refl), refl), refl), refl), refl), refl) in
+    below_at (IsPlaced xs 1) 16 f' all few
+placed_one _ len f' few = absurd (omega arith)
 
-placed_two : (xs : List ℕ) → length xs ≡ 16 → (f : ℕ) → 0 < f → f < 16 → IsPlaced xs 2 f
-placed_two (a ∷ b ∷ c ∷ d ∷ e ∷ f ∷ g ∷ h ∷ p ∷ q ∷ r ∷ s ∷ t ∷ u ∷ v ∷ w ∷ []) len f' some few =
+placed_two : (xs : List ℕ) → length xs ≡ 16 → (f : ℕ) → f < 16 → IsPlaced xs 2 f
+placed_two (a ∷ b ∷ c ∷ d ∷ e ∷ f ∷ g ∷ h ∷ p ∷ q ∷ r ∷ s ∷ t ∷ u ∷ v ∷ w ∷ []) len f' few =
     let xs : List ℕ = a ∷ b ∷ c ∷ d ∷ e ∷ f ∷ g ∷ h ∷ p ∷ q ∷ r ∷ s ∷ t ∷ u ∷ v ∷ w ∷ [] in
-    let eight : Below (λ g. 0 < g → IsPlaced xs 2 g) 8 =
-    ((((((((tt, λ z. absurd (omega arith)), λ _. refl), λ _. refl), λ _. refl), λ _. refl), λ _. refl), λ _. refl), λ _. refl) in
-    let all : Below (λ g. 0 < g → IsPlaced xs 2 g) 16 =
-    ((((((((eight, λ _. refl), λ _. refl), λ _. refl), λ _. refl), λ _. refl), λ _. refl), λ _. refl), λ _. refl) in
-    below_at (λ g. 0 < g → IsPlaced xs 2 g) 16 f' all few some
-placed_two _ len f' some few = absurd (omega arith)
+    let all : Below (IsPlaced xs 2) 16 = ((((((((((((((((tt, refl), refl), refl), refl), refl), refl), refl), refl), refl), refl), refl), refl), refl), refl), refl), refl) in
+    below_at (IsPlaced xs 2) 16 f' all few
+placed_two _ len f' few = absurd (omega arith)
 
-placed_three : (xs : List ℕ) → length xs ≡ 16 → (f : ℕ) → 0 < f → f < 16 → IsPlaced xs 3 f
-placed_three (a ∷ b ∷ c ∷ d ∷ e ∷ f ∷ g ∷ h ∷ p ∷ q ∷ r ∷ s ∷ t ∷ u ∷ v ∷ w ∷ []) len f' some few =
+placed_three : (xs : List ℕ) → length xs ≡ 16 → (f : ℕ) → f < 16 → IsPlaced xs 3 f
+placed_three (a ∷ b ∷ c ∷ d ∷ e ∷ f ∷ g ∷ h ∷ p ∷ q ∷ r ∷ s ∷ t ∷ u ∷ v ∷ w ∷ []) len f' few =
     let xs : List ℕ = a ∷ b ∷ c ∷ d ∷ e ∷ f ∷ g ∷ h ∷ p ∷ q ∷ r ∷ s ∷ t ∷ u ∷ v ∷ w ∷ [] in
-    let eight : Below (λ g. 0 < g → IsPlaced xs 3 g) 8 =
-    ((((((((tt, λ z. absurd (omega arith)), λ _. refl), λ _. refl), λ _. refl), λ _. refl), λ _. refl), λ _. refl), λ _. refl) in
-    let all : Below (λ g. 0 < g → IsPlaced xs 3 g) 16 =
-    ((((((((eight, λ _. refl), λ _. refl), λ _. refl), λ _. refl), λ _. refl), λ _. refl), λ _. refl), λ _. refl) in
-    below_at (λ g. 0 < g → IsPlaced xs 3 g) 16 f' all few some
-placed_three _ len f' some few = absurd (omega arith)
+    let all : Below (IsPlaced xs 3) 16 = ((((((((((((((((tt, refl), refl), refl), refl), refl), refl), refl), refl), refl), refl), refl), refl), refl), refl), refl), refl) in
+    below_at (IsPlaced xs 3) 16 f' all few
+placed_three _ len f' few = absurd (omega arith)
 
-pub placed_is : (xs : List ℕ) → length xs ≡ 16 → (n f : ℕ) → 0 < n → n ≤ 3 → 0 < f → f ≤ 15 → IsPlaced xs n f
-placed_is xs len zero f some few more within = absurd (omega arith)
-placed_is xs len (suc zero) f some few more within = placed_one xs len f more (omega arith)
-placed_is xs len (suc (suc zero)) f some few more within = placed_two xs len f more (omega arith)
-placed_is xs len (suc (suc (suc zero))) f some few more within = placed_three xs len f more (omega arith)
-placed_is xs len (suc (suc (suc (suc n)))) f some few more within = absurd (omega arith)
-
--- a row of one to three digits without a point
-pub integer_is : (xs : List ℕ) → length xs ≡ 16 → (f : ℕ) → 0 < f → f ≤ 3 → placed xs 0 f ≡ in_lanes (before_point f xs) (after_point f 0 xs)
-integer_is (a ∷ b ∷ c ∷ d ∷ e ∷ f ∷ g ∷ h ∷ p ∷ q ∷ r ∷ s ∷ t ∷ u ∷ v ∷ w ∷ []) len f' some few =
-    let xs : List ℕ = a ∷ b ∷ c ∷ d ∷ e ∷ f ∷ g ∷ h ∷ p ∷ q ∷ r ∷ s ∷ t ∷ u ∷ v ∷ w ∷ [] in
-    let IsIn : ℕ → Type 0 = λ k. placed xs 0 k ≡ in_lanes (before_point k xs) (after_point k 0 xs) in
-    let all : Below (λ k. 0 < k → IsIn k) 4 = ((((tt, λ z. absurd (omega arith)), λ _. refl), λ _. refl), λ _. refl) in
-    below_at (λ k. 0 < k → IsIn k) 4 f' all (omega arith) some
-integer_is _ len f' some few = absurd (omega arith)
-
--- the row of no digits has the point
-abbrev HasPoint : List ℕ → ℕ → ℕ → Type 0
-HasPoint xs n f = get_or (placed xs n f) 4 0 ≡ get_or xs n 0
-
-no_digit_after : (xs : List ℕ) → length xs ≡ 16 → (n : ℕ) → n < 4 → HasPoint xs n 0
-no_digit_after (a ∷ b ∷ c ∷ d ∷ e ∷ f ∷ g ∷ h ∷ p ∷ q ∷ r ∷ s ∷ t ∷ u ∷ v ∷ w ∷ []) len n few =
-    let xs : List ℕ = a ∷ b ∷ c ∷ d ∷ e ∷ f ∷ g ∷ h ∷ p ∷ q ∷ r ∷ s ∷ t ∷ u ∷ v ∷ w ∷ [] in
-    let all : Below (λ m. HasPoint xs m 0) 4 = ((((tt, refl), refl), refl), refl) in
-    below_at (λ m. HasPoint xs m 0) 4 n all few
-no_digit_after _ len n few = absurd (omega arith)
-
-fifth_small : (xs : List ℕ) → Each1 (λ x. x < 10) xs → get_or xs 4 0 < 10
-fifth_small [] h = omega arith
-fifth_small (_ ∷ []) h = omega arith
-fifth_small (_ ∷ _ ∷ []) h = omega arith
-fifth_small (_ ∷ _ ∷ _ ∷ []) h = omega arith
-fifth_small (_ ∷ _ ∷ _ ∷ _ ∷ []) h = omega arith
-fifth_small (_ ∷ _ ∷ _ ∷ _ ∷ x ∷ xs) h = h.1.1.1.1.0
-
--- where the byte at the point is no digit, there are digits before it and after it
-pub digits_there : (xs : List ℕ) → length xs ≡ 16 → (n f : ℕ) → 0 < n → n ≤ 3 → 10 ≤ get_or xs n 0 → Each1 (λ x. x < 10) (placed xs n f) → 0 < f
-digits_there xs len n zero some few point h =
-    let e = no_digit_after xs len n (omega arith) in
-    let l = fifth_small (placed xs n 0) h in
-    absurd (omega arith)
-digits_there xs len n (suc f) some few point h = omega arith
+pub placed_is : (xs : List ℕ) → length xs ≡ 16 → (n f : ℕ) → 0 < n → n ≤ 3 → f ≤ 15 → IsPlaced xs n f
+placed_is xs len zero f some few within = absurd (omega arith)
+placed_is xs len (suc zero) f some few within = placed_one xs len f (omega arith)
+placed_is xs len (suc (suc zero)) f some few within = placed_two xs len f (omega arith)
+placed_is xs len (suc (suc (suc zero))) f some few within = placed_three xs len f (omega arith)
+placed_is xs len (suc (suc (suc (suc n)))) f some few within = absurd (omega arith)
 
 -- ---- their numbers by three and three
 
@@ -229,21 +184,6 @@ less_tells x y = elim (cases_lt x y) [
   | inr l ↦ (let e : ltb x y ≡ false = grind (arith, nat_tests) in inr (e, l))
 ]
 
-both_small : (xs ys : List ℕ) → length xs ≡ length ys → Each1 (λ x. x < 10) (greater xs ys) → Each1 (λ x. x < 10) xs × Each1 (λ x. x < 10) ys
-both_small [] [] len h = (tt, tt)
-both_small (x ∷ xs) (y ∷ ys) len h =
-    let rest = both_small xs ys (omega arith) h.1 in
-    let first : (x < 10) × (y < 10) = elim (less_tells x y) [
-      | inl t ↦ (let l = rw (t.0) at h.0 in let m = t.1 in (omega arith, omega arith))
-      | inr t ↦ (let l = rw (t.0) at h.0 in let m = t.1 in (omega arith, omega arith))
-    ] in
-    ((first.0, rest.0), (first.1, rest.1))
-both_small other another len h = absurd (omega arith)
-
-pub digits_in_both : (xs ys : List ℕ) → length xs ≡ 16 → length ys ≡ 16 → Each1 (λ x. x < 10) (greater xs ys)
-    → Each1 (λ x. x < 10) xs × Each1 (λ x. x < 10) ys
-digits_in_both xs ys len more h = both_small xs ys (len ∙ sym more) h
-
 both_zero : (xs ys : List ℕ) (k : ℕ) → length xs ≡ length ys → get_or (greater xs ys) k 0 ≡ 0 → (get_or xs k 0 ≡ 0) × (get_or ys k 0 ≡ 0)
 both_zero [] [] k len e = (e, e)
 both_zero (x ∷ xs) (y ∷ ys) zero len e = elim (less_tells x y) [
@@ -264,47 +204,6 @@ rests_in_both xs ys len more h =
     let e = both_zero xs ys 14 same h.1.1.1.1.0 in
     let f = both_zero xs ys 15 same h.1.1.1.1.1.0 in
     ((a.0, (b.0, (c.0, (d.0, (e.0, (f.0, tt)))))), (a.1, (b.1, (c.1, (d.1, (e.1, (f.1, tt)))))))
-
-pub all_below_ten : (xs ys : List ℕ) → length xs ≡ length ys → Each1 (λ x. x < 10) xs → Each1 (λ x. x < 10) ys → Each1 (λ x. x < 10) (greater xs ys)
-all_below_ten [] [] len h k = tt
-all_below_ten (x ∷ xs) (y ∷ ys) len h k =
-    let rest = all_below_ten xs ys (omega arith) h.1 k.1 in
-    let a = h.0 in
-    let b = k.0 in
-    elim (less_tells x y) [
-      | inl t ↦ rw (t.0) (b, rest)
-      | inr t ↦ rw (t.0) (a, rest)
-    ]
-all_below_ten other another len h k = absurd (omega arith)
-
--- ---- lanes above nine
-
-abbrev pub less_nine : ℕ → ℕ → ℕ
-less_nine a b = (a + (256 - b)) % 256
-
-pub nine_only : (xs : List ℕ) (n : ℕ) → length xs ≡ n → Each1 (Fits w8) xs
-    → Each1 (λ x. x ≡ 0) (zip2 less_nine xs (sel_l (zip2 ltb xs (replicate n 9)) xs (replicate n 9))) → Each1 (λ x. x < 10) xs
-nine_only [] n len fits z = tt
-nine_only (x ∷ xs) zero len fits z = absurd (omega arith)
-nine_only (x ∷ xs) (suc n) len fits z =
-    let small = fits.0.fits in
-    let rest = nine_only xs n (omega arith) fits.1 z.1 in
-    elim (less_tells x 9) [
-      | inl t ↦ (let l = t.1 in omega arith, rest)
-      | inr t ↦ (let e = rw (t.0) at z.0 in let m = t.1 in omega arith, rest)
-    ]
-
-pub nine_off : (xs : List ℕ) (n : ℕ) → length xs ≡ n → Each1 (λ x. x < 10) xs
-    → Each1 (λ x. x ≡ 0) (zip2 less_nine xs (sel_l (zip2 ltb xs (replicate n 9)) xs (replicate n 9)))
-nine_off [] n len h = tt
-nine_off (x ∷ xs) zero len h = absurd (omega arith)
-nine_off (x ∷ xs) (suc n) len h =
-    let rest = nine_off xs n (omega arith) h.1 in
-    let l = h.0 in
-    elim (less_tells x 9) [
-      | inl t ↦ (rw (t.0) (omega arith), rest)
-      | inr t ↦ (let m = t.1 in rw (t.0) (omega arith), rest)
-    ]
 
 -- ---- lanes that are all zero
 

@@ -1,31 +1,21 @@
 -- A number as its cut value, from where it stands and its lanes.
-use Rattle.gj_number.proofs.Common.{Bool, Bracket, Comma, Fits, IsDigit, IsSpan, IsUsualSpan, List, Other, Some, Space, Span, SpellsOn, SpellsPlain}
-use Rattle.gj_number.proofs.Common.{StartsSigned, StartsWithNumber, after_point, ap, append-nil, arith, before_point, bool_byte, cut_in}
-use Rattle.gj_number.proofs.Common.{cut_magnitude, decimal_point, drop, drop-drop, false, fold-append, get_or, get_or-drop, in_lanes, inl, inr}
-use Rattle.gj_number.proofs.Common.{lane_of, length, length-drop, limited_cut, map, number_of, refl, rests_in, signed, subst, sym, take, take_rest}
-use Rattle.gj_number.proofs.Common.{true, w8, with_digit, zero_digit, ℕ, ℤ, [], ◌++◌, ◌+◌, ◌-◌, ◌<◌, ◌^◌, ◌∙◌, ◌≡◌, ◌≤◌}
+use Rattle.gj_number.proofs.Common.{Bool, Class, Fits, IsDigit, IsNumberByte, IsSpan, Letter, Minus, NonZero, Plus, Point, Zero}
+use Rattle.gj_number.proofs.Common.{List, Other, Some, Span, SpellsOn, SpellsPlain, StartsSigned, StartsWithNumber}
+use Rattle.gj_number.proofs.Common.{after_point, ap, append-nil, arith, before_point, bool_byte, cut_in, cut_magnitude, decimal_point, drop, drop-drop}
+use Rattle.gj_number.proofs.Common.{false, fold-append, get_or, get_or-drop, in_lanes, inl, inr, lane_of, length, length-drop, limited_cut, map, number_of}
+use Rattle.gj_number.proofs.Common.{refl, rests_in, signed, subst, sym, take, take_rest, true, w8, with_digit, zero_digit, ℕ, ℤ, [], ◌++◌, ◌+◌, ◌-◌, ◌<◌}
+use Rattle.gj_number.proofs.Common.{◌^◌, ◌∙◌, ◌≡◌, ◌≤◌}
 use Rattle.std.proofs.Common.{All}
 use lib.Lanes.{Each1}
-use Rattle.gj_number.specs.Bytes.{line_feed}
-use Rattle.gj_number.specs.Cuts.{byte_after}
+use Rattle.gj_number.specs.Cuts.{HasCut}
 use Rattle.gj_number.specs.Short.{short_value}
-use Rattle.gj_number.specs.Internal.CutLanes.{HasCut, IsUnsignedSpan, IsWhole}
 use Rattle.gj_number.specs.Internal.NumberMachine.{class_of}
-use Rattle.gj_number.specs.declared.short.cuts.After.{After}
-use Rattle.gj_number.proofs.Shorts.NumberPairs.{comma_other, bracket_other, space_other}
+use Rattle.gj_number.proofs.Grammar.ByteClasses.{number_byte}
 use Rattle.gj_number.proofs.Shorts.CutPlaces.{natural_digits, fraction_digits, lanes_small, whole, whole_small, cut_is, precise_found}
 use Rattle.gj_number.proofs.Shorts.NumberPrefixes.{sign_length, sign_at, one_of, point_plain, whole_plain}
+use Rattle.gj_number.proofs.Shorts.RunEnds.{digit_at}
 use Rattle.gj_number.proofs.Shorts.ShortDecimals.{cut_some}
 use Rattle.gj_number.proofs.Shorts.WrittenExponents.{plain_front}
-
-pub line_feed_other : class_of line_feed ≡ Other
-unfolding class_of
-line_feed_other = refl
-
-pub after_other : (after : After) → class_of (byte_after after) ≡ Other
-after_other Comma = comma_other
-after_other Bracket = bracket_other
-after_other Space = space_other
 
 -- ---- from the first digit of a number on
 
@@ -50,15 +40,15 @@ module _ (piece : List ℕ) (fits : (k : ℕ) → Fits w8 (get_or piece k 0)) (f
       let P : List ℕ → Type 0 = λ xs. Each1 (λ x. x < 10) xs in
       subst P (sym there) (lanes_small digits digits_fit n f some few few_after digits_long natural fraction)
 
-  module _ (small : Each1 (λ x. x < 10) lanes) (end : ℕ) (precise : Bool) (w : IsWhole piece f end precise) (after : 12 < f → end ≡ first + n + 1 + f) where
+  module _ (natural : All IsDigit (take n (drop first piece))) (fraction : All IsDigit (take f (drop (n + 1) (drop first piece)))) (end : ℕ)
+      (precise : Bool) (judged : 12 < f → precise ≡ true) where
     pub lanes_are_small : Each1 (λ x. x < 10) (in_lanes (before_point n (map lane_of (take 16 digits))) (after_point n f (map lane_of (take 16 digits))))
-    lanes_are_small = let P : List ℕ → Type 0 = λ xs. Each1 (λ x. x < 10) xs in subst P there small
+    lanes_are_small = lanes_small digits digits_fit n f some few few_after digits_long natural fraction
 
     pub last : 12 < f → (i : ℕ) → 12 ≤ i → i < f → IsDigit (get_or digits (n + 1 + i) 0)
     last many i from to =
-        let e = after many in
         let P : ℕ → Type 0 = λ x. IsDigit x in
-        subst P (sym (get_or-drop first piece (n + 1 + i) 0)) (w.last many (first + (n + 1 + i)) (omega arith) (omega arith))
+        subst P (get_or-drop (n + 1) digits i 0) (digit_at (drop (n + 1) digits) f i to (omega (arith, length-drop (n + 1) digits, digits_long)) fraction)
 
     abbrev all : ℕ
     all = whole digits digits_fit n f some few few_after digits_long lanes_are_small last
@@ -142,80 +132,57 @@ module _ (piece : List ℕ) (fits : (k : ℕ) → Fits w8 (get_or piece k 0)) (f
               value = sym (cut_some negative all f (cut_in lanes) all_small cut) ∙ ap Some value_is;
               precise =
                   precise_found digits digits_fit n f some few few_after digits_long lanes_are_small last negative precise
-                  (λ t z. found t (subst Q (sym there) z)) (λ t. subst Q there (none t)) w.other;
+                  (λ t z. found t (subst Q (sym there) z)) (λ t. subst Q there (none t)) judged;
             };
           }
 
 -- ---- a number in its span
 
-module _ (piece : List ℕ) (fits : (k : ℕ) → Fits w8 (get_or piece k 0)) (span : Span) (end : ℕ) (b : IsUnsignedSpan piece span end) (lanes : List ℕ) where
-  abbrev rest : List ℕ
-  rest = take (length piece - span.first) (drop span.first piece)
+other_if : (c : Class) → ((c ≡ Other → ⊥) → ⊥) → c ≡ Other
+other_if Other h = refl
+other_if Minus h = absurd (h (λ e. cc))
+other_if Plus h = absurd (h (λ e. cc))
+other_if Point h = absurd (h (λ e. cc))
+other_if Letter h = absurd (h (λ e. cc))
+other_if Zero h = absurd (h (λ e. cc))
+other_if NonZero h = absurd (h (λ e. cc))
 
-  abbrev ArePlaced : ℕ → ℕ → Type 0
-  ArePlaced n f = lanes ≡ in_lanes (before_point n (map lane_of (take 16 rest))) (after_point n f (map lane_of (take 16 rest)))
+module _ (piece : List ℕ) (fits : (k : ℕ) → Fits w8 (get_or piece k 0)) (span : Span) (s : IsSpan piece span) (lanes : List ℕ)
+    (placed : lanes ≡ in_lanes (before_point span.natural (map lane_of (take 16 (take (length piece - span.first) (drop span.first piece)))))
+    (after_point span.natural span.fraction (map lane_of (take 16 (take (length piece - span.first) (drop span.first piece)))))) where
+  pub span_small : Each1 (λ x. x < 10) lanes
+  span_small =
+      digits_small piece fits span.first span.natural span.fraction s.some s.few s.few_after s.room lanes placed s.natural_digits s.fraction_digits
 
-  module _ (placed : 0 < span.natural → 0 < span.fraction → ArePlaced span.natural span.fraction)
-      (integer : span.natural ≡ 0 → 0 < span.fraction → span.fraction ≤ 3 → ArePlaced span.fraction 0) where
-    pub usual_small : IsUsualSpan piece span → Each1 (λ x. x < 10) lanes
-    usual_small u = elim u.digits [
-      | inl p ↦
-          let few = u.few in
-          digits_small piece fits span.first span.natural span.fraction p.some p.few (omega arith) b.room lanes (placed p.some p.some_more) p.digits.digits
-          p.more.digits
-      | inr p ↦
-          digits_small piece fits span.first span.fraction 0 p.1 p.2 (omega arith) b.room lanes (integer p.0 p.1 p.2) p.3.digits (λ k d h. absurd (omega arith))
-    ]
-
-    module _ (has_digits : 0 < span.natural → get_or rest span.natural 0 ≡ decimal_point → Each1 (λ x. x < 10) lanes → 0 < span.fraction)
-        (small : Each1 (λ x. x < 10) lanes) (at : ℕ) (negative : Bool) (behind : ℕ) (s : IsSpan piece at negative span end behind)
-        (other : class_of behind ≡ Other) (precise : Bool) (w : IsWhole piece span.fraction end precise)
-        (found : precise ≡ true → Each1 (λ x. x ≡ 0) (rests_in lanes) → ⊥) (none : precise ≡ false → Each1 (λ x. x ≡ 0) (rests_in lanes))
-        (value : ℤ) (value_is : signed negative (cut_in lanes) ≡ value) where
-      ended : class_of (get_or piece end 0) ≡ Other
-      ended = ap class_of s.ends ∙ other
-
-      pub cut_there : HasCut piece at end (record { value = value; precise = precise })
-      cut_there = elim b.parts [
-        | inl p ↦
-            let first = span.first in
-            let n = span.natural in
-            let f = span.fraction in
-            let few = p.few in
-            let few_after = p.few_after in
-            let e = p.end_is in
-            let k = s.first_is in
-            let sign_few = sign_length negative in
-            let some_after : 0 < f =
-            has_digits p.some (ap (λ xs. get_or xs n 0) (take_rest piece first) ∙ get_or-drop first piece n 0 ∙ p.point) small in
-            let after : 12 < f → end ≡ first + n + 1 + f = λ _. e in
-            let plain =
-            pointed_plain piece fits first n f p.some few few_after b.room lanes (placed p.some some_after) small end precise w after at negative s.sign
-            s.first_is p.one p.point some_after in
-            number_is piece fits first n f p.some few few_after b.room lanes (placed p.some some_after) small end precise w after at negative s.sign
-            s.first_is p.one (bool_byte negative + n + 1 + f) plain (omega arith) (omega arith) ended found none value value_is
-        | inr p ↦
-            let first = span.first in
-            let n = span.fraction in
-            let few = p.few in
-            let e = p.end_is in
-            let k = s.first_is in
-            let sign_few = sign_length negative in
-            let few_after : 0 ≤ 15 = omega arith in
-            let is = integer p.none p.some few in
-            let after : 12 < 0 → end ≡ first + n + 1 + 0 = λ z. absurd (omega arith) in
-            let judged : IsWhole piece 0 end precise = record { other = λ z. absurd (omega arith); last = λ z. absurd (omega arith) } in
-            let plain =
-            integer_plain piece fits first n 0 p.some few few_after b.room lanes is small end precise judged after at negative s.sign s.first_is p.one refl in
-            number_is piece fits first n 0 p.some few few_after b.room lanes is small end precise judged after at negative s.sign s.first_is p.one
-            (bool_byte negative + n) plain (omega arith) (omega arith) ended found none value value_is
-      ]
-
--- ---- in a piece
-
--- it ends after the place where it begins
-pub span_on : (piece : List ℕ) (at : ℕ) (negative : Bool) (span : Span) (end behind : ℕ) → IsSpan piece at negative span end behind → at < end
-span_on piece at negative span end behind s = elim s.bytes.parts [
-  | inl p ↦ (let e = p.end_is in let k = s.first_is in omega arith)
-  | inr p ↦ (let e = p.end_is in let some = p.some in let k = s.first_is in omega arith)
-]
+  module _ (at : ℕ) (negative : Bool) (sign : StartsSigned (drop at piece) negative) (first_is : span.first ≡ at + bool_byte negative)
+      (behind : IsNumberByte (get_or piece span.end 0) → ⊥) (precise : Bool) (judged : 12 < span.fraction → precise ≡ true)
+      (found : precise ≡ true → Each1 (λ x. x ≡ 0) (rests_in lanes) → ⊥) (none : precise ≡ false → Each1 (λ x. x ≡ 0) (rests_in lanes))
+      (value : ℤ) (value_is : signed negative (cut_in lanes) ≡ value) where
+    pub cut_there : HasCut piece at span.end (record { value = value; precise = precise })
+    cut_there =
+        let first = span.first in
+        let n = span.natural in
+        let f = span.fraction in
+        let few = s.few in
+        let few_after = s.few_after in
+        let sign_few = sign_length negative in
+        let other = other_if (class_of (get_or piece span.end 0)) (λ n. behind (number_byte (get_or piece span.end 0) n)) in
+        elim s.shape [
+          | inl p ↦
+              let e = p.1 in
+              let plain =
+              integer_plain piece fits first n f s.some few few_after s.room lanes placed s.natural_digits s.fraction_digits span.end precise judged at negative
+              sign first_is s.one p.0 in
+              let P : ℕ → Type 0 = λ k. SpellsPlain (drop at piece) negative
+              (all piece fits first n f s.some few few_after s.room lanes placed s.natural_digits s.fraction_digits span.end precise judged) k
+              (bool_byte negative + n) in
+              number_is piece fits first n f s.some few few_after s.room lanes placed s.natural_digits s.fraction_digits span.end precise judged at negative
+              sign first_is s.one (bool_byte negative + n) (subst P (sym p.0) plain) (omega arith) (omega arith) other found none value value_is
+          | inr p ↦
+              let e = p.2 in
+              let plain =
+              pointed_plain piece fits first n f s.some few few_after s.room lanes placed s.natural_digits s.fraction_digits span.end precise judged at negative
+              sign first_is s.one p.1 p.0 in
+              number_is piece fits first n f s.some few few_after s.room lanes placed s.natural_digits s.fraction_digits span.end precise judged at negative
+              sign first_is s.one (bool_byte negative + n + 1 + f) plain (omega arith) (omega arith) other found none value value_is
+        ]

@@ -14,10 +14,6 @@ pub bracket_other : class_of close_bracket ≡ Other
 unfolding class_of
 bracket_other = refl
 
-pub space_other : class_of space ≡ Other
-unfolding class_of
-space_other = refl
-
 -- one space, or none
 space_or_none : (b k : ℕ) (t : Bool) → (b == space) ≡ t → (k + 1 + bool_byte t ≡ k + 1) ⊎ ((k + 1 + bool_byte t ≡ k + 2) × (b ≡ space))
 space_or_none b k false e = inl (omega arith)

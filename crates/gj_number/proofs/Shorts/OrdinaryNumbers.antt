@@ -145,19 +145,6 @@ laid_length piece negative n s o some =
     elim x.spells_fraction [ inl h ↦ absurd (omega (arith, ap length h.1)) | inr h ↦ (ap length h.0 ∙ omega arith) ] in
     omega (arith, laid_size piece negative n s o)
 
-pub pointed_after : (fraction after : List ℕ) → SpellsFraction fraction after → 0 < length fraction → (after ≡ decimal_point ∷ fraction) × IsDigits fraction
-pointed_after fraction after f some = elim f [ inl h ↦ absurd (omega (arith, ap length h.1)) | inr h ↦ h ]
-
--- without one
-pub no_fraction : (fraction after : List ℕ) → SpellsFraction fraction after → length fraction ≡ 0 → after ≡ []
-no_fraction fraction after f none = elim f [ inl h ↦ h.0 | inr h ↦ absurd (omega (arith, some_digits fraction h.1)) ]
-
-pub integer_length : (piece : List ℕ) (negative : Bool) (n : ℕ) → StartsSigned piece negative → (o : StartsOrdinary piece n)
-    → length o.ordinary.fraction ≡ 0 → n ≡ bool_byte negative + length o.ordinary.natural
-integer_length piece negative n s o none =
-    let x = o.ordinary in
-    omega (arith, laid_size piece negative n s o, ap length (no_fraction x.fraction x.after_natural x.spells_fraction none))
-
 -- ---- what the code meets
 
 -- a usual number after its sign

@@ -1,15 +1,11 @@
 -- Fronts of a piece, as lists.
-use Rattle.gj_number.proofs.Common.{List, ap, arith, drop, drop-drop, get_or, length, length-drop, length-take-le, refl, take, take-take, take_rest}
+use Rattle.gj_number.proofs.Common.{List, ap, arith, drop, get_or, length, length-drop, length-take-le, refl, take, take-take, take_rest}
 use Rattle.gj_number.proofs.Common.{ℕ, [], ◌+◌, ◌-◌, ◌<◌, ◌∷◌, ◌≡◌, ◌≤◌}
 
 -- the first element alone
 pub first_is : (piece : List ℕ) → 0 < length piece → get_or piece 0 0 ∷ [] ≡ take 1 piece
 first_is [] h = absurd (omega arith)
 first_is (b ∷ piece) h = refl
-
--- and what stands after its first element
-pub behind_is : (piece : List ℕ) (i : ℕ) → drop 1 (take (length piece - i) (drop i piece)) ≡ drop (i + 1) piece
-behind_is piece i = rw (take_rest piece i) (drop-drop 1 i piece)
 
 -- a prefix of a prefix
 pub front_is : (piece : List ℕ) (m n : ℕ) → m ≤ length piece → n ≤ length (take m piece) → take n (take m piece) ≡ take n piece

@@ -589,12 +589,6 @@ module _ (piece lanes : List ℕ) (long : 16 ≤ length piece) (fits : (k : ℕ)
       let t : length (take 16 piece) ≡ 16 = length-take-le 16 piece long in
       ap (λ xs. get_or xs i 0) e ∙ get_or-map lane_of (take 16 piece) i 0 0 (omega arith) ∙ ap lane_of (get_or-take 16 piece i 0 few)
 
-  lane_of_other : (i : ℕ) → i < 16 → (IsDigit (get_or piece i 0) → ⊥) → leb 10 (get_or lanes i 0) ≡ true
-  lane_of_other i few other =
-      let a = lane_at i few in
-      let b : get_or piece i 0 < 256 = (fits i).fits in
-      elim (leb_tells 10 (get_or lanes i 0)) [ inl h ↦ h.0 | inr h ↦ absurd (other (digit_byte (get_or piece i 0) b (let l = h.1 in omega arith)).0) ]
-
   other_of_lane : (i : ℕ) → i < 16 → leb 10 (get_or lanes i 0) ≡ true → IsDigit (get_or piece i 0) → ⊥
   other_of_lane i few t d =
       let a = lane_at i few in

@@ -1,5 +1,5 @@
 -- Where a decimal is within the limits of a held one, and where the kept digits are.
-use Rattle.gj_number.proofs.Common.{Bool, Exact, HasDigits, IsFar, None, Some, ap, arith, false, if◌then◌else◌, inl, inr, ints, nat_tests, negsuc}
+use Rattle.gj_number.proofs.Common.{Bool, Exact, HasDigits, IsFar, None, Some, ap, arith, false, if◌then◌else◌, inl, inr, ints, nat_tests}
 use Rattle.gj_number.proofs.Common.{pow-le-pow_right, refl, true, unsigned_abs, ℕ, ℤ, ◌+ℤ◌, ◌+◌, ◌-ℤ◌, ◌<◌, ◌^◌, ◌∙◌, ◌≡◌, ◌≤◌, ◌⊎◌}
 use Rattle.std.proofs.Common.{◌&&◌, nat_lt, nat_le}
 use Rattle.std.proofs.Common.{pos}

@@ -1,5 +1,5 @@
 -- What a literal's bounded parts keep of its digits and its exponent.
-use Rattle.std.specs.Prelude.{◌≡◌, ◌≢◌, ℕ, ◌+◌, ◌-◌, ◌*◌, ◌%◌, ◌^◌, ◌<◌, ◌≤◌, min, ◌⊎◌, nat_lt, nat_le, if◌then◌else◌, ◌&&◌, ℤ, unsigned_abs, Option, Some}
+use Rattle.std.specs.Prelude.{◌≡◌, ◌≢◌, ℕ, ◌+◌, ◌*◌, ◌%◌, ◌^◌, ◌<◌, ◌≤◌, min, ◌⊎◌, nat_lt, nat_le, if◌then◌else◌, ◌&&◌, ℤ, unsigned_abs, Option, Some}
 use Rattle.std.specs.Prelude.{None}
 use Rattle.gj_number.specs.Exact.{power_limit, cut_limit}
 

@@ -1,55 +1,39 @@
 //! The digits of a number in an order of lanes from which its cut value is read.
-ghost use Rattle.std.specs.Prelude.{◌≡◌, ℕ, ◌+◌, ◌≤◌, ◌<◌, ◌^◌, ◌*◌, length, map, take, get_or, ◌↔◌, true, false, IsTrue};
+ghost use Rattle.std.specs.Prelude.{◌≡◌, ◌≤◌, ◌<◌, ◌^◌, length, map, take, ◌↔◌, true, false, IsTrue};
 ghost use Rattle.std.specs.Simd.Lanes.{Each1};
-ghost use Rattle.gj_number.specs.Bytes.{decimal_point, IsDigit};
 ghost use Rattle.gj_number.specs.Internal.DigitLanes.{lane_of};
 ghost use Rattle.gj_number.specs.Internal.CutLanes.{after_point, before_point, by_parts, by_sevens, cut_in, in_lanes, rests_in};
 
 use crate::lanes::lanes_of;
 use std::simd::prelude::*;
 
-/// Rows of sixteen places, up to three digits before a point and up to fifteen after it: row `16 * natural + fraction` has
-/// those of `natural` and `fraction` digits. Three lanes are for the digits before the point and seven for those after it,
-/// and the six between these for the eighth to the thirteenth. 128 stands for no digit. Where no digit stands after the
-/// point, a row has the place of the point itself, which is no digit. The second to fourth row have the places of one to
-/// three digits without a point.
-static PLACED: [u8; 1024] = [
-    128, 128, 128, 128, 0, 128, 128, 128, 128, 128, 128, 128, 128, 128, 128, 128, 128, 128, 0, 128,
-    128, 128, 128, 128, 128, 128, 128, 128, 128, 128, 128, 128, 128, 0, 1, 128, 128, 128, 128, 128,
-    128, 128, 128, 128, 128, 128, 128, 128, 0, 1, 2, 128, 128, 128, 128, 128, 128, 128, 128, 128,
-    128, 128, 128, 128, 128, 128, 128, 128, 0, 128, 128, 128, 128, 128, 128, 128, 128, 128, 128,
-    128, 128, 128, 128, 128, 0, 128, 128, 128, 128, 128, 128, 128, 128, 128, 128, 128, 128, 128,
+/// Rows of sixteen places, of one to three digits before a point and up to fifteen after it: row `16 * (natural - 1) + fraction`
+/// has those of `natural` and `fraction` digits. Three lanes are for the digits before the point and seven for those after
+/// it, and the six between these for the eighth to the thirteenth. 128 stands for no digit.
+static PLACED: [u8; 768] = [
     128, 128, 0, 128, 128, 128, 128, 128, 128, 128, 128, 128, 128, 128, 128, 128, 128, 128, 0, 128,
-    128, 128, 128, 128, 128, 128, 128, 128, 128, 128, 128, 128, 128, 128, 0, 128, 128, 128, 128,
-    128, 128, 128, 128, 128, 128, 128, 128, 128, 128, 128, 0, 128, 128, 128, 128, 128, 128, 128,
-    128, 128, 128, 128, 128, 128, 128, 128, 0, 128, 128, 128, 128, 128, 128, 128, 128, 128, 128,
-    128, 128, 128, 128, 128, 0, 128, 128, 128, 128, 128, 128, 128, 128, 128, 128, 128, 128, 128,
-    128, 128, 0, 128, 128, 128, 128, 128, 128, 128, 128, 128, 128, 128, 128, 128, 128, 128, 0, 128,
-    128, 128, 128, 128, 128, 128, 128, 128, 128, 128, 128, 128, 128, 128, 0, 128, 128, 128, 128,
-    128, 128, 128, 128, 128, 128, 128, 128, 128, 128, 128, 0, 128, 128, 128, 128, 128, 128, 128,
-    128, 128, 128, 128, 128, 128, 0, 128, 1, 128, 128, 128, 128, 128, 128, 128, 128, 128, 128, 128,
-    128, 128, 0, 128, 2, 128, 128, 128, 128, 128, 128, 128, 128, 128, 128, 128, 128, 128, 0, 128,
-    2, 3, 128, 128, 128, 128, 128, 128, 128, 128, 128, 128, 128, 128, 0, 128, 2, 3, 4, 128, 128,
-    128, 128, 128, 128, 128, 128, 128, 128, 128, 0, 128, 2, 3, 4, 128, 5, 128, 128, 128, 128, 128,
-    128, 128, 128, 128, 0, 128, 2, 3, 4, 128, 5, 6, 128, 128, 128, 128, 128, 128, 128, 128, 0, 128,
-    2, 3, 4, 128, 5, 6, 7, 128, 128, 128, 128, 128, 128, 128, 0, 128, 2, 3, 4, 128, 5, 6, 7, 128,
-    8, 128, 128, 128, 128, 128, 0, 9, 2, 3, 4, 128, 5, 6, 7, 128, 8, 128, 128, 128, 128, 128, 0, 9,
-    2, 3, 4, 10, 5, 6, 7, 128, 8, 128, 128, 128, 128, 128, 0, 9, 2, 3, 4, 10, 5, 6, 7, 11, 8, 128,
-    128, 128, 128, 128, 0, 9, 2, 3, 4, 10, 5, 6, 7, 11, 8, 12, 128, 128, 128, 128, 0, 9, 2, 3, 4,
-    10, 5, 6, 7, 11, 8, 12, 13, 128, 128, 128, 0, 9, 2, 3, 4, 10, 5, 6, 7, 11, 8, 12, 13, 14, 128,
-    128, 0, 9, 2, 3, 4, 10, 5, 6, 7, 11, 8, 12, 13, 14, 128, 128, 0, 9, 2, 3, 4, 10, 5, 6, 7, 11,
-    8, 12, 13, 14, 128, 0, 1, 128, 2, 128, 128, 128, 128, 128, 128, 128, 128, 128, 128, 128, 128,
-    0, 1, 128, 3, 128, 128, 128, 128, 128, 128, 128, 128, 128, 128, 128, 128, 0, 1, 128, 3, 4, 128,
-    128, 128, 128, 128, 128, 128, 128, 128, 128, 128, 0, 1, 128, 3, 4, 5, 128, 128, 128, 128, 128,
-    128, 128, 128, 128, 128, 0, 1, 128, 3, 4, 5, 128, 6, 128, 128, 128, 128, 128, 128, 128, 128, 0,
-    1, 128, 3, 4, 5, 128, 6, 7, 128, 128, 128, 128, 128, 128, 128, 0, 1, 128, 3, 4, 5, 128, 6, 7,
-    8, 128, 128, 128, 128, 128, 128, 0, 1, 128, 3, 4, 5, 128, 6, 7, 8, 128, 9, 128, 128, 128, 128,
-    0, 1, 10, 3, 4, 5, 128, 6, 7, 8, 128, 9, 128, 128, 128, 128, 0, 1, 10, 3, 4, 5, 11, 6, 7, 8,
-    128, 9, 128, 128, 128, 128, 0, 1, 10, 3, 4, 5, 11, 6, 7, 8, 12, 9, 128, 128, 128, 128, 0, 1,
-    10, 3, 4, 5, 11, 6, 7, 8, 12, 9, 13, 128, 128, 128, 0, 1, 10, 3, 4, 5, 11, 6, 7, 8, 12, 9, 13,
-    14, 128, 128, 0, 1, 10, 3, 4, 5, 11, 6, 7, 8, 12, 9, 13, 14, 15, 128, 0, 1, 10, 3, 4, 5, 11, 6,
-    7, 8, 12, 9, 13, 14, 15, 128, 0, 1, 10, 3, 4, 5, 11, 6, 7, 8, 12, 9, 13, 14, 15, 0, 1, 2, 128,
-    3, 128, 128, 128, 128, 128, 128, 128, 128, 128, 128, 128, 0, 1, 2, 128, 4, 128, 128, 128, 128,
+    2, 128, 128, 128, 128, 128, 128, 128, 128, 128, 128, 128, 128, 128, 0, 128, 2, 3, 128, 128,
+    128, 128, 128, 128, 128, 128, 128, 128, 128, 128, 0, 128, 2, 3, 4, 128, 128, 128, 128, 128,
+    128, 128, 128, 128, 128, 128, 0, 128, 2, 3, 4, 128, 5, 128, 128, 128, 128, 128, 128, 128, 128,
+    128, 0, 128, 2, 3, 4, 128, 5, 6, 128, 128, 128, 128, 128, 128, 128, 128, 0, 128, 2, 3, 4, 128,
+    5, 6, 7, 128, 128, 128, 128, 128, 128, 128, 0, 128, 2, 3, 4, 128, 5, 6, 7, 128, 8, 128, 128,
+    128, 128, 128, 0, 9, 2, 3, 4, 128, 5, 6, 7, 128, 8, 128, 128, 128, 128, 128, 0, 9, 2, 3, 4, 10,
+    5, 6, 7, 128, 8, 128, 128, 128, 128, 128, 0, 9, 2, 3, 4, 10, 5, 6, 7, 11, 8, 128, 128, 128,
+    128, 128, 0, 9, 2, 3, 4, 10, 5, 6, 7, 11, 8, 12, 128, 128, 128, 128, 0, 9, 2, 3, 4, 10, 5, 6,
+    7, 11, 8, 12, 13, 128, 128, 128, 0, 9, 2, 3, 4, 10, 5, 6, 7, 11, 8, 12, 13, 14, 128, 128, 0, 9,
+    2, 3, 4, 10, 5, 6, 7, 11, 8, 12, 13, 14, 128, 128, 0, 9, 2, 3, 4, 10, 5, 6, 7, 11, 8, 12, 13,
+    14, 128, 0, 1, 128, 128, 128, 128, 128, 128, 128, 128, 128, 128, 128, 128, 128, 128, 0, 1, 128,
+    3, 128, 128, 128, 128, 128, 128, 128, 128, 128, 128, 128, 128, 0, 1, 128, 3, 4, 128, 128, 128,
+    128, 128, 128, 128, 128, 128, 128, 128, 0, 1, 128, 3, 4, 5, 128, 128, 128, 128, 128, 128, 128,
+    128, 128, 128, 0, 1, 128, 3, 4, 5, 128, 6, 128, 128, 128, 128, 128, 128, 128, 128, 0, 1, 128,
+    3, 4, 5, 128, 6, 7, 128, 128, 128, 128, 128, 128, 128, 0, 1, 128, 3, 4, 5, 128, 6, 7, 8, 128,
+    128, 128, 128, 128, 128, 0, 1, 128, 3, 4, 5, 128, 6, 7, 8, 128, 9, 128, 128, 128, 128, 0, 1,
+    10, 3, 4, 5, 128, 6, 7, 8, 128, 9, 128, 128, 128, 128, 0, 1, 10, 3, 4, 5, 11, 6, 7, 8, 128, 9,
+    128, 128, 128, 128, 0, 1, 10, 3, 4, 5, 11, 6, 7, 8, 12, 9, 128, 128, 128, 128, 0, 1, 10, 3, 4,
+    5, 11, 6, 7, 8, 12, 9, 13, 128, 128, 128, 0, 1, 10, 3, 4, 5, 11, 6, 7, 8, 12, 9, 13, 14, 128,
+    128, 0, 1, 10, 3, 4, 5, 11, 6, 7, 8, 12, 9, 13, 14, 15, 128, 0, 1, 10, 3, 4, 5, 11, 6, 7, 8,
+    12, 9, 13, 14, 15, 128, 0, 1, 10, 3, 4, 5, 11, 6, 7, 8, 12, 9, 13, 14, 15, 0, 1, 2, 128, 128,
+    128, 128, 128, 128, 128, 128, 128, 128, 128, 128, 128, 0, 1, 2, 128, 4, 128, 128, 128, 128,
     128, 128, 128, 128, 128, 128, 128, 0, 1, 2, 128, 4, 5, 128, 128, 128, 128, 128, 128, 128, 128,
     128, 128, 0, 1, 2, 128, 4, 5, 6, 128, 128, 128, 128, 128, 128, 128, 128, 128, 0, 1, 2, 128, 4,
     5, 6, 128, 7, 128, 128, 128, 128, 128, 128, 128, 0, 1, 2, 128, 4, 5, 6, 128, 7, 8, 128, 128,
@@ -62,19 +46,17 @@ static PLACED: [u8; 1024] = [
     7, 8, 9, 13, 10, 14, 15, 128,
 ];
 
-/// The digits of a number in their lanes. Those of a number without a point are counted as if they stood after it.
+/// The digits of a number in their lanes.
 #[inline(always)]
 pub(crate) fn placed_digits(piece: &[u8], natural: usize, fraction: usize) -> u8x16
     requires room { 16 ≤ length piece.now }
+    requires some { 0 < natural }
     requires few { natural ≤ 3 }
     requires few_after { fraction ≤ 15 }
-    ensures digits { 0 < natural → 0 < fraction → result ≡ in_lanes (before_point natural (map lane_of (take 16 piece.now)))
+    ensures { result ≡ in_lanes (before_point natural (map lane_of (take 16 piece.now)))
         (after_point natural fraction (map lane_of (take 16 piece.now))) }
-    ensures integer { natural ≡ 0 → 0 < fraction → fraction ≤ 3 → result ≡ in_lanes (before_point fraction (map lane_of (take 16 piece.now)))
-        (after_point fraction 0 (map lane_of (take 16 piece.now))) }
-    ensures some { 0 < natural → get_or piece.now natural 0 ≡ decimal_point → Each1 (λ digit. digit < 10) result → 0 < fraction }
 {
-    lanes_of(piece).swizzle_dyn(u8x16::from_slice(&PLACED[256 * natural + 16 * fraction..]))
+    lanes_of(piece).swizzle_dyn(u8x16::from_slice(&PLACED[256 * (natural - 1) + 16 * fraction..]))
 }
 
 /// Whether all lanes are 0.
@@ -83,39 +65,6 @@ fn are_zero(lanes: u8x16) -> bool
     ensures { IsTrue result ↔ Each1 (λ lane. lane ≡ 0) lanes }
 {
     lanes.reduce_or() == 0
-}
-
-/// By how much each lane is greater than 9.
-#[inline(always)]
-fn above_nine(lanes: u8x16) -> u8x16
-    ensures { Each1 (λ lane. lane ≡ 0) result ↔ Each1 (λ lane. lane < 10) lanes }
-{
-    lanes - lanes.simd_min(u8x16::splat(9))
-}
-
-/// Whether all lanes of two numbers are digits.
-#[inline(always)]
-pub(crate) fn are_digits(first: u8x16, second: u8x16) -> bool
-    ensures first { IsTrue result → Each1 (λ digit. digit < 10) first }
-    ensures second { IsTrue result → Each1 (λ digit. digit < 10) second }
-    ensures taken { Each1 (λ digit. digit < 10) first → Each1 (λ digit. digit < 10) second → IsTrue result }
-{
-    are_zero(above_nine(first.simd_max(second)))
-}
-
-/// Whether the three bytes before each of two indices are digits.
-#[inline(always)]
-pub(crate) fn are_last_digits(piece: &[u8], end: usize, other_end: usize) -> bool
-    requires start { 3 ≤ end }
-    requires room { end + 13 ≤ length piece.now }
-    requires other_start { 3 ≤ other_end }
-    requires other_room { other_end + 13 ≤ length piece.now }
-    ensures first { IsTrue result → (i : ℕ) → end ≤ i + 3 → i < end → IsDigit (get_or piece.now i 0) }
-    ensures second { IsTrue result → (i : ℕ) → other_end ≤ i + 3 → i < other_end → IsDigit (get_or piece.now i 0) }
-{
-    let greater = lanes_of(&piece[end - 3..]).simd_max(lanes_of(&piece[other_end - 3..]));
-    let three = u8x16::from_array([255, 255, 255, 0, 0, 0, 0, 0, 0, 0, 0, 0, 0, 0, 0, 0]);
-    are_zero(above_nine(greater & three))
 }
 
 /// The digits before the point as one number, the first three after it, the next three, and the seventh.

@@ -1,21 +1,23 @@
--- What the events in the first bytes of a text report of its features, and what one event more reports.
-use Rattle.gj_rules.proofs.Common.{AllByRecursion, Bool, Core, Event, FeatureCount, FeaturesAre, FramedRules, IsText, List, MOST_FRAMES, Stage, Stand}
-use Rattle.gj_rules.proofs.Common.{State, Text, Told, Tree, What, all_events, ap, append_assoc, arith, at_of, by, cases_lt, complete_at, complete_in}
-use Rattle.gj_rules.proofs.Common.{core_of, count_at, depth, event_of, events_by, false, features_by, features_from, features_of, heard, inl, inr}
-use Rattle.gj_rules.proofs.Common.{length, length-map, list_step, map, map-append, most_levels, nat_le, nat_tests, no_count, option_to_list, refl}
-use Rattle.gj_rules.proofs.Common.{run, start, starts_at, step, subst, suc, sym, tells_at, text_told, true, zero, [], ◌++◌, ◌+◌, ◌<◌, ◌^◌, ◌∙◌, ◌∷◌}
-use Rattle.gj_rules.proofs.Common.{◌≤◌}
-use Rattle.std.proofs.Common.{◌≡◌, ℕ, Option}
-use Rattle.std.proofs.Common.{append-nil}
+-- What the events in the first bytes of a text report of its features, and what more events report.
+use Rattle.gj_rules.proofs.Common.{AllByRecursion, Bool, Core, Event, FeatureCount, FeaturesAre, Findings, Frame, FramedRules, IsText, List}
+use Rattle.gj_rules.proofs.Common.{MOST_FRAMES, Mode, State, Text, Told, Tree, What, all_events, ap, append_assoc, arith, at_of, by, cases_lt, complete_at}
+use Rattle.gj_rules.proofs.Common.{complete_in, core_of, depth, event_of, events_by, false, features_by, features_from, features_of, inl, inr, length}
+use Rattle.gj_rules.proofs.Common.{length-map, map, map-append, most_levels, nat_le, nat_tests, refl, run, start, step, subst, suc, sym}
+use Rattle.gj_rules.proofs.Common.{text_told, true, [], ◌++◌, ◌+◌, ◌<◌, ◌^◌, ◌∙◌, ◌∷◌, ◌≤◌}
+use Rattle.std.proofs.Common.{◌≡◌, ℕ, None, append-nil}
 use Rattle.std.proofs.lemmas.List.{length-append}
 use Rattle.gj_json.specs.Events as E
 use Rattle.gj_rules.specs.declared.feature.Feature.{Feature}
-use Rattle.gj_rules.specs.Internal.FeatureSteps.{TimedFeature, count, counted, stage_step, outside_step, root_step, element_step}
-use Rattle.gj_rules.specs.Internal.FeatureSteps.{inner_step, tells, timed_at, timed_from, feature_of, features_in}
+use Rattle.gj_rules.specs.Rules.{StandsFor}
+use Rattle.gj_rules.specs.Internal.FeatureSteps.{Heard, IsHeard, TimedFeature, at_element, at_end, at_id, begins, ended, ends, feature_of, features_in}
+use Rattle.gj_rules.specs.Internal.FeatureSteps.{hear, hear_at, hears, in_array, timed_from, unheard}
 use Rattle.gj_rules.proofs.Features.FeatureEvents.{text_heard}
 use Rattle.gj_rules.proofs.Texts.EventOrder.{Late, InOrder, late_after, by_late, by_in_time, in_order, InTime}
-use Rattle.gj_rules.proofs.Texts.OneEventMore.{last_told, none_told}
+use Rattle.gj_rules.proofs.Texts.OneEventMore.{none_told}
+use Rattle.gj_rules.proofs.Texts.OneFlatMore.{split_told}
 use Rattle.gj_rules.proofs.Texts.TimedEvents.{timed_of, text-timed, text-events}
+use Rattle.gj_rules.proofs.Texts.ValuesByEvents.{Leads, leads_at, text_found, lead_text}
+use Rattle.gj_rules.proofs.Texts.WholePoints.{one_told}
 
 -- ---- the events in the first bytes
 
@@ -55,33 +57,76 @@ cut_at n (x ∷ xs) i =
 
 -- ---- what they report
 
-heard-append : (xs ys : List Told) (s : State) (c : FeatureCount) → heard (xs ++ ys) s c ≡ heard xs s c ++ heard ys (run xs s) (count xs s c)
-heard-append [] ys s c = refl
-heard-append (x ∷ xs) ys s c =
-    ap (λ zs. timed_at (at_of x) (tells (event_of x) s c) ++ zs) (heard-append xs ys (step x s) (counted (event_of x) s c))
-    ∙ sym (append_assoc (timed_at (at_of x) (tells (event_of x) s c)) (heard xs (step x s) (counted (event_of x) s c)) _)
-
 abbrev Soon : ℕ → List TimedFeature → Type 0
 Soon n ts = AllByRecursion (λ (t : TimedFeature). t.at ≤ n) ts
 
 abbrev Later : ℕ → List TimedFeature → Type 0
 Later n ts = AllByRecursion (λ (t : TimedFeature). n < t.at) ts
 
-soon_at : (n at : ℕ) (fs : List Feature) (ts : List TimedFeature) → at ≤ n → Soon n ts → Soon n (timed_at at fs ++ ts)
-soon_at n at [] ts l h = h
-soon_at n at (f ∷ fs) ts l h = (l, soon_at n at fs ts l h)
+-- these features more are reported, which are complete then
+record Reports (at : ℕ) (before after : Heard) : Type 0 where
+  more : List TimedFeature
+  few : length more ≤ 1
+  soon : (n : ℕ) → at ≤ n → Soon n more
+  later : (n : ℕ) → n < at → Later n more
+  told : after.told ≡ before.told ++ more
 
-later_at : (n at : ℕ) (fs : List Feature) (ts : List TimedFeature) → n < at → Later n ts → Later n (timed_at at fs ++ ts)
-later_at n at [] ts l h = h
-later_at n at (f ∷ fs) ts l h = (l, later_at n at fs ts l h)
+no_report : (at : ℕ) (before after : Heard) → after.told ≡ before.told → Reports at before after
+no_report at before after e =
+    record { more = []; few = omega arith; soon = λ n l. tt; later = λ n l. tt; told = e ∙ sym (append-nil before.told) }
 
-soon_heard : (n : ℕ) (xs : List Told) (s : State) (c : FeatureCount) → InTime n xs → Soon n (heard xs s c)
-soon_heard n [] s c h = tt
-soon_heard n (x ∷ xs) s c h = soon_at n (at_of x) (tells (event_of x) s c) _ h.0 (soon_heard n xs (step x s) (counted (event_of x) s c) h.1)
+begun_report : (b : Bool) (place : ℕ) (h : Heard) → (begins b place h).told ≡ h.told
+begun_report true place h = refl
+begun_report false place h = refl
 
-later_heard : (n : ℕ) (xs : List Told) (s : State) (c : FeatureCount) → Late n xs → Later n (heard xs s c)
-later_heard n [] s c h = tt
-later_heard n (x ∷ xs) s c h = later_at n (at_of x) (tells (event_of x) s c) _ h.0 (later_heard n xs (step x s) (counted (event_of x) s c) h.1)
+ended_report : (b : Bool) (at : ℕ) (feature : Feature) (before h : Heard) → h.told ≡ before.told → Reports at before (ends b at feature h)
+ended_report false at feature before h e = no_report at before h e
+ended_report true at feature before h e = record {
+  more = record { at = at; feature = feature } ∷ [];
+  few = omega arith;
+  soon = λ n l. (l, tt);
+  later = λ n l. (l, tt);
+  told = ap (λ ts. ts ++ record { at = at; feature = feature } ∷ []) e;
+}
+
+reports : (k : ℕ) (m : Mode) (top : Frame) (what : What) (place at : ℕ) (h : Heard) → Reports at h (hear_at k m top what place at h)
+reports k m top (What.Name name) place at h = no_report at h h refl
+reports k m top What.OpenObject place at h = no_report at h (begins (at_id k m top.slots.role) place h) (begun_report (at_id k m top.slots.role) place h)
+reports k m top What.OpenArray place at h =
+    let g : Heard = begins (at_id k m top.slots.role) place h in
+    no_report at h (begins (at_element k m) place g) (begun_report (at_element k m) place g ∙ begun_report (at_id k m top.slots.role) place h)
+reports k m top What.CloseObject place at h = ended_report (at_end k m top.slots.role) at _ h h refl
+reports k m top What.CloseArray place at h = ended_report (in_array k m) at _ h h refl
+reports k m top _ place at h = ended_report (at_element k m) at _ h (begins (at_id k m top.slots.role) place h) (begun_report (at_id k m top.slots.role) place h)
+
+-- of events in a row
+record AllReport (xs : List Told) (before after : Heard) : Type 0 where
+  more : List TimedFeature
+  few : length more ≤ length xs
+  soon : (n : ℕ) → InTime n xs → Soon n more
+  later : (n : ℕ) → Late n xs → Later n more
+  told : after.told ≡ before.told ++ more
+
+both : (P : TimedFeature → Type 0) (xs ys : List TimedFeature) → AllByRecursion P xs → AllByRecursion P ys → AllByRecursion P (xs ++ ys)
+both P [] ys h k = k
+both P (x ∷ xs) ys h k = (h.0, both P xs ys h.1 k)
+
+all_report : (xs : List Told) (s : State) (h : Heard) → AllReport xs h (hears xs s h)
+all_report [] s h = record { more = []; few = omega arith; soon = λ n l. tt; later = λ n l. tt; told = sym (append-nil h.told) }
+all_report (x ∷ xs) s h =
+    let one = reports s.core.skipped s.core.mode s.core.top (event_of x).what (event_of x).place (at_of x) h in
+    let on = all_report xs (step x s) (hear x s h) in
+    record {
+      more = one.more ++ on.more;
+      few = omega (arith, one.few, on.few, length-append one.more on.more);
+      soon = λ n l. both (λ (t : TimedFeature). t.at ≤ n) one.more on.more (one.soon n l.0) (on.soon n l.1);
+      later = λ n l. both (λ (t : TimedFeature). n < t.at) one.more on.more (one.later n l.0) (on.later n l.1);
+      told = on.told ∙ (ap (λ ts. ts ++ on.more) one.told ∙ append_assoc h.told one.more on.more);
+    }
+
+pub hears-append : (xs ys : List Told) (s : State) (h : Heard) → hears (xs ++ ys) s h ≡ hears ys (run xs s) (hears xs s h)
+hears-append [] ys s h = refl
+hears-append (x ∷ xs) ys s h = hears-append xs ys (step x s) (hear x s h)
 
 soon_are : (n : ℕ) (xs ys : List TimedFeature) (i : ℕ) (vs : List Tree) → Soon n xs → Later n ys → xs ++ ys ≡ timed_from i vs
     → features_in xs ≡ features_from i (complete_in n vs)
@@ -112,12 +157,16 @@ features_are Says c text bytes n t d few h =
     let k = cut_at n (text_told text) (in_order text bytes t) in
     let e : map event_of k.done ≡ events_by n text = k.complete ∙ ap (λ (xs : List E.Timed). by n xs) (text-timed text) in
     let l : length (text_told text) ≡ length (all_events text) = sym (length-map (text_told text) event_of) ∙ ap length (text-events text) in
-    let all : heard k.done start no_count ++ heard k.rest (run k.done start) (count k.done start no_count) ≡ timed_from 0 (features_of text.value) =
-    sym (heard-append k.done k.rest start no_count) ∙ (ap (λ (xs : List Told). heard xs start no_count) (sym k.split) ∙ text_heard text d) in
+    let so_far : Heard = hears k.done start unheard in
+    let first = all_report k.done start unheard in
+    let last = all_report k.rest (run k.done start) so_far in
+    let all : first.more ++ last.more ≡ timed_from 0 (features_of text.value) =
+    ap (λ ts. ts ++ last.more) (sym first.told) ∙ (sym last.told ∙ (ap (λ (u : Heard). u.told) (sym (hears-append k.done k.rest start unheard))
+    ∙ (ap (λ (xs : List Told). (hears xs start unheard).told) (sym k.split) ∙ text_heard text d))) in
     subst Says
-    (soon_are n (heard k.done start no_count) (heard k.rest (run k.done start) (count k.done start no_count)) 0 (features_of text.value)
-    (soon_heard n k.done start no_count k.first) (later_heard n k.rest (run k.done start) (count k.done start no_count) k.last) all)
-    (h text k.done k.rest k.split e d (omega (arith, few, l))).1
+    (ap features_in first.told
+    ∙ soon_are n first.more last.more 0 (features_of text.value) (first.soon n k.first) (last.later n k.last) all)
+    (h text k.done k.rest k.split e d (omega (arith, few, l))).2
 
 all_in : (i : ℕ) (vs : List Tree) → features_in (timed_from i vs) ≡ features_from i vs
 all_in i [] = refl
@@ -129,103 +178,50 @@ pub all_features_are : (Says : List Feature → Type 0) (c : FeatureCount) (text
 all_features_are Says c text d few h =
     let l : length (text_told text) ≡ length (all_events text) = sym (length-map (text_told text) event_of) ∙ ap length (text-events text) in
     subst Says (ap features_in (text_heard text d) ∙ all_in 0 (features_of text.value))
-    (h text (text_told text) [] (sym (append-nil (text_told text))) (text-events text) d (omega (arith, few, l))).1
+    (h text (text_told text) [] (sym (append-nil (text_told text))) (text-events text) d (omega (arith, few, l))).2
 
--- ---- the count grows by one at most
+-- ---- more events
 
-abbrev Grows : FeatureCount → FeatureCount → Type 0
-Grows c d = (d.inner ≤ c.inner + 1) × (d.index ≤ c.index + 1)
-
-inner_grows : (what : What) (k : ℕ) → inner_step what k ≤ suc k + 1
-inner_grows What.OpenObject k = omega arith
-inner_grows other k = omega arith
-
-outside_grows : (what : What) (c : FeatureCount) → Grows c (outside_step what c)
-outside_grows What.OpenArray c = (omega arith, omega arith)
-outside_grows _ c = (omega arith, omega arith)
-
-root_grows : (what : What) (b : Bool) (c : FeatureCount) → Grows c (root_step what b c)
-root_grows What.OpenArray true c = (omega arith, omega arith)
-root_grows other another c = (omega arith, omega arith)
-
-list_grows : (what : What) (place : ℕ) (c : FeatureCount) → Grows c (list_step what place c)
-list_grows What.OpenObject place c = (omega arith, omega arith)
-list_grows _ place c = (omega arith, omega arith)
-
-element_grows : (what : What) (place : ℕ) (c : FeatureCount) → Grows c (element_step what place c)
-element_grows What.OpenObject place c = (omega arith, omega arith)
-element_grows _ place c = (omega arith, omega arith)
-
-stage_grows : (stage : Stage) (what : What) (place : ℕ) (b : Bool) (c : FeatureCount) → Grows c (stage_step stage what place b c)
-stage_grows Stage.Outside what place b c = outside_grows what c
-stage_grows Stage.Root what place b c = root_grows what b c
-stage_grows Stage.List what place b c = list_grows what place c
-stage_grows Stage.Element what place b c = element_grows what place c
-
-grows_at : (n : ℕ) (what : What) (place : ℕ) (b : Bool) (c : FeatureCount) → c.inner ≡ n → Grows c (count_at n what place b c)
-grows_at zero what place b c e = stage_grows c.stage what place b c
-grows_at (suc k) what place b c e = (omega (arith, inner_grows what k, e), omega arith)
-
-pub small : (xs : List Told) (s : State) (c : FeatureCount) → ((count xs s c).inner ≤ c.inner + length xs) × ((count xs s c).index ≤ c.index + length xs)
-small [] s c = (omega arith, omega arith)
-small (x ∷ xs) s c =
-    let g = grows_at c.inner (event_of x).what (event_of x).place (starts_at s.core.skipped s.core.mode) c refl in
-    let h = small xs (step x s) (counted (event_of x) s c) in
-    (omega (arith, g.0, h.0), omega (arith, g.1, h.1))
-
--- ---- one event more
-
-pub count-last : (xs : List Told) (x : Told) (s : State) (c : FeatureCount) → count (xs ++ x ∷ []) s c ≡ counted (event_of x) (run xs s) (count xs s c)
-count-last [] x s c = refl
-count-last (y ∷ ys) x s c = count-last ys x (step y s) (counted (event_of y) s c)
-
-untimed : (at : ℕ) (fs : List Feature) → features_in (timed_at at fs) ≡ fs
-untimed at [] = refl
-untimed at (f ∷ fs) = ap (λ gs. f ∷ gs) (untimed at fs)
-
-pub heard-last : (xs : List Told) (x : Told)
-    → features_in (heard (xs ++ x ∷ []) start no_count) ≡ features_in (heard xs start no_count) ++ tells (event_of x) (run xs start) (count xs start no_count)
-heard-last xs x =
-    let fs = tells (event_of x) (run xs start) (count xs start no_count) in
-    ap features_in (heard-append xs (x ∷ []) start no_count)
-    ∙ (map-append (λ (t : TimedFeature). t.feature) (heard xs start no_count) (timed_at (at_of x) fs ++ [])
-    ∙ ap (λ gs. features_in (heard xs start no_count) ++ gs) (ap features_in (append-nil (timed_at (at_of x) fs)) ∙ untimed (at_of x) fs))
-
-pub told_more : (Old New : List Feature → Type 0) (rules : FramedRules MOST_FRAMES) (c after : FeatureCount) (event : Event) (events : List Event)
-    (told : Option Feature)
-    → option_to_list told ≡ tells_at c.inner event.what event.place (core_of rules).top c
-    → (c.inner < 2 ^ 63 → c.index < 2 ^ 63 → after ≡ count_at c.inner event.what event.place (starts_at rules.skipped rules.mode) c)
-    → ((fs : List Feature) → Old fs → New (fs ++ option_to_list told))
-    → Stand Old rules c events → FeaturesAre New after (events ++ event ∷ [])
-told_more Old New rules c after event events told t n say h text done rest split e d few =
-    let k = last_told done events event e in
-    let front : List Told = k.0 in
-    let x : Told = k.1 in
-    let whole : text_told text ≡ front ++ (x ∷ rest) = split ∙ (ap (λ (ts : List Told). ts ++ rest) k.2 ∙ append_assoc front (x ∷ []) rest) in
-    let stands = h.0 text front (x ∷ rest) whole k.3 d in
-    let was = h.1 text front (x ∷ rest) whole k.3 d few in
-    let long : length (text_told text) ≡ length front + length (x ∷ rest) = ap length whole ∙ length-append front (x ∷ rest) in
-    let g = small front start no_count in
-    let inner : c.inner < 2 ^ 63 = omega (arith, ap (λ (z : FeatureCount). z.inner) was.0, g.0, long, few) in
-    let index : c.index < 2 ^ 63 = omega (arith, ap (λ (z : FeatureCount). z.index) was.0, g.1, long, few) in
-    let counted_is : count_at c.inner event.what event.place (starts_at rules.skipped rules.mode) c ≡ counted (event_of x) (run front start)
-    (count front start no_count) =
-    ap (λ (q : Core). count_at c.inner event.what event.place (starts_at q.skipped q.mode) c) stands.0
-    ∙ (ap (λ (z : FeatureCount). counted event (run front start) z) was.0
-    ∙ ap (λ (y : Event). counted y (run front start) (count front start no_count)) (sym k.4)) in
-    let tells_is : option_to_list told ≡ tells (event_of x) (run front start) (count front start no_count) =
-    t ∙ (ap (λ (q : Core). tells_at c.inner event.what event.place q.top c) stands.0
-    ∙ (ap (λ (z : FeatureCount). tells event (run front start) z) was.0
-    ∙ ap (λ (y : Event). tells y (run front start) (count front start no_count)) (sym k.4))) in (
-      n inner index ∙ (counted_is ∙ (sym (count-last front x start no_count) ∙ ap (λ (ts : List Told). count ts start no_count) (sym k.2))),
-      subst New
-          (ap (λ fs. features_in (heard front start no_count) ++ fs) tells_is
-          ∙ (sym (heard-last front x) ∙ ap (λ (ts : List Told). features_in (heard ts start no_count)) (sym k.2)))
-          (say (features_in (heard front start no_count)) was.1),
+-- a feature more was reported
+pub ended_heard : (Old New : List Feature → Type 0) (c d : FeatureCount) (at : ℕ) (feature : Feature) (h : Heard) → (c.index < 2 ^ 63 → d.index ≡ suc c.index)
+    → d.begun ≡ None → ((fs : List Feature) → Old fs → New (fs ++ feature ∷ [])) → length h.told < 2 ^ 63 → IsHeard Old c h → IsHeard New d (ended at feature h)
+ended_heard Old New c d at feature h next none tells few was =
+    let one : List TimedFeature = record { at = at; feature = feature } ∷ [] in (
+      omega (arith, next (omega (arith, was.0, few)), was.0, length-append h.told one),
+      none,
+      subst New (sym (map-append (λ (t : TimedFeature). t.feature) h.told one)) (tells (features_in h.told) was.2),
     )
 
-pub started : (Says : List Feature → Type 0) → Says [] → FeaturesAre Says no_count []
-started Says h text done rest split e d few = rw (none_told done e) (refl, h)
+-- Where they come, in a text, after those that led the rules to this, they report what was reported until then.
+abbrev pub Continues : (Old New : List Feature → Type 0) (c d : FeatureCount) → Core → List Event → Type 0
+Continues Old New c d core inner =
+    (xs rest : List Told) (s : State) (z : Findings) (h : Heard) → map event_of xs ≡ inner → core ≡ s.core → Leads MOST_FRAMES (xs ++ rest) s z
+    → length h.told < 2 ^ 63 → IsHeard Old c h → IsHeard New d (hears xs s h)
 
-pub started_with : (Says : List Feature → Type 0) (c : FeatureCount) → c ≡ no_count → Says [] → FeaturesAre Says c []
-started_with Says c e h = subst (λ z. FeaturesAre Says z []) (sym e) (started Says h)
+pub more_heard : (Old New : List Feature → Type 0) (rules : FramedRules MOST_FRAMES) (c d : FeatureCount) (events inner : List Event)
+    → Continues Old New c d (core_of rules) inner → StandsFor rules events → FeaturesAre Old c events → FeaturesAre New d (events ++ inner)
+more_heard Old New rules c d events inner on stands h text done rest split e deep few =
+    let k = split_told done events inner e in
+    let whole : text_told text ≡ k.0 ++ (k.1 ++ rest) = split ∙ (ap (λ (ts : List Told). ts ++ rest) k.2 ∙ append_assoc k.0 k.1 rest) in
+    let was = h text k.0 (k.1 ++ rest) whole k.3 deep few in
+    let leads : Leads MOST_FRAMES (k.1 ++ rest) (run k.0 start) (text_found text) = leads_at MOST_FRAMES k.0 (k.1 ++ rest) start (text_found text)
+    (subst (λ (ts : List Told). Leads MOST_FRAMES ts start (text_found text)) whole (lead_text MOST_FRAMES rules.few text deep)) in
+    let first = all_report k.0 start unheard in
+    let long : length (text_told text) ≡ length k.0 + length (k.1 ++ rest) = ap length whole ∙ length-append k.0 (k.1 ++ rest) in
+    let same : length (hears k.0 start unheard).told ≡ length first.more = ap length first.told in
+    subst (IsHeard New d) (sym (ap (λ (ts : List Told). hears ts start unheard) k.2 ∙ hears-append k.0 k.1 start unheard))
+    (on k.1 rest (run k.0 start) (text_found text) (hears k.0 start unheard) k.4 (stands text k.0 (k.1 ++ rest) whole k.3 deep).0 leads
+    (omega (arith, few, long, same, first.few)) was)
+
+-- one event, of which this is heard
+pub one_more : (Old New : List Feature → Type 0) (c d : FeatureCount) (core : Core) (event : Event)
+    → ((at : ℕ) (h : Heard) → length h.told < 2 ^ 63 → IsHeard Old c h → IsHeard New d (hear_at core.skipped core.mode core.top event.what event.place at h))
+    → Continues Old New c d core (event ∷ [])
+one_more Old New c d core event says xs rest s z h e same leads few was =
+    let k = one_told xs event e in
+    subst (λ (ts : List Told). IsHeard New d (hears ts s h)) (sym k.1)
+    (subst (λ (q : Core). IsHeard New d (hear_at q.skipped q.mode q.top (event_of k.0).what (event_of k.0).place (at_of k.0) h)) same
+    (subst (λ (y : Event). IsHeard New d (hear_at core.skipped core.mode core.top y.what y.place (at_of k.0) h)) (sym k.2) (says (at_of k.0) h few was)))
+
+pub started : (Says : List Feature → Type 0) (c : FeatureCount) → c.index ≡ 0 → c.begun ≡ None → Says [] → FeaturesAre Says c []
+started Says c i b h text done rest split e d few = rw (none_told done e) (i, b, h)

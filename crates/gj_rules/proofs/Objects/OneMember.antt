@@ -10,7 +10,7 @@ use Rattle.gj_rules.proofs.Objects.MemberSlots.{slot_of-with}
 
 -- ---- names
 
-other_same : (n : Known) → is_known n ≡ true → same n Other ≡ false
+pub other_same : (n : Known) → is_known n ≡ true → same n Other ≡ false
 other_same Other k = cc
 other_same Crs k = cc
 other_same _ k = refl

@@ -1,5 +1,5 @@
 -- How an input is cut into parts, as it goes on.
-use Rattle.gj_rules.proofs.Common.{Allowed, Bool, Framing, Input, Limit, Lines, List, Part, RecordEnd, Separator, ap, arith, false, has_byte}
+use Rattle.gj_rules.proofs.Common.{Allowed, Bool, Framing, Input, Limit, Lines, List, Part, RecordEnd, Separator, ap, arith, false, get_or, has_byte}
 use Rattle.gj_rules.proofs.Common.{if◌then◌else◌, is_too_long, length, nat_eq, nat_tests, part_at, parts_from, refl, separator_of, suc, sym, take}
 use Rattle.gj_rules.proofs.Common.{true, zero, [], ◌&&◌, ◌++◌, ◌+◌, ◌<◌, ◌||◌, ◌∙◌, ◌∷◌, ◌≤◌}
 use Rattle.std.proofs.Common.{◌≡◌, ℕ}
@@ -128,7 +128,39 @@ long_whole framing limits bytes l =
     ap (λ t. if t then parts_from framing Limit 0 (take limits.bytes bytes) else but_last (parts_from framing Input 0 bytes)) (beyond_limit limits bytes l)
     ∙ sym (long_parts framing limits bytes l)
 
-pub take_within : (n : ℕ) (xs ys : List ℕ) → n ≤ length xs → take n (xs ++ ys) ≡ take n xs
-take_within zero xs ys l = refl
-take_within (suc n) [] ys l = absurd (omega (arith, l))
-take_within (suc n) (x ∷ xs) ys l = ap (λ zs. x ∷ zs) (take_within n xs ys (omega (arith, l)))
+-- ---- bytes of a piece
+
+pub take_one : (rest : List ℕ) → 0 < length rest → take 1 rest ≡ get_or rest 0 0 ∷ []
+take_one [] l = absurd (omega (arith, l))
+take_one (byte ∷ more) l = refl
+
+pub plain_take : (wanted n : ℕ) (bytes : List ℕ) → has_byte wanted bytes ≡ false → has_byte wanted (take n bytes) ≡ false
+plain_take wanted zero bytes h = refl
+plain_take wanted (suc n) [] h = refl
+plain_take wanted (suc n) (byte ∷ more) h =
+    ap (λ t. t || has_byte wanted (take n more)) (first_other wanted byte more h) ∙ plain_take wanted n more (rest_other wanted byte more h)
+
+abbrev pub Begins : List Part → ℕ → List ℕ → Type 0
+Begins parts place given = (rest : List ℕ) × (end : RecordEnd) × (others : List Part) × (parts ≡ part_at place (given ++ rest) end ∷ others)
+
+some_part : (framing : Framing) (last : RecordEnd) (place : ℕ) (bytes : List ℕ) → Begins (parts_from framing last place bytes) place []
+some_part framing last place [] = ([], last, [], refl)
+some_part framing last place (byte ∷ more) = by_test (nat_eq byte (separator_of framing)) (some_part framing last (place + 1) more)
+  where
+    by_test : (t : Bool) → Begins (parts_from framing last (place + 1) more) (place + 1) []
+        → Begins (if t then part_at place [] Separator ∷ parts_from framing last (place + 1) more else with_first place byte
+        (parts_from framing last (place + 1) more)) place []
+    by_test true h = ([], Separator, parts_from framing last (place + 1) more, refl)
+    by_test false (rest, end, others, e) = (byte ∷ rest, end, others, ap (with_first place byte) e)
+
+-- the first part begins with them
+pub part_on : (framing : Framing) (last : RecordEnd) (place : ℕ) (given more : List ℕ) → has_byte (separator_of framing) given ≡ false
+    → Begins (parts_from framing last place (given ++ more)) place given
+part_on framing last place [] more h = some_part framing last place more
+part_on framing last place (byte ∷ given) more h =
+    let (rest, end, others, e) = part_on framing last (place + 1) given more (rest_other (separator_of framing) byte given h) in (
+      rest,
+      end,
+      others,
+      on_by framing last place byte (given ++ more) (first_other (separator_of framing) byte given h) ∙ ap (with_first place byte) e,
+    )

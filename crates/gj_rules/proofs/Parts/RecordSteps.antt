@@ -5,7 +5,7 @@ use Rattle.gj_rules.proofs.Common.{has_byte, length, not, number_from, part_at, 
 use Rattle.gj_rules.proofs.Common.{whole_of, zero, [], ◌&&◌, ◌++◌, ◌+◌, ◌-◌, ◌<◌, ◌∙◌, ◌∷◌, ◌≤◌}
 use Rattle.std.proofs.Common.{◌≡◌, ℕ, length-append}
 use Rattle.std.proofs.Common.{append-nil, take-add}
-use Rattle.std.proofs.lemmas.List.{length-drop, take-append-drop}
+use Rattle.std.proofs.lemmas.List.{length-drop, take-append-drop, take-append-le}
 use Rattle.gj_coords.specs.Internal.KeptWarnings.{no_warnings}
 use Rattle.gj_rules.specs.declared.records.Records.{Records}
 use Rattle.gj_rules.specs.Internal.OpenParts.{IsOpen, IsOver}
@@ -16,9 +16,10 @@ use Rattle.gj_rules.specs.Records.{entry_if, counts, is_void, is_counted, number
 use Rattle.gj_rules.specs.Records.{parts_of}
 use Rattle.gj_rules.specs.RecordsStand.{StandsBy, StandsFor, HaveToldAllIf}
 use Rattle.gj_rules.proofs.Parts.CountedParts.{next_number, next_entries}
-use Rattle.gj_rules.proofs.Parts.FoundRecords.{found-append, whole-append}
+use Rattle.gj_rules.proofs.Parts.FoundRecords.{found-append, whole-append, after_fails, limit_fails}
+use Rattle.gj_rules.specs.Sequence.{is_valid_sequence}
 use Rattle.gj_rules.proofs.Parts.PartCuts.{other-append, one_part, first_part, void-append, but_last-append, short_parts, long_parts, short_whole, long_whole}
-use Rattle.gj_rules.proofs.Parts.PartCuts.{take_within, no_bytes_void}
+use Rattle.gj_rules.proofs.Parts.PartCuts.{no_bytes_void}
 
 -- ---- which of the two they stand for
 
@@ -40,9 +41,8 @@ stand_over s bytes found e h = let P : Bool → Type 0 = λ b. StandsBy b s byte
 pub all_parts : (s : Records) (bytes : List ℕ) (found : List Record) (h : IsOpen s bytes found) (last : RecordEnd)
     → parts_from s.framing last 0 bytes ≡ h.done ++ part_at s.record.start h.given last ∷ []
 all_parts s bytes found h last =
-    ap (parts_from s.framing last 0) (sym (append-nil bytes))
-    ∙ (h.cut last [] ∙ (ap (λ bs. h.done ++ parts_from s.framing last s.record.start bs) (append-nil h.given)
-    ∙ ap (λ ps. h.done ++ ps) (one_part s.framing last s.record.start h.given h.plain)))
+    ap (parts_from s.framing last 0) h.split
+    ∙ (h.cut last h.given ∙ ap (λ ps. h.done ++ ps) (one_part s.framing last s.record.start h.given h.plain))
 
 -- what is found in the records that have ended
 pub so_far : (s : Records) (bytes : List ℕ) (found : List Record) → StandsFor s bytes found → AreFindingsSoFar s.framing s.limits bytes found
@@ -120,13 +120,17 @@ over_more s bytes more found e h =
     stand_over s (bytes ++ more) found e (record {
       beyond = beyond;
       end = k.end;
+      fails = k.fails;
       are = subst P (long_parts s.framing s.limits bytes k.beyond
-          ∙ (ap (parts_from s.framing Limit 0) (sym (take_within s.limits.bytes bytes more (let b = k.beyond in omega (arith, b))))
+          ∙ (ap (parts_from s.framing Limit 0) (sym (take-append-le s.limits.bytes bytes more (let b = k.beyond in omega (arith, b))))
           ∙ sym (long_parts s.framing s.limits (bytes ++ more) beyond))) k.are;
       whole = k.whole;
     })
 
 -- ---- one byte or run more
+
+pub regrouped : (bytes before given more : List ℕ) → bytes ≡ before ++ given → bytes ++ more ≡ before ++ (given ++ more)
+regrouped bytes before given more split = ap (λ bs. bs ++ more) split ∙ append_assoc before given more
 
 -- bytes of the open part
 pub run_open : (s t : Records) (bytes run : List ℕ) (found : List Record) (h : IsOpen s bytes found) → t.framing ≡ s.framing → t.limits ≡ s.limits
@@ -138,15 +142,14 @@ run_open s t bytes run found h framing over number whole plain room stands start
     let taken = h.taken in
     let longer : length (bytes ++ run) ≡ length bytes + length run = length-append bytes run in
     let C : Framing → ℕ → Type 0 =
-    λ f n. (last : RecordEnd) (more : List ℕ) → parts_from f last 0 ((bytes ++ run) ++ more) ≡ h.done ++ parts_from f last n ((h.given ++ run) ++ more) in
-    let cut : C s.framing s.record.start = λ last more.
-    ap (parts_from s.framing last 0) (append_assoc bytes run more)
-    ∙ (h.cut last (run ++ more) ∙ ap (λ bs. h.done ++ parts_from s.framing last s.record.start bs) (sym (append_assoc h.given run more))) in
+    λ f n. (last : RecordEnd) (more : List ℕ) → parts_from f last 0 (h.before ++ more) ≡ h.done ++ parts_from f last n more in
     let A : Framing → Allowed → Type 0 = λ f l. AreFindings f l.depth (entries_in f h.done) found in
     record {
       done = h.done;
+      before = h.before;
       given = h.given ++ run;
-      cut = subst (λ (f : Framing). C f t.record.start) (sym framing) (subst (λ (n : ℕ). C s.framing n) (sym start) cut);
+      split = regrouped bytes h.before h.given run h.split;
+      cut = subst (λ (f : Framing). C f t.record.start) (sym framing) (subst (λ (n : ℕ). C s.framing n) (sym start) h.cut);
       plain = ap (λ f. has_byte (separator_of f) (h.given ++ run)) framing ∙ other-append (separator_of s.framing) h.given run h.plain plain;
       stands = stands;
       depth = ap (λ l. l.depth) limits ∙ (h.depth ∙ sym (ap (λ l. l.depth) over));
@@ -174,8 +177,8 @@ next_open s t bytes found all h b framing over room stands start end limits void
     let C : Framing → ℕ → Type 0 = λ f n. (last : RecordEnd) (more : List ℕ)
     → parts_from f last 0 ((bytes ++ separator_of s.framing ∷ []) ++ more) ≡ (h.done ++ part ∷ []) ++ parts_from f last n more in
     let cut : C s.framing t.record.start = λ last more.
-    ap (parts_from s.framing last 0) (append_assoc bytes (separator_of s.framing ∷ []) more)
-    ∙ (h.cut last (separator_of s.framing ∷ more)
+    ap (parts_from s.framing last 0) (append_assoc bytes (separator_of s.framing ∷ []) more ∙ regrouped bytes h.before h.given (separator_of s.framing ∷ more) h.split)
+    ∙ (h.cut last (h.given ++ separator_of s.framing ∷ more)
     ∙ (ap (λ ps. h.done ++ ps) (first_part s.framing last s.record.start t.record.start h.given more h.plain (omega (arith, start, counted)))
     ∙ sym (append_assoc h.done (part ∷ []) (parts_from s.framing last t.record.start more)))) in
     let counting : is_counted s.framing s.number part ≡ b = ap not (sym h.void) ∙ (ap not was ∙ not_not b) in
@@ -184,7 +187,9 @@ next_open s t bytes found all h b framing over room stands start end limits void
     subst (λ (es : List Entry). AreFindings s.framing s.limits.depth es all) (sym (next_entries s.framing h.done part s.number b h.number counting)) are in
     record {
       done = h.done ++ part ∷ [];
+      before = bytes ++ separator_of s.framing ∷ [];
       given = [];
+      split = sym (append-nil (bytes ++ separator_of s.framing ∷ []));
       cut = subst (λ (f : Framing). C f t.record.start) (sym framing) cut;
       plain = refl;
       stands = stands;
@@ -238,7 +243,7 @@ over_next before after_it s t new bytes ended byte next earlier found h tells to
     let all : parts_of s.framing s.limits (bytes ++ byte ∷ []) ≡ h.done ++ part ∷ [] =
     long_parts s.framing s.limits (bytes ++ byte ∷ []) beyond
     ∙ (ap (parts_from s.framing Limit 0)
-    (take_within s.limits.bytes bytes (byte ∷ []) (omega (arith, taken, full)) ∙ take_all s.limits.bytes bytes (omega (arith, taken, full)))
+    (take-append-le s.limits.bytes bytes (byte ∷ []) (omega (arith, taken, full)) ∙ take_all s.limits.bytes bytes (omega (arith, taken, full)))
     ∙ all_parts s bytes found h Limit) in
     let entries = ap (entries_in s.framing) all ∙ next_entries s.framing h.done part s.number true h.number refl in
     let A : Framing → Allowed → Type 0 = λ f l. AreAllFindings f l (bytes ++ byte ∷ []) (found ++ one ∷ []) in
@@ -246,11 +251,15 @@ over_next before after_it s t new bytes ended byte next earlier found h tells to
     let E : Allowed → Type 0 = λ l. new.record.end ≡ l.bytes in
     let B : Allowed → Type 0 = λ l. l.bytes < length (bytes ++ byte ∷ []) in
     let H : List ℕ → Type 0 = λ bs. HaveToldIf true after_it new (bytes ++ bs) earlier found in
+    let (other, finding, ended, heard) = tells.tells h.given (earlier ++ found) h.stands was in
+    let fails = ap is_valid_sequence ended
+    ∙ after_fails s.whole other (limit_fails s.framing s.record.limits.depth s.number s.record.start h.given other.verdict finding.verdict) in
     subst H (sym is) (one_if after_it new (bytes ++ byte ∷ []) earlier found one (stand_over new (bytes ++ byte ∷ []) (found ++ one ∷ []) over (record {
       beyond = subst B (sym limits) beyond;
       end = subst E (sym limits) (same_end ∙ (tells.end ∙ to));
       are = subst (λ (f : Framing). A f new.limits) (sym framing) (subst (λ (l : Allowed). A s.framing l) (sym limits) a);
       whole = same_whole ∙ whole;
+      fails = ap is_valid_sequence same_whole ∙ fails;
     })) told)
 
 -- the entries of all parts, the open one among them where it counts

@@ -2,7 +2,7 @@
 use Rattle.gj_rules.proofs.Common.{AllValid, Allowed, AreFindings, Bool, Broken, Entry, Framing, Input, IsFirstFailing, IsJudgedBy, IsNumberedVerdict}
 use Rattle.gj_rules.proofs.Common.{IsOwnVerdict, IsRecordVerdict, IsSequenceVerdict, Limit, List, NotJson, Part, Record, RecordEnd, Separator}
 use Rattle.gj_rules.proofs.Common.{SeqVerdict, SequenceRecord, Syntax, Valid, Verdict, Warnings, ap, arith, begins_with_separator, entries_from}
-use Rattle.gj_rules.proofs.Common.{entry_at, false, has_separator, if◌then◌else◌, inl, inr, is_separator, is_stray, is_too_long, is_valid, length}
+use Rattle.gj_rules.proofs.Common.{entry_at, false, has_separator, if◌then◌else◌, inl, inr, is_separator, is_stray, is_too_long, is_valid, joined_assoc, joined_none_first, joined_none_last, length}
 use Rattle.gj_rules.proofs.Common.{nat_tests, not, not_json, part_at, parts_from, records_from, refl, subst, suc, sym, take, take_all, true}
 use Rattle.gj_rules.proofs.Common.{up_to_separator, whole_from, whole_of, zero, [], ⊎_elim, ◌&&◌, ◌+◌, ◌<◌, ◌||◌, ◌∙◌, ◌∷◌, ◌≤◌, ◌⊎◌}
 use Rattle.std.proofs.Common.{◌≡◌, ℕ}
@@ -10,45 +10,48 @@ use Rattle.gj_coords.specs.Internal.KeptWarnings.{no_warnings, joined}
 use Rattle.gj_rules.specs.declared.records.framing.Framing.TheVariants as Framings
 use Rattle.gj_rules.specs.RecordFindings.{AreAllFindings, joined_with}
 use Rattle.gj_rules.specs.Records.{with_first, parts_of, counts, are_none, at_least_one}
-use Rattle.gj_rules.proofs.Sequences.RecordCuts.{record_at}
-use Rattle.gj_rules.proofs.Parts.DecidedRecords.{failing_stays}
+use Rattle.gj_rules.proofs.Parts.FoundRecords.{failing_stays}
+use Rattle.gj_rules.proofs.Sequences.OneVerdict.{failing_later, failing_here}
 
 -- ---- the records of a sequence are the parts that count
 
-abbrev is_limit : RecordEnd → Bool
+abbrev pub record_at : ℕ → List ℕ → Bool → SequenceRecord
+record_at start bytes is_cut = record { start = start; bytes = bytes; is_cut = is_cut }
+
+abbrev pub is_limit : RecordEnd → Bool
 is_limit Separator = false
 is_limit Input = false
 is_limit Limit = true
 
 -- what ends the last part, and what ends bytes that may hold a separator
-abbrev last_end : Bool → RecordEnd
+abbrev pub last_end : Bool → RecordEnd
 last_end true = Limit
 last_end false = Input
 
-abbrev end_if : Bool → Bool → RecordEnd
+abbrev pub end_if : Bool → Bool → RecordEnd
 end_if true is_cut = Separator
 end_if false is_cut = last_end is_cut
 
-abbrev as_record : Part → SequenceRecord
+abbrev pub as_record : Part → SequenceRecord
 as_record part = record_at part.start part.bytes (is_limit part.end)
 
-abbrev keep_if : Bool → SequenceRecord → List SequenceRecord → List SequenceRecord
+abbrev pub keep_if : Bool → SequenceRecord → List SequenceRecord → List SequenceRecord
 keep_if true r more = r ∷ more
 keep_if false r more = more
 
 -- whether a part after the first separator counts
-abbrev keeps : Part → Bool
+abbrev pub keeps : Part → Bool
 keeps part = counts Framings.Sequence 1 part.end (are_none part.bytes)
 
-abbrev kept : List Part → List SequenceRecord
+abbrev pub kept : List Part → List SequenceRecord
 kept [] = []
 kept (part ∷ more) = keep_if (keeps part) (as_record part) (kept more)
 
 -- the first part, and those after it
-record CutAs (is_cut : Bool) (place : ℕ) (bytes : List ℕ) : Type 0 where
-  rest : List Part
-  parts : parts_from Framings.Sequence (last_end is_cut) place bytes ≡ part_at place (up_to_separator bytes) (end_if (has_separator bytes) is_cut) ∷ rest
-  records : kept rest ≡ records_from is_cut place bytes
+pub record CutAs (is_cut : Bool) (place : ℕ) (bytes : List ℕ) : Type 0 where
+  pub rest : List Part
+  pub parts : parts_from Framings.Sequence (last_end is_cut) place bytes ≡ part_at place (up_to_separator bytes) (end_if (has_separator bytes) is_cut) ∷ rest
+  pub records : kept rest ≡ records_from is_cut place bytes
 
 one_kept : (is_cut : Bool) (place : ℕ) (more : List ℕ) (rest : List SequenceRecord)
     → keep_if (keeps (part_at (place + 1) (up_to_separator more) (end_if (has_separator more) is_cut)))
@@ -75,7 +78,7 @@ one_kept is_cut place (byte ∷ more) rest = by_test (is_separator byte)
     by_test true = refl
     by_test false = open_end is_cut (has_separator more) (up_to_separator more)
 
-cut_as : (is_cut : Bool) (place : ℕ) (bytes : List ℕ) → CutAs is_cut place bytes
+pub cut_as : (is_cut : Bool) (place : ℕ) (bytes : List ℕ) → CutAs is_cut place bytes
 cut_as is_cut place [] = record { rest = []; parts = refl; records = refl }
 cut_as is_cut place (byte ∷ more) = by_test (cut_as is_cut (place + 1) more) (is_separator byte) refl
   where
@@ -162,7 +165,7 @@ Judged levels count before records verdict =
 
 -- ---- the first part
 
-first_counts : (is_cut : Bool) (taken : List ℕ) → (is_cut ≡ true → 0 < length taken)
+pub first_counts : (is_cut : Bool) (taken : List ℕ) → (is_cut ≡ true → 0 < length taken)
     → counts Framings.Sequence 0 (end_if (has_separator taken) is_cut) (are_none (up_to_separator taken)) ≡ is_stray taken
 first_counts false [] some = refl
 first_counts true [] some = absurd (omega (arith, some refl))
@@ -216,105 +219,82 @@ stray_first levels start bytes end more (one ∷ found) h =
     ap (λ v. whole_from (joined_with no_warnings one.number v) found) h.0.verdict
     ∙ (ap (λ n. whole_from (SeqVerdict.Record n (not_json start Syntax)) found) h.0.number ∙ failing_stays 0 (not_json start Syntax) found)
 
-module _ (none_first : (a : Warnings) → joined no_warnings a ≡ a) (none_last : (a : Warnings) → joined a no_warnings ≡ a)
-    (grouping : (a b c : Warnings) → joined (joined a b) c ≡ joined a (joined b c)) where
-  fails_here : (levels count : ℕ) (before : Warnings) (r : SequenceRecord) (more : List SequenceRecord) (number : ℕ) (verdict : Verdict) (found : List Record)
-      → number ≡ count + 1
-      → IsRecordVerdict levels r verdict → is_valid verdict ≡ false
-      → Judged levels count before (r ∷ more) (whole_from (SeqVerdict.Record number verdict) found)
-  fails_here levels count before r more number verdict found e h f = inr (
-    1,
-    verdict,
-    record { before = []; failing = r; after = more; split = refl; counted = refl; warnings = no_warnings; valid = refl; verdict_of_it = h; fails = f },
-    failing_stays number verdict found ∙ ap (λ n. SeqVerdict.Record n verdict) e,
-  )
+fails_here : (levels count : ℕ) (before : Warnings) (r : SequenceRecord) (more : List SequenceRecord) (number : ℕ) (verdict : Verdict) (found : List Record)
+    → number ≡ count + 1
+    → IsRecordVerdict levels r verdict → is_valid verdict ≡ false
+    → Judged levels count before (r ∷ more) (whole_from (SeqVerdict.Record number verdict) found)
+fails_here levels count before r more number verdict found e h f =
+    inr (1, verdict, failing_here levels r more verdict h f, failing_stays number verdict found ∙ ap (λ n. SeqVerdict.Record n verdict) e)
 
-  later : (levels count : ℕ) (before first : Warnings) (r : SequenceRecord) (more : List SequenceRecord) (verdict : SeqVerdict)
-      → IsRecordVerdict levels r (Valid first)
-      → Judged levels (count + 1) (joined before first) more verdict → Judged levels count before (r ∷ more) verdict
-  later levels count before first r more verdict h (inl a) = inl (
-    joined first a.0,
-    (first, a.0, h, a.1, refl),
-    a.2 ∙ (ap (λ n. SeqVerdict.Valid n (joined (joined before first) a.0)) (one_on count (length more))
-        ∙ ap (SeqVerdict.Valid (count + suc (length more))) (grouping before first a.0)),
-  )
-    where
-      one_on : (n m : ℕ) → n + 1 + m ≡ n + suc m
-      one_on n m = omega arith
-  later levels count before first r more verdict h (inr f) = inr (
-    f.0 + 1,
-    f.1,
-    record {
-      before = r ∷ f.2.before;
-      failing = f.2.failing;
-      after = f.2.after;
-      split = ap (λ rs. r ∷ rs) f.2.split;
-      counted = one_more f.0 (length f.2.before) f.2.counted;
-      warnings = joined first f.2.warnings;
-      valid = (first, f.2.warnings, h, f.2.valid, refl);
-      verdict_of_it = f.2.verdict_of_it;
-      fails = f.2.fails;
-    },
-    f.3 ∙ ap (λ n. SeqVerdict.Record n f.1) (one_on count f.0),
-  )
-    where
-      one_on : (n m : ℕ) → n + 1 + m ≡ n + (m + 1)
-      one_on n m = omega arith
+later : (levels count : ℕ) (before first : Warnings) (r : SequenceRecord) (more : List SequenceRecord) (verdict : SeqVerdict)
+    → IsRecordVerdict levels r (Valid first)
+    → Judged levels (count + 1) (joined before first) more verdict → Judged levels count before (r ∷ more) verdict
+later levels count before first r more verdict h (inl a) = inl (
+  joined first a.0,
+  (first, a.0, h, a.1, refl),
+  a.2 ∙ (ap (λ n. SeqVerdict.Valid n (joined (joined before first) a.0)) (one_on count (length more))
+      ∙ ap (SeqVerdict.Valid (count + suc (length more))) (joined_assoc before first a.0)),
+)
+  where
+    one_on : (n m : ℕ) → n + 1 + m ≡ n + suc m
+    one_on n m = omega arith
+later levels count before first r more verdict h (inr f) =
+    inr (f.0 + 1, f.1, failing_later levels r more first f.0 f.1 h f.2, f.3 ∙ ap (λ n. SeqVerdict.Record n f.1) (one_on count f.0))
+  where
+    one_on : (n m : ℕ) → n + 1 + m ≡ n + (m + 1)
+    one_on n m = omega arith
 
-      one_more : (n m : ℕ) → n ≡ m + 1 → n + 1 ≡ suc m + 1
-      one_more n m e = omega (arith, e)
+judged : (levels count : ℕ) (before : Warnings) (records : List SequenceRecord) (found : List Record) → Shown levels (count + 1) records found
+    → Judged levels count before records (whole_from (SeqVerdict.Valid count before) found)
+judged levels count before [] [] h =
+    inl (no_warnings, refl, ap (λ n. SeqVerdict.Valid n before) (none_on count) ∙ ap (SeqVerdict.Valid (count + 0)) (sym (joined_none_last before)))
+  where
+    none_on : (n : ℕ) → n ≡ n + 0
+    none_on n = omega arith
+judged levels count before [] (one ∷ found) h = absurd h
+judged levels count before (r ∷ records) [] h = absurd h
+judged levels count before (r ∷ records) (one ∷ found) h =
+    by_verdict (λ first. judged levels (count + 1) (joined before first) records found h.2) one.verdict h.1
+  where
+    by_verdict : ((first : Warnings)
+        → Judged levels (count + 1) (joined before first) records (whole_from (SeqVerdict.Valid (count + 1) (joined before first)) found)) → (v : Verdict)
+        → IsRecordVerdict levels r v → Judged levels count before (r ∷ records) (whole_from (joined_with before one.number v) found)
+    by_verdict rest (Valid first) k =
+        let J : ℕ → Type 0 = λ n. Judged levels count before (r ∷ records) (whole_from (SeqVerdict.Valid n (joined before first)) found) in
+        subst J (sym h.0) (later levels count before first r records _ k (rest first))
+    by_verdict rest (Broken fault) k = fails_here levels count before r records one.number (Broken fault) found h.0 k refl
+    by_verdict rest (NotJson fault) k = fails_here levels count before r records one.number (NotJson fault) found h.0 k refl
 
-  judged : (levels count : ℕ) (before : Warnings) (records : List SequenceRecord) (found : List Record) → Shown levels (count + 1) records found
-      → Judged levels count before records (whole_from (SeqVerdict.Valid count before) found)
-  judged levels count before [] [] h =
-      inl (no_warnings, refl, ap (λ n. SeqVerdict.Valid n before) (none_on count) ∙ ap (SeqVerdict.Valid (count + 0)) (sym (none_last before)))
-    where
-      none_on : (n : ℕ) → n ≡ n + 0
-      none_on n = omega arith
-  judged levels count before [] (one ∷ found) h = absurd h
-  judged levels count before (r ∷ records) [] h = absurd h
-  judged levels count before (r ∷ records) (one ∷ found) h =
-      by_verdict (λ first. judged levels (count + 1) (joined before first) records found h.2) one.verdict h.1
-    where
-      by_verdict : ((first : Warnings)
-          → Judged levels (count + 1) (joined before first) records (whole_from (SeqVerdict.Valid (count + 1) (joined before first)) found)) → (v : Verdict)
-          → IsRecordVerdict levels r v → Judged levels count before (r ∷ records) (whole_from (joined_with before one.number v) found)
-      by_verdict rest (Valid first) k =
-          let J : ℕ → Type 0 = λ n. Judged levels count before (r ∷ records) (whole_from (SeqVerdict.Valid n (joined before first)) found) in
-          subst J (sym h.0) (later levels count before first r records _ k (rest first))
-      by_verdict rest (Broken fault) k = fails_here levels count before r records one.number (Broken fault) found h.0 k refl
-      by_verdict rest (NotJson fault) k = fails_here levels count before r records one.number (NotJson fault) found h.0 k refl
+by_records : (levels : ℕ) (records : List SequenceRecord) (found : List Record) → Shown levels 1 records found
+    → IsJudgedBy false levels records (whole_of found)
+by_records levels records found h =
+    let B : SeqVerdict → Type 0 = λ v. IsJudgedBy false levels records v in
+    ⊎_elim (λ a. let A : Warnings → Type 0 = λ w. AllValid levels records w in
+    subst B (sym a.2) (subst A (sym (joined_none_first a.0)) a.1, zero_on (length records)))
+    (λ f. let F : ℕ → Type 0 = λ n. IsFirstFailing levels records n f.1 in
+    subst B (sym f.3) (subst F (sym (zero_on f.0)) f.2))
+    (judged levels 0 no_warnings records found h)
+  where
+    zero_on : (n : ℕ) → 0 + n ≡ n
+    zero_on n = omega arith
 
-  by_records : (levels : ℕ) (records : List SequenceRecord) (found : List Record) → Shown levels 1 records found
-      → IsJudgedBy false levels records (whole_of found)
-  by_records levels records found h =
-      let B : SeqVerdict → Type 0 = λ v. IsJudgedBy false levels records v in
-      ⊎_elim (λ a. let A : Warnings → Type 0 = λ w. AllValid levels records w in
-      subst B (sym a.2) (subst A (sym (none_first a.0)) a.1, zero_on (length records)))
-      (λ f. let F : ℕ → Type 0 = λ n. IsFirstFailing levels records n f.1 in
-      subst B (sym f.3) (subst F (sym (zero_on f.0)) f.2))
-      (judged levels 0 no_warnings records found h)
-    where
-      zero_on : (n : ℕ) → 0 + n ≡ n
-      zero_on n = omega arith
+-- ---- all together
 
-  -- ---- all together
+pub by_first : (levels : ℕ) (first : Part) (rest : List Part) (found : List Record) (stray : Bool)
+    → counts Framings.Sequence 0 first.end (are_none first.bytes) ≡ stray → first.start ≡ 0
+    → AreFindings Framings.Sequence levels (entries_from Framings.Sequence 0 (first ∷ rest)) found → IsJudgedBy stray levels (kept rest) (whole_of found)
+by_first levels first rest found true e start h =
+    stray_first levels first.start first.bytes first.end _ found (rw e at h) ∙ ap (λ n. SeqVerdict.Record 0 (not_json n Syntax)) start
+by_first levels first rest found false e start h = by_records levels (kept rest) found (shown levels 1 rest found (omega arith) (rw e at h))
 
-  by_first : (levels : ℕ) (first : Part) (rest : List Part) (found : List Record) (stray : Bool)
-      → counts Framings.Sequence 0 first.end (are_none first.bytes) ≡ stray → first.start ≡ 0
-      → AreFindings Framings.Sequence levels (entries_from Framings.Sequence 0 (first ∷ rest)) found → IsJudgedBy stray levels (kept rest) (whole_of found)
-  by_first levels first rest found true e start h =
-      stray_first levels first.start first.bytes first.end _ found (rw e at h) ∙ ap (λ n. SeqVerdict.Record 0 (not_json n Syntax)) start
-  by_first levels first rest found false e start h = by_records levels (kept rest) found (shown levels 1 rest found (omega arith) (rw e at h))
-
-  pub sequence_by_records : (limits : Allowed) (bytes : List ℕ) (found : List Record) → 1 ≤ limits.bytes → AreAllFindings Framings.Sequence limits bytes found
-      → IsSequenceVerdict limits bytes (whole_of found)
-  sequence_by_records limits bytes found least h =
-      let is_cut = is_too_long limits bytes in
-      let taken = take limits.bytes bytes in
-      let c = cut_as is_cut 0 taken in
-      let first = part_at 0 (up_to_separator taken) (end_if (has_separator taken) is_cut) in
-      let P : List Part → Type 0 = λ ps. AreFindings Framings.Sequence limits.depth (entries_from Framings.Sequence 0 ps) found in
-      let R : List SequenceRecord → Type 0 = λ rs. IsJudgedBy (is_stray bytes) limits.depth rs (whole_of found) in
-      let stray = first_counts is_cut taken (some_taken limits bytes least) ∙ stray_taken limits.bytes bytes least in
-      subst R c.records (by_first limits.depth first c.rest found (is_stray bytes) stray refl (subst P (parts_taken limits bytes ∙ c.parts) h))
+pub sequence_by_records : (limits : Allowed) (bytes : List ℕ) (found : List Record) → 1 ≤ limits.bytes → AreAllFindings Framings.Sequence limits bytes found
+    → IsSequenceVerdict limits bytes (whole_of found)
+sequence_by_records limits bytes found least h =
+    let is_cut = is_too_long limits bytes in
+    let taken = take limits.bytes bytes in
+    let c = cut_as is_cut 0 taken in
+    let first = part_at 0 (up_to_separator taken) (end_if (has_separator taken) is_cut) in
+    let P : List Part → Type 0 = λ ps. AreFindings Framings.Sequence limits.depth (entries_from Framings.Sequence 0 ps) found in
+    let R : List SequenceRecord → Type 0 = λ rs. IsJudgedBy (is_stray bytes) limits.depth rs (whole_of found) in
+    let stray = first_counts is_cut taken (some_taken limits bytes least) ∙ stray_taken limits.bytes bytes least in
+    subst R c.records (by_first limits.depth first c.rest found (is_stray bytes) stray refl (subst P (parts_taken limits bytes ∙ c.parts) h))

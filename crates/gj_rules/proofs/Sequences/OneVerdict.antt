@@ -10,42 +10,34 @@ use Rattle.gj_coords.specs.Internal.KeptWarnings.{no_warnings, joined}
 abbrev Judged : ℕ → List SequenceRecord → Type 0
 Judged levels records = ((w : Warnings) × AllValid levels records w) ⊎ ((number : ℕ) × (verdict : Verdict) × IsFirstFailing levels records number verdict)
 
-later : (levels : ℕ) (r : SequenceRecord) (more : List SequenceRecord) (x : Warnings) → IsRecordVerdict levels r (Valid x) → Judged levels more
-    → Judged levels (r ∷ more)
-later levels r more x h (inl a) = inl (joined x a.0, (x, a.0, h, a.1, refl))
-later levels r more x h (inr f) = inr (
-  f.0 + 1,
-  f.1,
-  record {
-    before = r ∷ f.2.before;
-    failing = f.2.failing;
-    after = f.2.after;
-    split = ap (λ rs. r ∷ rs) f.2.split;
-    counted = one_on f.0 (length f.2.before) f.2.counted;
-    warnings = joined x f.2.warnings;
-    valid = (x, f.2.warnings, h, f.2.valid, refl);
-    verdict_of_it = f.2.verdict_of_it;
-    fails = f.2.fails;
-  },
-)
-  where
-    one_on : (n m : ℕ) → n ≡ m + 1 → n + 1 ≡ suc m + 1
-    one_on n m e = omega (arith, e)
+-- a valid record before the first that fails
+pub failing_later : (levels : ℕ) (r : SequenceRecord) (more : List SequenceRecord) (x : Warnings) (number : ℕ) (verdict : Verdict)
+    → IsRecordVerdict levels r (Valid x) → IsFirstFailing levels more number verdict → IsFirstFailing levels (r ∷ more) (number + 1) verdict
+failing_later levels r more x number verdict h f =
+    let n = f.counted in record {
+      before = r ∷ f.before;
+      failing = f.failing;
+      after = f.after;
+      split = ap (λ rs. r ∷ rs) f.split;
+      counted = omega (arith, n);
+      warnings = joined x f.warnings;
+      valid = (x, f.warnings, h, f.valid, refl);
+      verdict_of_it = f.verdict_of_it;
+      fails = f.fails;
+    }
 
-fails_here : (levels : ℕ) (r : SequenceRecord) (more : List SequenceRecord) (verdict : Verdict) → IsRecordVerdict levels r verdict → is_valid verdict ≡ false
-    → Judged levels (r ∷ more)
-fails_here levels r more verdict h f = inr (
-  1,
-  verdict,
-  record { before = []; failing = r; after = more; split = refl; counted = refl; warnings = no_warnings; valid = refl; verdict_of_it = h; fails = f },
-)
+pub failing_here : (levels : ℕ) (r : SequenceRecord) (more : List SequenceRecord) (verdict : Verdict) → IsRecordVerdict levels r verdict
+    → is_valid verdict ≡ false → IsFirstFailing levels (r ∷ more) 1 verdict
+failing_here levels r more verdict h f =
+    record { before = []; failing = r; after = more; split = refl; counted = refl; warnings = no_warnings; valid = refl; verdict_of_it = h; fails = f }
 
 module _ (some : (limits : Allowed) (bytes : List ℕ) → (verdict : Verdict) × IsVerdict limits bytes verdict) where
   judged_one : (levels : ℕ) (r : SequenceRecord) (more : List SequenceRecord) (verdict : Verdict) → IsRecordVerdict levels r verdict → Judged levels more
       → Judged levels (r ∷ more)
-  judged_one levels r more (Valid x) h j = later levels r more x h j
-  judged_one levels r more (Broken fault) h j = fails_here levels r more (Broken fault) h refl
-  judged_one levels r more (NotJson fault) h j = fails_here levels r more (NotJson fault) h refl
+  judged_one levels r more (Valid x) h (inl a) = inl (joined x a.0, (x, a.0, h, a.1, refl))
+  judged_one levels r more (Valid x) h (inr f) = inr (f.0 + 1, f.1, failing_later levels r more x f.0 f.1 h f.2)
+  judged_one levels r more (Broken fault) h j = inr (1, Broken fault, failing_here levels r more (Broken fault) h refl)
+  judged_one levels r more (NotJson fault) h j = inr (1, NotJson fault, failing_here levels r more (NotJson fault) h refl)
 
   judged_all : (levels : ℕ) (records : List SequenceRecord) → Judged levels records
   judged_all levels [] = inl (no_warnings, refl)

@@ -1,9 +1,10 @@
 -- The bytes of a record, their last one, and the record's verdict.
-use Rattle.gj_rules.proofs.Common.{Allowed, Bool, Broken, Cause, Depth, Framing, Input, IsVerdict, Length, Limit, Lines, List, NotJson, RecordEnd}
+use Rattle.gj_rules.proofs.Common.{Allowed, Bool, Broken, Cause, Depth, Framing, Input, IsVerdict, IsViableWithin, Length, Limit, Lines, List, NotJson, RecordEnd}
 use Rattle.gj_rules.proofs.Common.{RefusedFor, Separator, Stops, Syntax, TellsPlace, Truncated, Valid, Verdict, ap, arith, cut_fault, false, get_or}
-use Rattle.gj_rules.proofs.Common.{if_ended, length, nat_eq, own_limits, refl, separator, shifted_verdict, suc, sym, true, zero, [], ◌++◌, ◌+◌, ◌-◌}
+use Rattle.gj_rules.proofs.Common.{if_ended, length, nat_eq, own_limits, refl, separator, shifted_verdict, subst, suc, sym, true, zero, [], ◌++◌, ◌+◌, ◌-◌}
 use Rattle.gj_rules.proofs.Common.{◌<◌, ◌∙◌, ◌∷◌, ◌≤◌}
-use Rattle.std.proofs.Common.{◌≡◌, ℕ, length-append, None}
+use Rattle.std.proofs.Common.{◌≡◌, ℕ, length-append, Option, Some, None}
+use Rattle.gj_json.proofs.Machine.CompletableStates.{fits_viable}
 use Rattle.gj_json.specs.Bytes.{line_feed}
 use Rattle.gj_coords.specs.Internal.KeptWarnings.{no_warnings, shifted}
 use Rattle.gj_rules.specs.declared.records.framing.Framing.TheVariants.{Sequence}
@@ -12,7 +13,11 @@ use Rattle.gj_rules.specs.Sequence.{last_byte}
 use Rattle.gj_json.specs.declared.reader.Reader.{Reader}
 use Rattle.gj_json.specs.Reader.{StandsFor as ReaderStandsFor, refusal_of as reader_refusal, offset_of as reader_offset}
 use Rattle.gj_rules.specs.declared.linter.Linter.{Linter}
-use Rattle.gj_rules.specs.Linter.{StandsFor as LinterStandsFor, refusal_of, offset_of}
+use Rattle.gj_json.specs.declared.fault.JsonFault.{JsonFault}
+use Rattle.gj_rules.specs.Internal.OpenRecord.{progress_of}
+use Rattle.gj_rules.specs.declared.linter.Progress.{Progress}
+use Rattle.gj_rules.specs.declared.linter.Progress.TheVariants.{Open, Refused}
+use Rattle.gj_rules.specs.Linter.{StandsFor as LinterStandsFor, refusal_of, offset_of, refusal_in, Answers}
 
 -- ---- the last byte
 
@@ -29,6 +34,23 @@ last_is x (y ∷ z ∷ more) (suc i) e = last_is y (z ∷ more) i (omega (arith,
 
 pub last_of_run : (x : ℕ) (xs run : List ℕ) → 0 < length run → get_or run (length run - 1) 0 ≡ last_byte x (xs ++ run)
 last_of_run x xs run some = last_is (last_byte x xs) run (length run - 1) (omega (arith, some)) ∙ sym (last-append x xs run)
+
+-- ---- what a linter has answered
+
+pub none_viable : (levels : ℕ) → IsViableWithin levels []
+none_viable levels = fits_viable levels [] tt
+
+pub none_answered : (limits : Allowed) (refusal : Option JsonFault) → refusal ≡ None → Answers limits [] (progress_of refusal)
+none_answered limits None e = (none_viable limits.depth, omega arith)
+none_answered limits (Some fault) e = cc
+
+pub answered : (limits : Allowed) (bytes : List ℕ) (refusal : Option JsonFault) (progress : Progress) → refusal ≡ refusal_in progress
+    → Answers limits bytes progress → Answers limits bytes (progress_of refusal)
+answered limits bytes refusal progress e h = let A : Progress → Type 0 = λ p. Answers limits bytes p in subst A (sym (ap progress_of e ∙ back progress)) h
+  where
+    back : (p : Progress) → progress_of (refusal_in p) ≡ p
+    back Open = refl
+    back (Refused fault) = refl
 
 -- ---- a record's own limit
 

@@ -1,342 +1,345 @@
 -- What a sequence stands for, from step to step.
-use Rattle.gj_rules.proofs.Common.{AllValid, Allowed, Bool, Broken, Cause, Depth, IsAdmitted, IsJudgedBy, IsRecordVerdict, IsRefusal}
-use Rattle.gj_rules.proofs.Common.{IsSequenceVerdict, IsSettled, IsUndecided, IsVerdict, IsViableWithin, JsonFault, Length, List, NotJson, RefusedFor}
-use Rattle.gj_rules.proofs.Common.{SeqVerdict, SequenceRecord, Syntax, Text, Truncated, Valid, Verdict, Warnings, ap, append_assoc, arith, drop}
-use Rattle.gj_rules.proofs.Common.{false, has_separator, inl, inr, is_decided, is_stray, is_valid, length, not_json, records_from, records_of, refl}
-use Rattle.gj_rules.proofs.Common.{separator, subst, suc, sym, take, take_all, true, zero, [], ⊎_elim, ◌++◌, ◌+◌, ◌-◌, ◌<◌, ◌∙◌, ◌∷◌, ◌≤◌, ◌⊎◌}
-use Rattle.std.proofs.Common.{◌≡◌, ℕ, length-append}
-use Rattle.std.proofs.Common.{append-nil, Option, Some, None, take-add}
-use Rattle.std.proofs.lemmas.List.{length-drop}
-use Rattle.gj_coords.specs.Internal.KeptWarnings.{no_warnings, joined}
-use Rattle.gj_rules.specs.declared.sequence.Decision.{Decision}
+use Rattle.gj_rules.proofs.Common.{Allowed, Bool, HaveToldIf, IsSequenceVerdict, IsSettled, IsUndecided, IsVerdict, IsViableWithin, JsonFault, List, Part}
+use Rattle.gj_rules.proofs.Common.{Record, SeqVerdict, SequenceRecord, Syntax, Verdict, ap, append_assoc, arith, drop, false, first_number, get_or, if◌then◌else◌, is_decided}
+use Rattle.gj_rules.proofs.Common.{is_some, length, not, not_json, number_from, records_of, refl, subst, suc, sym, take, take_all, true, whole_of, zero, []}
+use Rattle.gj_rules.proofs.Common.{◌++◌, ◌+◌, ◌<◌, ◌||◌, ◌∙◌, ◌∷◌}
+use Rattle.std.proofs.Common.{◌≡◌, ℕ, length-append, append-nil, Option, Some, None, unwrap_or}
+use Rattle.std.proofs.lemmas.List.{take-append-drop, take-append-le}
+use Rattle.gj_rules.specs.declared.records.Records.{Records}
+use Rattle.gj_rules.specs.declared.records.framing.Framing.TheVariants as Framings
+use Rattle.gj_rules.specs.declared.records.framing.Framing.{Framing}
 use Rattle.gj_rules.specs.declared.sequence.SeqProgress.TheVariants as Progress
 use Rattle.gj_rules.specs.declared.sequence.SeqProgress.{SeqProgress}
 use Rattle.gj_rules.specs.declared.sequence.Sequence.{Sequence}
-use Rattle.gj_rules.specs.SequenceStands.{StandsBy, StandsFor, has_decided, says_decided, Answers}
-use Rattle.gj_rules.specs.Internal.OpenSequence.{closed, IsIn, IsBefore, IsAt, IsLive}
-use Rattle.gj_rules.specs.Internal.OpenRecord.{fault_shifted}
-use Rattle.gj_rules.specs.Internal.VerdictParts.{valid_warnings}
-use Rattle.gj_rules.proofs.Sequences.RecordCuts.{record_at, plain-append, cut_open}
-use Rattle.gj_rules.proofs.Sequences.DecidingBytes.{Known, known_undecided, regroup, begun_more, closed_more, closed_again, first_failing, settled_refused}
-use Rattle.gj_rules.proofs.Sequences.DecidingBytes.{settled_failing, settled_long}
-use Rattle.gj_rules.proofs.Sequences.BytesOfSequences.{undecided_none, fitting, snoc_last, one_more, Lasting}
+use Rattle.gj_rules.specs.Internal.OpenParts.{IsOpen}
+use Rattle.gj_rules.specs.Internal.OpenRecord.{progress_of, refused_from, refused_in, refused_part}
+use Rattle.gj_rules.specs.Linter.{Answers as LinterAnswers, refusal_of}
+use Rattle.gj_rules.specs.RecordFindings.{AreAllFindings, IsWholeVerdict}
+use Rattle.gj_rules.specs.Records.{are_none, is_counted, is_void, number_after}
+use Rattle.gj_rules.specs.RecordsStand.{StandsFor as RecordsStandFor}
+use Rattle.gj_rules.specs.Sequence.{IsDecidedAt, is_valid_sequence}
+use Rattle.gj_rules.specs.SequenceStands.{IsLive, HasDecided, StandsBy, StandsFor, says_decided, Answers}
+use Rattle.gj_rules.proofs.Parts.PartCuts.{take_one}
+use Rattle.gj_rules.proofs.Parts.RecordSteps.{open_of, over_of, over_where}
+use Rattle.gj_rules.proofs.Parts.SequencesByRecords.{record_at, kept, sequence_by_records}
+use Rattle.gj_rules.proofs.Sequences.RefusedRecords.{settled_refused}
+use Rattle.gj_rules.proofs.Sequences.UndecidedSequences.{Cut, cut_whole, none_begun, some_begun, snoc_last, undecided, undecided_valid, settled_last}
+use Rattle.gj_rules.proofs.Sequences.UndecidedSequences.{settled_stray}
 
--- no byte has decided
-pub live_of : (s : Sequence) (bytes : List ℕ) → is_decided s ≡ false → StandsFor s bytes → IsLive s bytes
-live_of s bytes e h = by_option s.decided e h
-  where
-    by_option : (o : Option Decision) → has_decided o ≡ false → StandsBy o s bytes → IsLive s bytes
-    by_option None f k = k
-    by_option (Some d) f k = cc
+-- what the records of a sequence make it
+pub judged : (r : Records) (bytes : List ℕ) (verdict : SeqVerdict) → r.framing ≡ Framings.Sequence → IsWholeVerdict r.framing r.limits bytes verdict
+    → IsSequenceVerdict r.limits bytes verdict
+judged r bytes verdict framing (found, are, is) =
+    let F : Framing → Type 0 = λ f. AreAllFindings f r.limits bytes found in
+    let W : SeqVerdict → Type 0 = λ v. IsSequenceVerdict r.limits bytes v in
+    subst W (sym is) (sequence_by_records r.limits bytes found r.some_byte (subst F framing are))
 
-pub settled_of : (s : Sequence) (bytes : List ℕ) (d : Decision) → s.decided ≡ Some d → StandsFor s bytes → IsSettled s.limits bytes d.place d.verdict
-settled_of s bytes d e h = let P : Option Decision → Type 0 = λ o. StandsBy o s bytes in subst P e h
+-- ---- while no byte has decided
 
-pub before_or_in : (s : Sequence) (bytes : List ℕ) → IsLive s bytes → ((s.records ≡ 0) × IsBefore s bytes) ⊎ IsIn s bytes
-before_or_in s bytes h = by_number s.records refl h.at
-  where
-    by_number : (n : ℕ) → s.records ≡ n → IsAt n s bytes → ((s.records ≡ 0) × IsBefore s bytes) ⊎ IsIn s bytes
-    by_number zero e k = inl (e, k)
-    by_number (suc n) e k = inr k
+not_true : (b : Bool) → not b ≡ true → b ≡ false
+not_true true e = cc
+not_true false e = refl
 
-pub in_of : (s : Sequence) (bytes : List ℕ) → 0 < s.records → IsLive s bytes → IsIn s bytes
-in_of s bytes some h = ⊎_elim (λ k. absurd (omega (arith, some, k.0))) (λ k. k) (before_or_in s bytes h)
+pub not_over : (s : Sequence) → s.decided ≡ None → s.records.is_over ≡ false
+not_over s e = not_true s.records.is_over (sym (ap (λ o. is_some o || not s.records.is_over) e) ∙ s.live)
 
-pub before_of : (s : Sequence) (bytes : List ℕ) → s.records ≡ 0 → IsLive s bytes → IsBefore s bytes
-before_of s bytes none h = ⊎_elim (λ k. k.1) (λ k. absurd (omega (arith, none, k.counted))) (before_or_in s bytes h)
+pub or_live : (b over : Bool) → over ≡ false → (b || not over) ≡ true
+or_live true over e = refl
+or_live false over e = ap not e
 
-pub at_in : (s : Sequence) (bytes : List ℕ) → IsIn s bytes → IsAt s.records s bytes
-at_in s bytes k = by_number s.records (omega (arith, k.counted))
-  where
-    by_number : (n : ℕ) → 0 < n → IsAt n s bytes
-    by_number zero e = absurd (omega (arith, e))
-    by_number (suc n) e = k
+pub live_of : (s : Sequence) (bytes : List ℕ) → s.decided ≡ None → StandsFor s bytes → IsLive s bytes
+live_of s bytes e h = let P : Option ℕ → Type 0 = λ o. StandsBy o s bytes in subst P e h
 
-pub known_of : (s : Sequence) (bytes : List ℕ) (h : IsLive s bytes) (k : IsIn s bytes) → Known s.limits bytes k.done k.given s.warnings s.records
-known_of s bytes h k = record {
-  split = k.split;
-  fits = h.fits;
-  begun = k.begun;
-  plain = k.plain;
-  valid = k.valid;
-  viable = k.viable;
-  counted = k.counted;
-}
+pub open_live : (s : Sequence) (bytes : List ℕ) → s.decided ≡ None → (h : IsLive s bytes) → IsOpen s.records bytes h.found
+open_live s bytes e h = open_of s.records bytes h.found (not_over s e) h.stands
 
--- more bytes after those that decided
+pub unrefused : (number : ℕ) (void : Bool) (start : ℕ) (refusal : Option JsonFault) → refused_part number void (refused_from start refusal) ≡ None
+    → (number ≡ 0 → void ≡ true) × (refusal ≡ None)
+unrefused zero false start refusal e = absurd (cc)
+unrefused zero true start None e = (λ _. refl, refl)
+unrefused zero true start (Some fault) e = absurd (cc)
+unrefused (suc n) void start None e = (λ z. absurd (omega (arith, z)), refl)
+unrefused (suc n) void start (Some fault) e = absurd (cc)
+
+-- the number of the open part, where none has ended
+none_number : (r : Records) (bytes : List ℕ) (found : List Record) (k : IsOpen r bytes found) → r.framing ≡ Framings.Sequence → k.done ≡ [] → r.number ≡ 0
+none_number r bytes found k framing e = k.number ∙ (ap (number_from r.framing (first_number r.framing)) e ∙ ap first_number framing)
+
+pub live_undecided : (s : Sequence) (bytes : List ℕ) → s.decided ≡ None → IsLive s bytes → IsUndecided s.records.limits bytes
+live_undecided s bytes e h =
+    let r = s.records in
+    let k = open_live s bytes e h in
+    let (void, live) = unrefused r.number r.is_void r.record.start (refusal_of r.record.linter) h.refused in
+    let A : Option JsonFault → Type 0 = λ o. LinterAnswers r.record.limits k.given (progress_of o) in
+    let V : ℕ → Type 0 = λ d. IsViableWithin d k.given in
+    undecided r.limits bytes k.done r.record.start k.given h.found (cut_whole r bytes h.found k s.framing) h.valid
+    (λ none. sym (k.void ∙ ap (λ f. is_void f k.given) s.framing) ∙ void (none_number r bytes h.found k s.framing none))
+    (subst V k.depth (subst A live k.stands.answers).0)
+
+-- ---- once a byte has decided
+
 settled_more : (limits : Allowed) (bytes more : List ℕ) (place : ℕ) (verdict : SeqVerdict) → IsSettled limits bytes place verdict
     → IsSettled limits (bytes ++ more) place verdict
 settled_more limits bytes more place verdict h =
     let U : List ℕ → Type 0 = λ bs. IsUndecided limits bs in
     let W : List ℕ → Type 0 = λ bs. IsSequenceVerdict limits bs verdict in
+    let within = h.at.within in
     record {
       at = record {
-        within = omega (arith, h.at.within, length-append bytes more);
-        before = subst U (sym (take_within place bytes more (omega (arith, h.at.within)))) h.at.before;
-        decides = λ u. h.at.decides (subst U (take_within (place + 1) bytes more (omega (arith, h.at.within))) u);
+        within = omega (arith, within, length-append bytes more);
+        before = subst U (sym (take-append-le place bytes more (omega (arith, within)))) h.at.before;
+        decides = λ u. h.at.decides (subst U (take-append-le (place + 1) bytes more (omega (arith, within))) u);
       };
       fails = h.fails;
       lasting = λ rest. subst W (sym (append_assoc bytes more rest)) (h.lasting (more ++ rest));
     }
-  where
-    take_within : (n : ℕ) (xs ys : List ℕ) → n ≤ length xs → take n (xs ++ ys) ≡ take n xs
-    take_within zero xs ys l = refl
-    take_within (suc n) [] ys l = absurd (omega (arith, l))
-    take_within (suc n) (x ∷ xs) ys l = ap (λ zs. x ∷ zs) (take_within n xs ys (omega (arith, l)))
 
-pub stands_on : (s : Sequence) (bytes more : List ℕ) → is_decided s ≡ true → StandsFor s bytes → StandsFor s (bytes ++ more)
-stands_on s bytes more e h = by_option s.decided e h
+pub settled_of : (s : Sequence) (bytes : List ℕ) (place : ℕ) (h : HasDecided s bytes place) → IsSettled s.records.limits bytes place h.verdict
+settled_of s bytes place h =
+    let P : List ℕ → Type 0 = λ bs. IsSettled s.records.limits bs place h.verdict in
+    subst P (sym h.split) (settled_more s.records.limits h.taken h.rest place h.verdict h.settled)
+
+-- no more is taken
+pub decided_more : (s : Sequence) (bytes more : List ℕ) → is_decided s ≡ true → StandsFor s bytes → StandsFor s (bytes ++ more)
+decided_more s bytes more e h = by_option s.decided e h
   where
-    by_option : (o : Option Decision) → has_decided o ≡ true → StandsBy o s bytes → StandsBy o s (bytes ++ more)
+    by_option : (o : Option ℕ) → is_some o ≡ true → StandsBy o s bytes → StandsBy o s (bytes ++ more)
     by_option None f k = cc
-    by_option (Some d) f k = settled_more s.limits bytes more d.place d.verdict k
-
--- what is answered
-pub live_undecided : (s : Sequence) (bytes : List ℕ) → IsLive s bytes → IsUndecided s.limits bytes
-live_undecided s bytes h =
-    ⊎_elim (λ k. let U : List ℕ → Type 0 = λ bs. IsUndecided s.limits bs in subst U (sym k.1.none) (undecided_none s.limits))
-    (λ k. known_undecided s.limits bytes k.done k.given s.warnings s.records (known_of s bytes h k)) (before_or_in s bytes h)
-
--- an empty record can become a text
-pub empty_viable : (either : (limits : Allowed) (bytes : List ℕ) → ((fault : JsonFault) × IsRefusal limits bytes fault)
-    ⊎ ((text : Text) × IsAdmitted limits text bytes))
-    (levels : ℕ) → IsViableWithin levels []
-empty_viable either levels = ⊎_elim (λ r. by_cause r.0.cause r.0.place r.1) (λ a. ([], a.0, a.1.0)) (either (record { depth = levels; bytes = 0 }) [])
-  where
-    no_stop : (good rest : List ℕ) (byte : ℕ) → [] ≡ good ++ byte ∷ rest → ⊥
-    no_stop [] rest byte e = cc
-    no_stop (x ∷ good) rest byte e = cc
-
-    by_cause : (cause : Cause) (place : ℕ) → RefusedFor cause (record { depth = levels; bytes = 0 }) [] place → IsViableWithin levels []
-    by_cause Syntax place h = absurd (no_stop h.0.good h.0.rest h.0.byte h.0.split)
-    by_cause Depth place h = absurd (no_stop h.0.good h.0.rest h.0.byte h.0.split)
-    by_cause Length place h = absurd (no_stop h.0.good h.0.rest h.0.byte h.0.split)
-    by_cause Truncated place h = h.2
-
--- ---- steps
-
-pub live_stands : (new : Sequence) (bytes : List ℕ) → is_decided new ≡ false → IsLive new bytes → StandsFor new bytes
-live_stands new bytes e h = by_option new.decided e h
-  where
-    by_option : (o : Option Decision) → has_decided o ≡ false → IsLive new bytes → StandsBy o new bytes
-    by_option None f k = k
-    by_option (Some d) f k = cc
-
-pub was_valid : (v : Verdict) (w : Warnings) → valid_warnings v ≡ Some w → v ≡ Valid w
-was_valid (Valid x) w e = cc
-was_valid other w e = cc
-
-pub was_failing : (v : Verdict) → valid_warnings v ≡ None → is_valid v ≡ false
-was_failing (Valid x) e = cc
-was_failing other e = refl
-
--- the record's verdict, at its place after the separator
-pub placed : (levels : ℕ) (s : Sequence) (bytes : List ℕ) (h : IsLive s bytes) (k : IsIn s bytes) (verdict other : Verdict) → verdict ≡ other
-    → IsRecordVerdict s.record.limits.depth (record_at s.record.start k.given false) verdict
-    → IsRecordVerdict s.limits.depth (record_at (length k.done + 1) k.given false) other
-placed levels s bytes h k verdict other e v =
-    let P : Verdict → Type 0 = λ x. IsRecordVerdict s.record.limits.depth (record_at s.record.start k.given false) x in
-    let D : ℕ → Type 0 = λ d. IsRecordVerdict d (record_at s.record.start k.given false) other in
-    let Q : ℕ → Type 0 = λ n. IsRecordVerdict s.limits.depth (record_at n k.given false) other in
-    subst Q k.start (subst D h.depth (subst P e v))
-
--- bytes that the open record refuses
-pub refused_run : (s : Sequence) (bytes run : List ℕ) (h : IsLive s bytes) (k : IsIn s bytes) (own fault : JsonFault) → 0 < length run
-    → has_separator run ≡ false → s.record.end + length run ≤ s.limits.bytes
-    → s.limits.bytes ≤ s.record.limits.bytes → fault ≡ fault_shifted s.record.start own
-    → Lasting s.record.limits.depth s.record.limits.bytes (k.given ++ run) own
-    → IsSettled s.limits (bytes ++ run) fault.place (SeqVerdict.Record s.records (NotJson fault))
-refused_run s bytes run h k own fault some plain room wide e lasting =
-    let L : ℕ → Type 0 = λ d. Lasting d s.record.limits.bytes (k.given ++ run) own in
-    let P : JsonFault → Type 0 = λ f. IsSettled s.limits (bytes ++ run) f.place (SeqVerdict.Record s.records (NotJson f)) in
-    subst P (sym (e ∙ ap (λ n. fault_shifted n own) k.start))
-    (settled_refused s.limits s.record.limits.bytes (bytes ++ run) k.done (k.given ++ run) s.warnings s.records own
-    (ap (λ bs. bs ++ run) k.split ∙ regroup k.done k.given run)
-    (omega (arith, length-append bytes run, h.taken, room)) wide
-    (begun_more bytes k.done k.given run k.split k.begun)
-    (plain-append k.given run k.plain plain)
-    (omega (arith, length-append k.given run, some)) k.valid k.counted (subst L h.depth lasting))
-
--- a record that fails, and the separator after it
-pub failing_closed : (one : (limits : Allowed) (bytes : List ℕ) (first second : Verdict) → IsVerdict limits bytes first → IsVerdict limits bytes second
-    → first ≡ second)
-    (s : Sequence) (bytes : List ℕ) (h : IsLive s bytes) (k : IsIn s bytes) (verdict : Verdict) (place : ℕ) → s.record.end < s.limits.bytes → 0 < length k.given
-    → place ≡ s.record.end
-    → IsRecordVerdict s.record.limits.depth (record_at s.record.start k.given false) verdict → is_valid verdict ≡ false
-    → IsSettled s.limits (bytes ++ separator ∷ []) place (SeqVerdict.Record s.records verdict)
-failing_closed one s bytes h k verdict place short some e v fails =
-    let P : ℕ → Type 0 = λ n. IsSettled s.limits (bytes ++ separator ∷ []) n (SeqVerdict.Record s.records verdict) in
-    subst P (sym (e ∙ h.taken))
-    (settled_failing one s.limits bytes k.done k.given s.warnings s.records verdict (known_of s bytes h k) (omega (arith, h.taken, short)) some
-    (placed 0 s bytes h k verdict verdict refl v) fails)
-
--- the byte after the last that is allowed
-pub long_run : (some : (limits : Allowed) (bytes : List ℕ) → (verdict : Verdict) × IsVerdict limits bytes verdict) (s : Sequence) (bytes : List ℕ)
-    (byte place : ℕ) (h : IsLive s bytes) → s.record.end ≡ s.limits.bytes → 1 ≤ s.limits.bytes
-    → place ≡ s.record.end → IsSettled s.limits (bytes ++ byte ∷ []) place (SeqVerdict.Record s.records (not_json place Length))
-long_run some s bytes byte place h full least e =
-    let k : IsIn s bytes =
-    ⊎_elim (λ b. absurd (let l : length bytes ≡ 0 = ap length b.1.none in omega (arith, l, h.taken, full, least))) (λ k. k) (before_or_in s bytes h) in
-    let P : ℕ → Type 0 = λ n. IsSettled s.limits (bytes ++ byte ∷ []) n (SeqVerdict.Record s.records (not_json n Length)) in
-    subst P (sym (e ∙ full)) (settled_long some s.limits bytes k.done k.given s.warnings s.records byte (known_of s bytes h k) (sym h.taken ∙ full))
-
--- ---- records after the open one
-
--- the first separator
-pub first_begun : (bytes : List ℕ) → bytes ≡ [] → is_stray (bytes ++ separator ∷ []) ≡ false
-first_begun bytes e = ap (λ bs. is_stray (bs ++ separator ∷ [])) e
-
-pub first_valid : (s : Sequence) (bytes : List ℕ) (b : IsBefore s bytes) → AllValid s.limits.depth (closed 0 bytes) s.warnings
-first_valid s bytes b = let P : List ℕ → Type 0 = λ bs. AllValid s.limits.depth (closed 0 bs) s.warnings in subst P (sym b.none) b.warnings
-
-pub first_counted : (bytes : List ℕ) (n : ℕ) → bytes ≡ [] → n ≡ 1 → n ≡ length (closed 0 bytes) + 1
-first_counted bytes n e f = f ∙ sym (ap (λ bs. length (closed 0 bs) + 1) e)
-
--- one more in a run of separators
-pub run_closed : (s : Sequence) (bytes : List ℕ) (k : IsIn s bytes) → k.given ≡ [] → closed 0 bytes ≡ closed 0 k.done
-run_closed s bytes k e = ap (closed 0) (k.split ∙ ap (λ g. k.done ++ separator ∷ g) e) ∙ closed_again k.done
-
-pub run_valid : (s : Sequence) (bytes : List ℕ) (k : IsIn s bytes) → k.given ≡ [] → AllValid s.limits.depth (closed 0 bytes) s.warnings
-run_valid s bytes k e = let P : List SequenceRecord → Type 0 = λ rs. AllValid s.limits.depth rs s.warnings in subst P (sym (run_closed s bytes k e)) k.valid
-
-pub run_counted : (s : Sequence) (bytes : List ℕ) (k : IsIn s bytes) (n : ℕ) → k.given ≡ [] → n ≡ s.records → n ≡ length (closed 0 bytes) + 1
-run_counted s bytes k n e f = f ∙ (k.counted ∙ sym (ap (λ rs. length rs + 1) (run_closed s bytes k e)))
-
-pub no_given : (given : List ℕ) (start end : ℕ) → start + length given ≡ end → start ≡ end → given ≡ []
-no_given [] start end e f = refl
-no_given (byte ∷ given) start end e f = absurd (omega (arith, e, f))
-
--- a valid record more
-module _ (none_first : (a : Warnings) → joined no_warnings a ≡ a) (none_last : (a : Warnings) → joined a no_warnings ≡ a)
-    (grouping : (a b c : Warnings) → joined (joined a b) c ≡ joined a (joined b c)) where
-  pub more_valid : (s : Sequence) (bytes : List ℕ) (h : IsLive s bytes) (k : IsIn s bytes) (verdict : Verdict) (x w : Warnings) → 0 < length k.given
-      → verdict ≡ Valid x → w ≡ joined s.warnings x
-      → IsRecordVerdict s.record.limits.depth (record_at s.record.start k.given false) verdict → AllValid s.limits.depth (closed 0 bytes) w
-  more_valid s bytes h k verdict x w some is e v =
-      let P : List SequenceRecord → Type 0 = λ rs. AllValid s.limits.depth rs w in
-      let Q : Warnings → Type 0 = λ y. AllValid s.limits.depth (closed 0 k.done ++ record_at (length k.done + 1) k.given false ∷ []) y in
-      subst P (sym (ap (closed 0) k.split ∙ closed_more k.done k.given some k.plain))
-      (subst Q (sym e) (one_more none_first none_last grouping s.limits.depth (closed 0 k.done)
-      (record_at (length k.done + 1) k.given false) s.warnings x k.valid (placed 0 s bytes h k verdict (Valid x) is v)))
-
-  -- the end of the input
-  pub ends_valid : (s : Sequence) (bytes : List ℕ) (h : IsLive s bytes) (k : IsIn s bytes) (verdict : Verdict) (x w : Warnings) → verdict ≡ Valid x
-      → w ≡ joined s.warnings x
-      → IsRecordVerdict s.record.limits.depth (record_at s.record.start k.given false) verdict → IsSequenceVerdict s.limits bytes (SeqVerdict.Valid s.records w)
-  ends_valid s bytes h k verdict x w is e v =
-      let r = record_at (length k.done + 1) k.given false in
-      let all : records_of s.limits bytes ≡ closed 0 k.done ++ r ∷ [] =
-      fitting s.limits bytes h.fits ∙ (ap (records_from false 0) k.split ∙ cut_open false k.done k.given k.plain) in
-      let P : List SequenceRecord → Type 0 = λ rs. AllValid s.limits.depth rs w in
-      let Q : Warnings → Type 0 = λ y. AllValid s.limits.depth (closed 0 k.done ++ r ∷ []) y in
-      let B : Bool → Type 0 = λ b. IsJudgedBy b s.limits.depth (records_of s.limits bytes) (SeqVerdict.Valid s.records w) in
-      let a = subst P (sym all)
-      (subst Q (sym e) (one_more none_first none_last grouping s.limits.depth (closed 0 k.done) r s.warnings x k.valid
-      (placed 0 s bytes h k verdict (Valid x) is v))) in
-      let n : s.records ≡ length (records_of s.limits bytes) = k.counted ∙ sym (ap length all ∙ length-append (closed 0 k.done) (r ∷ [])) in
-      subst B (sym k.begun) (a, n)
-
-pub more_counted : (s : Sequence) (bytes : List ℕ) (k : IsIn s bytes) → 0 < length k.given → s.records + 1 ≡ length (closed 0 bytes) + 1
-more_counted s bytes k some =
-    let r = record_at (length k.done + 1) k.given false in
-    let n : length (closed 0 bytes) ≡ length (closed 0 k.done) + 1 =
-    ap (λ bs. length (closed 0 bs)) k.split ∙ (ap length (closed_more k.done k.given some k.plain) ∙ length-append (closed 0 k.done) (r ∷ [])) in
-    omega (arith, k.counted, n)
-
-pub ends_failing : (s : Sequence) (bytes : List ℕ) (h : IsLive s bytes) (k : IsIn s bytes) (verdict : Verdict) → is_valid verdict ≡ false
-    → IsRecordVerdict s.record.limits.depth (record_at s.record.start k.given false) verdict
-    → IsSequenceVerdict s.limits bytes (SeqVerdict.Record s.records verdict)
-ends_failing s bytes h k verdict fails v =
-    first_failing s.limits bytes k.done s.warnings s.records (record_at (length k.done + 1) k.given false) [] verdict k.begun k.valid k.counted
-    (fitting s.limits bytes h.fits ∙ (ap (records_from false 0) k.split ∙ cut_open false k.done k.given k.plain))
-    (placed 0 s bytes h k verdict verdict refl v) fails
-
-pub ends_settled : (s : Sequence) (bytes : List ℕ) (d : Decision) → s.decided ≡ Some d → StandsFor s bytes → IsSequenceVerdict s.limits bytes d.verdict
-ends_settled s bytes d e h =
-    let P : List ℕ → Type 0 = λ bs. IsSequenceVerdict s.limits bs d.verdict in
-    subst P (append-nil bytes) ((settled_of s bytes d e h).lasting [])
-
--- ---- the open record
-
-pub last_record : (s : Sequence) (bytes : List ℕ) (before : List SequenceRecord) (last : SequenceRecord) (h : IsLive s bytes) (k : IsIn s bytes)
-    → records_of s.limits bytes ≡ before ++ last ∷ [] → k.given ≡ last.bytes
-last_record s bytes before last h k e =
-    let all = fitting s.limits bytes h.fits ∙ (ap (records_from false 0) k.split ∙ cut_open false k.done k.given k.plain) in
-    ap (λ r. r.bytes) (snoc_last (closed 0 k.done) before (record_at (length k.done + 1) k.given false) last (sym all ∙ e)).0
-
-pub some_record : (s : Sequence) (bytes : List ℕ) (h : IsLive s bytes) (k : IsIn s bytes) → records_of s.limits bytes ≡ [] → ⊥
-some_record s bytes h k e =
-    let all = fitting s.limits bytes h.fits ∙ (ap (records_from false 0) k.split ∙ cut_open false k.done k.given k.plain) in
-    not_none (closed 0 k.done) (record_at (length k.done + 1) k.given false) (sym all ∙ e)
-  where
-    not_none : (xs : List SequenceRecord) (r : SequenceRecord) → xs ++ r ∷ [] ≡ [] → ⊥
-    not_none [] r f = cc
-    not_none (x ∷ xs) r f = cc
-
-pub no_record : (s : Sequence) (bytes : List ℕ) (before : List SequenceRecord) (last : SequenceRecord) → IsLive s bytes → s.records ≡ 0
-    → records_of s.limits bytes ≡ before ++ last ∷ [] → ⊥
-no_record s bytes before last h none e =
-    let b = before_of s bytes none h in
-    let all : records_of s.limits bytes ≡ [] = ap (records_of s.limits) b.none ∙ fitting s.limits [] (omega arith) in
-    not_none before last (sym e ∙ all)
-  where
-    not_none : (xs : List SequenceRecord) (r : SequenceRecord) → xs ++ r ∷ [] ≡ [] → ⊥
-    not_none [] r f = cc
-    not_none (x ∷ xs) r f = cc
-
--- ---- what a step leaves
-
-pub settled_stands : (new : Sequence) (limits : Allowed) (bytes : List ℕ) (place : ℕ) (verdict : SeqVerdict)
-    → new.decided ≡ Some (record { place = place; verdict = verdict }) → new.limits ≡ limits → IsSettled limits bytes place verdict → StandsFor new bytes
-settled_stands new limits bytes place verdict e f h =
-    let P : Option Decision → Type 0 = λ o. StandsBy o new bytes in
-    let L : Allowed → Type 0 = λ l. IsSettled l bytes place verdict in
-    subst P (sym e) (subst L (sym f) h)
-
--- of a record with a byte
-pub in_some : (s : Sequence) (bytes : List ℕ) → IsLive s bytes → (s.record.start ≡ s.record.end → ⊥) → IsIn s bytes
-in_some s bytes h differ = ⊎_elim (λ b. absurd (differ (omega (arith, b.1.start, b.1.stands.counted)))) (λ k. k) (before_or_in s bytes h)
-
-pub some_given : (s : Sequence) (bytes : List ℕ) (k : IsIn s bytes) → (s.record.start ≡ s.record.end → ⊥) → 0 < length k.given
-some_given s bytes k differ = by_given k.given k.stands.counted
-  where
-    by_given : (given : List ℕ) → s.record.start + length given ≡ s.record.end → 0 < length given
-    by_given [] e = absurd (differ (omega (arith, e)))
-    by_given (byte ∷ given) e = omega arith
-
--- the whole piece was fed, or a byte before its end decided
-pub fed_undecided : (s : Sequence) (limits : Allowed) (bytes : List ℕ) → s.limits ≡ limits → is_decided s ≡ false → StandsFor s bytes → IsUndecided limits bytes
-fed_undecided s limits bytes e live h = let P : Allowed → Type 0 = λ l. IsUndecided l bytes in subst P e (live_undecided s bytes (live_of s bytes live h))
-
-pub fed_decided : (s : Sequence) (limits : Allowed) (bytes : List ℕ) → s.limits ≡ limits → is_decided s ≡ true → StandsFor s bytes → (place : ℕ)
-    × (verdict : SeqVerdict) × IsSettled limits bytes place verdict
-fed_decided s limits bytes e settled h = by_option s.decided settled h
-  where
-    by_option : (o : Option Decision) → has_decided o ≡ true → StandsBy o s bytes → (place : ℕ) × (verdict : SeqVerdict) × IsSettled limits bytes place verdict
-    by_option None f k = cc
-    by_option (Some d) f k = let P : Allowed → Type 0 = λ l. IsSettled l bytes d.place d.verdict in (d.place, d.verdict, subst P e k)
-
-pub fed_answers : (s : Sequence) (limits : Allowed) (bytes : List ℕ) (progress : SeqProgress) → s.limits ≡ limits → says_decided progress ≡ is_decided s
-    → StandsFor s bytes → Answers limits bytes progress
-fed_answers s limits bytes Progress.Open e f h = fed_undecided s limits bytes e (sym f) h
-fed_answers s limits bytes Progress.Decided e f h = fed_decided s limits bytes e (sym f) h
+    by_option (Some place) f k = record {
+      taken = k.taken;
+      rest = k.rest ++ more;
+      split = ap (λ bs. bs ++ more) k.split ∙ append_assoc k.taken k.rest more;
+      found = k.found;
+      stands = k.stands;
+      verdict = k.verdict;
+      settled = k.settled;
+    }
 
 pub rest_fed : (s : Sequence) (bytes piece : List ℕ) (n : ℕ) → is_decided s ≡ true → StandsFor s (bytes ++ take n piece) → StandsFor s (bytes ++ piece)
 rest_fed s bytes piece n settled h =
     let P : List ℕ → Type 0 = λ bs. StandsFor s bs in
-    subst P (append_assoc bytes (take n piece) (drop n piece) ∙ ap (λ xs. bytes ++ xs) (both piece n))
-    (stands_on s (bytes ++ take n piece) (drop n piece) settled h)
-  where
-    both : (xs : List ℕ) (k : ℕ) → take k xs ++ drop k xs ≡ xs
-    both xs zero = refl
-    both [] (suc k) = refl
-    both (x ∷ xs) (suc k) = ap (λ ys. x ∷ ys) (both xs k)
+    subst P (append_assoc bytes (take n piece) (drop n piece) ∙ ap (λ xs. bytes ++ xs) (take-append-drop n piece))
+    (decided_more s (bytes ++ take n piece) (drop n piece) settled h)
 
--- what a step took of the rest of a piece, after what was taken before
-pub taken_further : (s : Sequence) (bytes piece : List ℕ) (n m : ℕ) → n ≤ length piece
-    → StandsFor s ((bytes ++ take n piece) ++ take m (take (length piece - n) (drop n piece))) → StandsFor s (bytes ++ take (n + m) piece)
-taken_further s bytes piece n m l h =
-    let P : List ℕ → Type 0 = λ bs. StandsFor s bs in
-    let rest : take (length piece - n) (drop n piece) ≡ drop n piece = take_all (length piece - n) (drop n piece) (omega (arith, length-drop n piece)) in
-    subst P (append_assoc bytes (take n piece) (take m (take (length piece - n) (drop n piece)))
-    ∙ ap (λ xs. bytes ++ xs) (ap (λ xs. take n piece ++ take m xs) rest ∙ sym (take-add n m piece))) h
+-- ---- what is answered
+
+pub fed_answers : (s : Sequence) (limits : Allowed) (bytes : List ℕ) (progress : SeqProgress) → s.records.limits ≡ limits
+    → says_decided progress ≡ is_decided s
+    → StandsFor s bytes → Answers limits bytes progress
+fed_answers s limits bytes progress e f h = by_option s.decided refl progress f h
+  where
+    by_option : (o : Option ℕ) → s.decided ≡ o → (p : SeqProgress) → says_decided p ≡ is_some o → StandsBy o s bytes → Answers limits bytes p
+    by_option None d Progress.Open g k = let P : Allowed → Type 0 = λ l. IsUndecided l bytes in subst P e (live_undecided s bytes d k)
+    by_option None d Progress.Decided g k = absurd (cc)
+    by_option (Some place) d Progress.Open g k = absurd (cc)
+    by_option (Some place) d Progress.Decided g k =
+        let P : Allowed → Type 0 = λ l. IsSettled l bytes place k.verdict in (place, k.verdict, subst P e (settled_of s bytes place k))
+
+-- the place of the byte that has decided, or how many were taken
+pub decided_place : (s : Sequence) (bytes : List ℕ) (offset : ℕ) → is_decided s ≡ true → StandsFor s bytes
+    → IsDecidedAt s.records.limits bytes (unwrap_or s.decided offset)
+decided_place s bytes offset e h = by_option s.decided e h
+  where
+    by_option : (o : Option ℕ) → is_some o ≡ true → StandsBy o s bytes → IsDecidedAt s.records.limits bytes (unwrap_or o offset)
+    by_option None f k = cc
+    by_option (Some place) f k = (settled_of s bytes place k).at
+
+pub live_place : (s : Sequence) (bytes : List ℕ) (offset : ℕ) → s.decided ≡ None → IsLive s bytes
+    → ((found : List Record) → RecordsStandFor s.records bytes found → offset ≡ length (take s.records.limits.bytes bytes)) → offset ≡ length bytes
+live_place s bytes offset e h taken =
+    taken h.found h.stands ∙ ap length (take_all s.records.limits.bytes bytes (open_live s bytes e h).fits)
+
+-- the end of the input
+pub ends : ((limits : Allowed) (bytes : List ℕ) (first second : SeqVerdict) → IsSequenceVerdict limits bytes first → IsSequenceVerdict limits bytes second
+    → first ≡ second)
+    → (s : Sequence) (bytes : List ℕ) (verdict : SeqVerdict) → StandsFor s bytes
+    → ((taken : List ℕ) (found : List Record) → RecordsStandFor s.records taken found → IsSequenceVerdict s.records.limits taken verdict)
+    → IsSequenceVerdict s.records.limits bytes verdict
+ends one s bytes verdict h ended = by_option s.decided h
+  where
+    by_option : (o : Option ℕ) → StandsBy o s bytes → IsSequenceVerdict s.records.limits bytes verdict
+    by_option None k = ended bytes k.found k.stands
+    by_option (Some place) k =
+        let W : List ℕ → Type 0 = λ bs. IsSequenceVerdict s.records.limits bs k.verdict in
+        let V : SeqVerdict → Type 0 = λ v. IsSequenceVerdict s.records.limits bytes v in
+        let here = subst W (append-nil k.taken) (k.settled.lasting []) in
+        subst V (one s.records.limits k.taken k.verdict verdict here (ended k.taken k.found k.stands)) (subst W (sym k.split) (k.settled.lasting k.rest))
+
+-- ---- steps
+
+has_decided : (new : Sequence) (bytes : List ℕ) (found : List Record) (place : ℕ) (verdict : SeqVerdict) → RecordsStandFor new.records bytes found
+    → IsSettled new.records.limits bytes place verdict → HasDecided new bytes place
+has_decided new bytes found place verdict stands settled =
+    record { taken = bytes; rest = []; split = sym (append-nil bytes); found = found; stands = stands; verdict = verdict; settled = settled }
+
+pub stands_as : (new : Sequence) (bytes : List ℕ) (decided : Option ℕ) → new.decided ≡ decided → StandsBy decided new bytes → StandsFor new bytes
+stands_as new bytes decided e h = let P : Option ℕ → Type 0 = λ o. StandsBy o new bytes in subst P (sym e) h
+
+-- a record that is not valid has ended
+pub ended_stands : ((limits : Allowed) (bytes : List ℕ) (first second : Verdict) → IsVerdict limits bytes first → IsVerdict limits bytes second
+    → first ≡ second)
+    → (s new : Sequence) (bytes rest : List ℕ) (count place : ℕ) (told : Bool) (heard : List Record → Type 0) → s.decided ≡ None → (h : IsLive s bytes)
+    → new.records.limits ≡ s.records.limits → place ≡ length bytes → 0 < length rest → (told ≡ true → count ≡ 1)
+    → (k : HaveToldIf told heard new.records (bytes ++ take count rest) [] h.found)
+    → is_valid_sequence (whole_of (h.found ++ k.have.more)) ≡ false
+    → ((more : List ℕ) → IsWholeVerdict new.records.framing new.records.limits ((bytes ++ take count rest) ++ more) (whole_of (h.found ++ k.have.more)))
+    → HasDecided new (bytes ++ take count rest) place
+ended_stands one s new bytes rest count place told heard e h limits at some single k fails lasting =
+    let r = new.records in
+    let all = h.found ++ k.have.more in
+    let is : take count rest ≡ get_or rest 0 0 ∷ [] = ap (λ n. take n rest) (single (was_told told k.have.more k.one_or_none fails)) ∙ take_one rest some in
+    let S : List ℕ → Type 0 = λ bs. IsSettled r.limits (bytes ++ bs) (length bytes) (whole_of all) in
+    let P : ℕ → Type 0 = λ n. IsSettled r.limits (bytes ++ take count rest) n (whole_of all) in
+    let U : Allowed → Type 0 = λ l. IsUndecided l bytes in
+    let N : List ℕ → Type 0 = λ bs. IsUndecided r.limits (bytes ++ bs) in
+    let L : List ℕ → Type 0 = λ bs. (more : List ℕ) → IsSequenceVerdict r.limits ((bytes ++ bs) ++ more) (whole_of all) in
+    has_decided new (bytes ++ take count rest) all place (whole_of all) k.have.stands
+    (subst P (sym at) (subst S (sym is)
+    (settled_last r.limits bytes (get_or rest 0 0) (whole_of all) (subst U (sym limits) (live_undecided s bytes e h))
+    (λ u. never r (bytes ++ take count rest) all new.framing k.have.stands fails (subst N (sym is) u))
+    fails
+    (subst L is (λ more. judged r ((bytes ++ take count rest) ++ more) (whole_of all) new.framing (lasting more))))))
+  where
+    was_told : (b : Bool) (more : List Record) → length more ≡ (if b then 1 else 0) → is_valid_sequence (whole_of (h.found ++ more)) ≡ false → b ≡ true
+    was_told true more l f = refl
+    was_told false [] l f = let g : true ≡ false = sym h.valid ∙ (ap (λ rs. is_valid_sequence (whole_of rs)) (sym (append-nil h.found)) ∙ f) in cc
+    was_told false (found ∷ more) l f = absurd (omega (arith, l))
+
+    never : (r : Records) (all_bytes : List ℕ) (all : List Record) → r.framing ≡ Framings.Sequence → RecordsStandFor r all_bytes all
+        → is_valid_sequence (whole_of all) ≡ false → IsUndecided r.limits all_bytes → ⊥
+    never r all_bytes all framing stands f u = by_test r.is_over refl
+      where
+        by_test : (b : Bool) → r.is_over ≡ b → ⊥
+        by_test true o = let l = over_where r all_bytes all stands o in let fits = u.fits in absurd (omega (arith, l, fits))
+        by_test false o =
+            let open_now = open_of r all_bytes all o stands in
+            let valid = undecided_valid one r.limits all_bytes open_now.done r.record.start open_now.given all (cut_whole r all_bytes all open_now framing) u in
+            let g : true ≡ false = sym valid ∙ f in cc
+
+-- none has, and the open one may be refused
+some_after : (b : Bool) (n : ℕ) → 0 < number_after b n
+some_after true n = omega arith
+some_after false zero = omega arith
+some_after false (suc n) = omega arith
+
+from_some : (framing : Framing) (n : ℕ) (parts : List Part) → 0 < n → 0 < number_from framing n parts
+from_some framing n [] some = some
+from_some framing n (part ∷ parts) some =
+    from_some framing (number_after (is_counted framing n part) n) parts (some_after (is_counted framing n part) n)
+
+pub none_done : (r : Records) (bytes : List ℕ) (found : List Record) (k : IsOpen r bytes found) → r.framing ≡ Framings.Sequence → r.number ≡ 0 → k.done ≡ []
+none_done r bytes found k framing none = by_done k.done k.number
+  where
+    by_done : (done : List Part) → r.number ≡ number_from r.framing (first_number r.framing) done → done ≡ []
+    by_done [] e = refl
+    by_done (part ∷ done) e =
+        let b = is_counted r.framing (first_number r.framing) part in
+        let some = from_some r.framing (number_after b (first_number r.framing)) done (some_after b (first_number r.framing)) in
+        absurd (omega (arith, some, e, none))
+
+is_refused : ((limits : Allowed) (bytes : List ℕ) → (verdict : Verdict) × IsVerdict limits bytes verdict)
+    → (r : Records) (bytes : List ℕ) (found : List Record) (k : IsOpen r bytes found) (place : ℕ) → r.framing ≡ Framings.Sequence
+    → is_valid_sequence (whole_of found) ≡ true → refused_part r.number r.is_void (refused_in r.record) ≡ Some place
+    → (verdict : SeqVerdict) × IsSettled r.limits bytes place verdict
+is_refused some r bytes found k place framing valid e = by_part r.number r.is_void refl refl e
+  where
+    by_fault : (o : Option JsonFault) → refusal_of r.record.linter ≡ o → refused_from r.record.start o ≡ Some place → (r.number ≡ 0 → r.is_void ≡ true)
+        → (verdict : SeqVerdict) × IsSettled r.limits bytes place verdict
+    by_fault None f g void = absurd (cc)
+    by_fault (Some fault) f g void =
+        let same : r.record.start + fault.place ≡ place = cc in
+        let verdict = SeqVerdict.Record r.number (not_json (fault.place + r.record.start) fault.cause) in
+        let P : ℕ → Type 0 = λ n. IsSettled r.limits bytes n verdict in
+        (verdict, subst P same (settled_refused some r bytes found k fault framing (λ more v. judged r (bytes ++ more) v framing) valid void f))
+
+    by_part : (number : ℕ) (void : Bool) → r.number ≡ number → r.is_void ≡ void → refused_part number void (refused_in r.record) ≡ Some place
+        → (verdict : SeqVerdict) × IsSettled r.limits bytes place verdict
+    by_part zero true n v g = by_fault (refusal_of r.record.linter) refl g (λ _. v)
+    by_part (suc m) void n v g = by_fault (refusal_of r.record.linter) refl g (λ z. absurd (omega (arith, z, n)))
+    by_part zero false n v g =
+        let same : 0 ≡ place = cc in
+        let verdict = SeqVerdict.Record 0 (not_json 0 Syntax) in
+        let P : ℕ → Type 0 = λ m. IsSettled r.limits bytes m verdict in
+        let C : List Part → Type 0 = λ ps. Cut r.limits bytes ps r.record.start k.given found in
+        let c = subst C (none_done r bytes found k framing n) (cut_whole r bytes found k framing) in
+        let none : are_none k.given ≡ false = sym (k.void ∙ ap (λ f. is_void f k.given) framing) ∙ v in
+        (verdict, subst P same (settled_stray r.limits bytes ((none_begun r.limits bytes r.record.start k.given found c).1 ∙ ap not none)))
+
+-- where no byte has come, none is refused, nor beyond the limit
+pub none_over : (r : Records) → RecordsStandFor r [] [] → r.is_over ≡ false
+none_over r stands = by_test r.is_over refl
+  where
+    by_test : (b : Bool) → r.is_over ≡ b → r.is_over ≡ false
+    by_test true e = let beyond = over_where r [] [] stands e in absurd (omega (arith, beyond))
+    by_test false e = e
+
+pub none_refused : ((limits : Allowed) (bytes : List ℕ) → (verdict : Verdict) × IsVerdict limits bytes verdict)
+    → (r : Records) → r.framing ≡ Framings.Sequence → RecordsStandFor r [] []
+    → refused_part r.number r.is_void (refused_in r.record) ≡ None
+none_refused some r framing stands = by_place (refused_part r.number r.is_void (refused_in r.record)) refl
+  where
+    by_place : (o : Option ℕ) → refused_part r.number r.is_void (refused_in r.record) ≡ o → o ≡ None
+    by_place None is = refl
+    by_place (Some place) is =
+        let within = (is_refused some r [] [] (open_of r [] [] (none_over r stands) stands) place framing refl is).1.at.within in absurd (omega (arith, within))
+
+pub open_stands : ((limits : Allowed) (bytes : List ℕ) → (verdict : Verdict) × IsVerdict limits bytes verdict)
+    → (new : Sequence) (bytes : List ℕ) (found : List Record) → new.decided ≡ refused_part new.records.number new.records.is_void (refused_in new.records.record)
+    → RecordsStandFor new.records bytes found → is_valid_sequence (whole_of found) ≡ true → StandsFor new bytes
+open_stands some new bytes found e stands valid =
+    let r = new.records in
+    let place = refused_part r.number r.is_void (refused_in r.record) in stands_as new bytes place e (by_place place refl)
+  where
+    by_test : (b : Bool) → new.records.is_over ≡ b → IsOpen new.records bytes found
+    by_test true o =
+        let k = over_of new.records bytes found o stands in
+        let f : true ≡ false = sym valid ∙ (ap is_valid_sequence (sym k.whole) ∙ k.fails) in absurd (cc)
+    by_test false o = open_of new.records bytes found o stands
+
+    by_place : (o : Option ℕ) → refused_part new.records.number new.records.is_void (refused_in new.records.record) ≡ o → StandsBy o new bytes
+    by_place None is = record { found = found; stands = stands; valid = valid; refused = is }
+    by_place (Some place) is =
+        let settled = is_refused some new.records bytes found (by_test new.records.is_over refl) place new.framing valid is in
+        has_decided new bytes found place settled.0 stands settled.1
+
+-- ---- the open record
+
+not_none : (xs : List SequenceRecord) (x : SequenceRecord) → xs ++ x ∷ [] ≡ [] → ⊥
+not_none [] x e = cc
+not_none (y ∷ xs) x e = cc
+
+by_cut : (limits : Allowed) (bytes : List ℕ) (done : List Part) (start : ℕ) (given : List ℕ) (found : List Record) → Cut limits bytes done start given found
+    → (before : List SequenceRecord) (last : SequenceRecord) → records_of limits bytes ≡ before ++ last ∷ [] → (given ≡ last.bytes) × (done ≡ [] → ⊥)
+by_cut limits bytes [] start given found c before last e = absurd (not_none before last (sym e ∙ (none_begun limits bytes start given found c).0))
+by_cut limits bytes (first ∷ done) start given found c before last e = (
+  ap (λ r. r.bytes)
+      (snoc_last (kept done) before (record_at start given false) last (sym (some_begun limits bytes first done start given found c).0 ∙ e)).0,
+  λ f. cc,
+)
+
+none_cut : (limits : Allowed) (bytes : List ℕ) (done : List Part) (start : ℕ) (given : List ℕ) (found : List Record) → Cut limits bytes done start given found
+    → records_of limits bytes ≡ [] → done ≡ []
+none_cut limits bytes [] start given found c e = refl
+none_cut limits bytes (first ∷ done) start given found c e =
+    absurd (not_none (kept done) (record_at start given false) (sym (some_begun limits bytes first done start given found c).0 ∙ e))
+
+module _ (s : Sequence) (bytes : List ℕ) (h : IsLive s bytes) (k : IsOpen s.records bytes h.found) where
+  -- the last record
+  pub last_given : (before : List SequenceRecord) (last : SequenceRecord) → records_of s.records.limits bytes ≡ before ++ last ∷ [] → k.given ≡ last.bytes
+  last_given before last f =
+      (by_cut s.records.limits bytes k.done s.records.record.start k.given h.found (cut_whole s.records bytes h.found k s.framing) before last f).0
+
+  pub has_number : (before : List SequenceRecord) (last : SequenceRecord) → records_of s.records.limits bytes ≡ before ++ last ∷ [] → s.records.number ≡ 0 → ⊥
+  has_number before last f none =
+      (by_cut s.records.limits bytes k.done s.records.record.start k.given h.found (cut_whole s.records bytes h.found k s.framing) before last f).1
+      (none_done s.records bytes h.found k s.framing none)
+
+  pub has_none : records_of s.records.limits bytes ≡ [] → s.records.number ≡ 0
+  has_none f =
+      none_number s.records bytes h.found k s.framing
+      (none_cut s.records.limits bytes k.done s.records.record.start k.given h.found (cut_whole s.records bytes h.found k s.framing) f)
+
+  -- the linter has refused nothing
+  pub not_refused : refusal_of s.records.record.linter ≡ None
+  not_refused =
+      (unrefused s.records.number s.records.is_void s.records.record.start (refusal_of s.records.record.linter) h.refused).1

@@ -5,6 +5,7 @@ use Rattle.gj_rules.proofs.Common.{depth, event_of, events_by, false, is_feeding
 use Rattle.gj_rules.proofs.Common.{subst, suc, sym, text_told, top_of, true, value_events, zero, [], ◌++◌, ◌<◌, ◌∙◌, ◌∷◌, ◌≤◌}
 use Rattle.std.proofs.Common.{◌≡◌, ℕ}
 use Rattle.std.proofs.lemmas.List.{append-nil}
+use Rattle.gj_json.specs.declared.event.What.{What}
 use Rattle.gj_json.specs.declared.names.Known.{Known}
 use Rattle.gj_json.specs.declared.names.Known.TheVariants.{Bbox}
 use Rattle.gj_json.specs.Events as E
@@ -19,7 +20,7 @@ use Rattle.gj_rules.specs.Internal.EventSteps.{feed_behind, ended, fed}
 use Rattle.gj_rules.specs.Internal.LabelledEvents as T
 use Rattle.gj_rules.proofs.Texts.FramesInUse.{front_text}
 use Rattle.gj_rules.proofs.Texts.TimedEvents.{text-timed, text-events}
-use Rattle.gj_rules.proofs.Texts.ValuesByEvents.{Good, Fits, Leads, leads_at, text_found, lead_text}
+use Rattle.gj_rules.proofs.Texts.ValuesByEvents.{Good, Fits, IsNameOrEnd, Leads, leads_at, text_found, lead_text}
 
 -- ---- the events that were reported
 
@@ -76,11 +77,16 @@ few_skipped : (frames : ℕ) (x : Told) (rest : List Told) (feed : Feed) (k : �
 few_skipped frames x rest feed zero m f o a e g = omega arith
 few_skipped frames x rest feed (suc k) m f o a e g = g
 
+names_room : (frames : ℕ) (what : What) (o : List Frame) → IsNameOrEnd what → HasRoom frames what o
+names_room frames What.OpenObject o g = absurd g
+names_room frames _ o g = tt
+
 has_room : (frames : ℕ) (x : Told) (rest : List Told) (feed : Feed) (k : ℕ) (m : Mode) (f : Frame) (o : List Frame) (a : Findings)
     → is_feeding k m ≡ false → Good frames x rest (with_feed (core k m f o a) feed) → k ≡ 0 → HasRoom frames (event_of x).what o
 has_room frames x rest feed (suc k) m f o a e g z = cc
 has_room frames x rest feed zero (Due Coordinates) f o a e g z = cc
 has_room frames x rest feed zero (Due Bbox) f o a e g z = cc
+has_room frames x rest feed zero Names f o a e g z = names_room frames (event_of x).what o g
 has_room frames x rest feed zero other f o a e g z = g
 
 taken_core : {frames : ℕ} (old new : FramedRules frames) (x : Told) (rest : List Told) (feed : Feed) → is_feeding old.skipped old.mode ≡ false

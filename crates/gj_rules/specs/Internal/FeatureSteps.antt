@@ -1,9 +1,9 @@
--- What an event reports of the features of a text, beside what it does to what the rules keep.
-use Rattle.std.specs.Prelude.{◌≡◌, ℕ, zero, suc, ◌<◌, ◌≤◌, ◌^◌, nat_le, if◌then◌else◌, Bool, true, false, List, [], ◌∷◌, ◌++◌, map, length, Option, Some, None}
+-- What an event reports of the features of a text, as the rules stand before it.
+use Rattle.std.specs.Prelude.{◌≡◌, ℕ, zero, suc, ◌<◌, ◌≤◌, ◌^◌, Bool, true, false, List, [], ◌∷◌, ◌++◌, map, length, Option, Some, None}
+use Rattle.std.specs.Option.{unwrap_or}
 use Rattle.gj_json.specs.declared.event.Event.{Event}
 use Rattle.gj_json.specs.declared.event.What.{What}
-use Rattle.gj_json.specs.declared.names.Known.{Known}
-use Rattle.gj_json.specs.declared.names.Known.TheVariants.{Features, Id}
+use Rattle.gj_json.specs.declared.names.Known.TheVariants.{Id}
 use Rattle.gj_json.specs.Tree.{Tree, Text, depth}
 use Rattle.gj_coords.specs.declared.fault.Fault.{Fault}
 use Rattle.gj_coords.specs.declared.fault.Rule.TheVariants.{G1}
@@ -12,10 +12,9 @@ use Rattle.gj_coords.specs.Fault.{fault_at, least}
 use Rattle.gj_coords.specs.Internal.KeptWarnings.{no_warnings}
 use Rattle.gj_coords.specs.Items.{place_of}
 use Rattle.gj_rules.specs.declared.feature.Feature.{Feature}
-use Rattle.gj_rules.specs.declared.feature_count.FeatureCount.{FeatureCount}
-use Rattle.gj_rules.specs.declared.feature_count.Stage.{Stage}
+use Rattle.gj_rules.specs.declared.feature_rules.FeatureCount.{FeatureCount}
 use Rattle.gj_rules.specs.declared.mode.Mode.{Mode}
-use Rattle.gj_rules.specs.declared.mode.Mode.TheVariants.{Due}
+use Rattle.gj_rules.specs.declared.mode.Mode.TheVariants.{Names, Due, Elements}
 use Rattle.gj_rules.specs.declared.role.Role.{Role}
 use Rattle.gj_rules.specs.Faults.{faults}
 use Rattle.gj_rules.specs.Levels.{most_levels}
@@ -54,165 +53,94 @@ features_from index (value ∷ more) = feature_of index value ∷ features_from 
 abbrev pub features_by : ℕ → Text → List Feature
 features_by n text = features_from 0 (complete_in n (features_of text.value))
 
--- ---- the count
-
-abbrev pub inner_step : What → ℕ → ℕ
-inner_step What.OpenObject inner = suc (suc inner)
-inner_step What.OpenArray inner = suc (suc inner)
-inner_step What.CloseObject inner = inner
-inner_step What.CloseArray inner = inner
-inner_step _ inner = suc inner
-
--- whether an array that opens is that of the first `features`
-abbrev pub starts_at : ℕ → Mode → Bool
-starts_at zero (Due Features) = true
-starts_at _ _ = false
-
-abbrev pub seen : Bool → ℕ → Option ℕ → Option ℕ
-seen true place id = Some place
-seen false place id = id
-
--- a value begins in an element
-abbrev pub began : ℕ → FeatureCount → FeatureCount
-began place c = record c { id = seen c.id_due place c.id; id_due = false }
-
--- whether a name is that of the first `id`, where this is known of the name before it
-abbrev pub named_by : Known → Option ℕ → Bool → Bool
-named_by Id None due = true
-named_by Id (Some place) due = false
-named_by _ id due = due
-
-abbrev pub outside_step : What → FeatureCount → FeatureCount
-outside_step What.OpenObject c = record c { stage = Stage.Root }
-outside_step What.OpenArray c = record c { inner = 1 }
-outside_step _ c = c
-
-abbrev pub root_step : What → Bool → FeatureCount → FeatureCount
-root_step What.OpenArray true c = record c { stage = Stage.List }
-root_step What.OpenArray false c = record c { inner = 1 }
-root_step What.OpenObject starts c = record c { inner = 1 }
-root_step What.CloseObject starts c = record c { stage = Stage.Outside }
-root_step _ starts c = c
-
-abbrev pub list_step : What → ℕ → FeatureCount → FeatureCount
-list_step What.OpenObject place c = record c { stage = Stage.Element; place = place; id = None; id_due = false }
-list_step What.OpenArray place c = record c { stage = Stage.Element; place = place; id = None; id_due = false }
-list_step What.CloseArray place c = record c { stage = Stage.Root }
-list_step (What.Name name) place c = c
-list_step _ place c = record c { index = suc c.index }
-
-abbrev pub element_step : What → ℕ → FeatureCount → FeatureCount
-element_step What.OpenObject place c = record (began place c) { inner = 1 }
-element_step What.OpenArray place c = record (began place c) { inner = 1 }
-element_step What.CloseObject place c = record c { stage = Stage.List; index = suc c.index }
-element_step What.CloseArray place c = record c { stage = Stage.List; index = suc c.index }
-element_step (What.Name name) place c = record c { id_due = named_by name c.id c.id_due }
-element_step _ place c = began place c
-
-abbrev pub stage_step : Stage → What → ℕ → Bool → FeatureCount → FeatureCount
-stage_step Stage.Outside what place starts c = outside_step what c
-stage_step Stage.Root what place starts c = root_step what starts c
-stage_step Stage.List what place starts c = list_step what place c
-stage_step Stage.Element what place starts c = element_step what place c
-
-abbrev pub count_at : ℕ → What → ℕ → Bool → FeatureCount → FeatureCount
-count_at zero what place starts c = stage_step c.stage what place starts c
-count_at (suc inner) what place starts c = record c { inner = inner_step what inner }
-
-abbrev pub counted : Event → State → FeatureCount → FeatureCount
-counted event s c = count_at c.inner event.what event.place (starts_at s.core.skipped s.core.mode) c
-
--- ---- events that matter to no feature
-
-abbrev pub concerns_list : Stage → Bool → Bool
-concerns_list Stage.List due = true
-concerns_list stage due = due
-
-abbrev pub opens_inner : Stage → Bool → Bool
-opens_inner Stage.Element true = true
-opens_inner Stage.Element false = false
-opens_inner _ due = true
-
-abbrev pub no_level : ℕ → Bool → Bool
-no_level zero opens = opens
-no_level (suc inner) opens = false
-
--- how many levels have to close before an event matters again
-abbrev pub ignored_of : (skipped inner : ℕ) → ℕ
-ignored_of skipped inner = if nat_le skipped inner then skipped else 0
-
--- whether the count has more to do at an event of this kind than with its levels
-abbrev pub concerned : What → ℕ → Stage → Bool → Bool
-concerned (What.Name Id) inner stage due = true
-concerned (What.Name name) inner stage due = false
-concerned What.OpenObject inner stage due = no_level inner (opens_inner stage due)
-concerned What.OpenArray inner stage due = no_level inner (opens_inner stage due)
-concerned What.CloseObject inner stage due = no_level inner true
-concerned What.CloseArray inner stage due = no_level inner true
-concerned what inner stage due = concerns_list stage due
-
--- a string or a number
-abbrev pub is_scalar : What → Bool
-is_scalar (What.Text word) = true
-is_scalar (What.Number value) = true
-is_scalar _ = false
-
--- ---- what an event reports
-
--- an object has ended, in which this is found
-abbrev pub feature_found : Findings → ℕ → FeatureCount → Feature
-feature_found found close c =
-    record { index = c.index; place = c.place; close = Some close; id = c.id; fault = found.fault; warnings = kept_unless found.fault found.warned }
+-- an object ends as a feature, in which this is found
+abbrev pub feature_found : Findings → (index place close : ℕ) → Option ℕ → Feature
+feature_found found index place close id =
+    record { index = index; place = place; close = Some close; id = id; fault = found.fault; warnings = kept_unless found.fault found.warned }
 
 -- an element that is no object
 abbrev pub no_feature : ℕ → ℕ → Option ℕ → Feature
 no_feature index place close = record { index = index; place = place; close = close; id = None; fault = Some (fault_at place G1); warnings = no_warnings }
 
-abbrev pub list_tells : What → ℕ → FeatureCount → List Feature
-list_tells What.OpenObject place c = []
-list_tells What.OpenArray place c = []
-list_tells What.CloseArray place c = []
-list_tells (What.Name name) place c = []
-list_tells _ place c = no_feature c.index place None ∷ []
+-- ---- where an event matters
 
-abbrev pub element_tells : What → ℕ → Frame → FeatureCount → List Feature
-element_tells What.CloseObject place top c = feature_found (settled top) place c ∷ []
-element_tells What.CloseArray place top c = no_feature c.index c.place (Some place) ∷ []
-element_tells _ place top c = []
+abbrev pub is_feature : Role → Bool
+is_feature Role.Feature = true
+is_feature _ = false
 
-abbrev pub stage_tells : Stage → What → ℕ → Frame → FeatureCount → List Feature
-stage_tells Stage.List what place top c = list_tells what place c
-stage_tells Stage.Element what place top c = element_tells what place top c
-stage_tells _ what place top c = []
+-- in the array of the first `features`, and in no object in it
+abbrev pub lists : Mode → Bool
+lists (Elements role) = is_feature role
+lists _ = false
 
-abbrev pub tells_at : ℕ → What → ℕ → Frame → FeatureCount → List Feature
-tells_at zero what place top c = stage_tells c.stage what place top c
-tells_at (suc inner) what place top c = []
+-- where an element of it begins
+abbrev pub at_element : ℕ → Mode → Bool
+at_element zero mode = lists mode
+at_element (suc levels) mode = false
 
-abbrev pub tells : Event → State → FeatureCount → List Feature
-tells event s c = tells_at c.inner event.what event.place s.core.top c
+-- in an element that is an array, and in no value in it
+abbrev pub in_array : ℕ → Mode → Bool
+in_array zero mode = false
+in_array (suc zero) mode = lists mode
+in_array (suc (suc levels)) mode = false
 
--- ---- a text
+-- where the value of the first `id` of a feature begins
+abbrev pub at_id : ℕ → Mode → Role → Bool
+at_id zero (Due Id) role = is_feature role
+at_id zero _ role = false
+at_id (suc levels) mode role = false
+
+-- where a feature that is an object may end
+abbrev pub at_end : ℕ → Mode → Role → Bool
+at_end zero Names role = is_feature role
+at_end zero _ role = false
+at_end (suc levels) mode role = false
+
+-- ---- what was heard
 
 -- a feature, and in how many bytes of the text it is complete
 pub record TimedFeature : Type 0 where
   pub at : ℕ
   pub feature : Feature
 
-abbrev pub timed_at : ℕ → List Feature → List TimedFeature
-timed_at at features = map (λ feature. record { at = at; feature = feature }) features
+-- the features that have ended, and where the value of the first `id` of the open one begins, or it itself where it is an array
+pub record Heard : Type 0 where
+  pub begun : Option ℕ
+  pub told : List TimedFeature
 
--- what the events report from a state on, and the count after them
-abbrev pub heard : List L.Told → State → FeatureCount → List TimedFeature
-heard [] s c = []
-heard (x ∷ xs) s c = timed_at (at_of x) (tells (event_of x) s c) ++ heard xs (step x s) (counted (event_of x) s c)
+abbrev pub unheard : Heard
+unheard = record { begun = None; told = [] }
 
-abbrev pub count : List L.Told → State → FeatureCount → FeatureCount
-count [] s c = c
-count (x ∷ xs) s c = count xs (step x s) (counted (event_of x) s c)
+abbrev pub begins : Bool → ℕ → Heard → Heard
+begins true place h = record h { begun = Some place }
+begins false place h = h
 
-abbrev pub no_count : FeatureCount
-no_count = record { stage = Stage.Outside; inner = 0; index = 0; place = 0; id = None; id_due = false }
+abbrev pub ended : ℕ → Feature → Heard → Heard
+ended at feature h = record { begun = None; told = h.told ++ record { at = at; feature = feature } ∷ [] }
+
+abbrev pub ends : Bool → ℕ → Feature → Heard → Heard
+ends true at feature h = ended at feature h
+ends false at feature h = h
+
+abbrev pub hear_at : ℕ → Mode → Frame → What → (place at : ℕ) → Heard → Heard
+hear_at skipped mode top (What.Name name) place at h = h
+hear_at skipped mode top What.OpenObject place at h = begins (at_id skipped mode top.slots.role) place h
+hear_at skipped mode top What.OpenArray place at h = begins (at_element skipped mode) place (begins (at_id skipped mode top.slots.role) place h)
+hear_at skipped mode top What.CloseObject place at h =
+    ends (at_end skipped mode top.slots.role) at (feature_found (settled top) (length h.told) top.slots.place place h.begun) h
+hear_at skipped mode top What.CloseArray place at h =
+    ends (in_array skipped mode) at (no_feature (length h.told) (unwrap_or h.begun 0) (Some place)) h
+hear_at skipped mode top _ place at h =
+    ends (at_element skipped mode) at (no_feature (length h.told) place None) (begins (at_id skipped mode top.slots.role) place h)
+
+abbrev pub hear : L.Told → State → Heard → Heard
+hear x s h = hear_at s.core.skipped s.core.mode s.core.top (event_of x).what (event_of x).place (at_of x) h
+
+abbrev pub hears : List L.Told → State → Heard → Heard
+hears [] s h = h
+hears (x ∷ xs) s h = hears xs (step x s) (hear x s h)
+
+-- ---- a text
 
 abbrev pub timed_from : ℕ → List Tree → List TimedFeature
 timed_from index [] = []
@@ -221,12 +149,20 @@ timed_from index (value ∷ more) = record { at = complete_at value; feature = f
 abbrev pub features_in : List TimedFeature → List Feature
 features_in all = map (λ (x : TimedFeature). x.feature) all
 
--- after these events of a text of fewer than 2^63 events this is the count, and what they report was reported
+-- these features were reported, and this is the count
+abbrev pub IsHeard : (List Feature → Type 0) → FeatureCount → Heard → Type 0
+IsHeard Told count h = (count.index ≡ length h.told) × (count.begun ≡ h.begun) × Told (features_in h.told)
+
+-- what these events of a text of fewer than 2^63 events report was reported
 abbrev pub FeaturesAre : (List Feature → Type 0) → FeatureCount → List Event → Type 0
-FeaturesAre Told c events = (text : Text) (done rest : List L.Told) → text_told text ≡ done ++ rest → map event_of done ≡ events
-    → depth text.value ≤ most_levels → length (text_told text) < 2 ^ 63
-    → (c ≡ count done start no_count) × Told (features_in (heard done start no_count))
+FeaturesAre Told count events = (text : Text) (done rest : List L.Told) → text_told text ≡ done ++ rest → map event_of done ≡ events
+    → depth text.value ≤ most_levels → length (text_told text) < 2 ^ 63 → IsHeard Told count (hears done start unheard)
 
 -- these events were reported to rules and a count, and this holds of what these report
 abbrev pub Stand : (List Feature → Type 0) → FramedRules MOST_FRAMES → FeatureCount → List Event → Type 0
-Stand Told rules c events = RulesStandFor rules events × FeaturesAre Told c events
+Stand Told rules count events = RulesStandFor rules events × FeaturesAre Told count events
+
+-- how many levels have to close before an event matters again
+abbrev pub ignored_of : Bool → ℕ → ℕ
+ignored_of true skipped = 0
+ignored_of false skipped = skipped

@@ -1,17 +1,11 @@
--- The verdict of a text from what is found in it, and the warnings that one keeps.
+-- The verdict of a text from what is found in it.
 use Rattle.std.specs.Prelude.{Option, Some, None}
 use Rattle.gj_coords.specs.declared.fault.Fault.{Fault}
 use Rattle.gj_coords.specs.declared.warnings.Warnings.{Warnings}
 use Rattle.gj_rules.specs.declared.verdict.Verdict.{Verdict}
-use Rattle.gj_rules.specs.declared.verdict.Verdict.TheVariants.{Valid, Broken, NotJson}
+use Rattle.gj_rules.specs.declared.verdict.Verdict.TheVariants.{Valid, Broken}
 
 -- the verdict of a text with this least fault and these warnings
 abbrev pub verdict_of : Option Fault → Warnings → Verdict
 verdict_of None warnings = Valid warnings
 verdict_of (Some fault) warnings = Broken fault
-
--- the warnings of a verdict that says valid
-abbrev pub valid_warnings : Verdict → Option Warnings
-valid_warnings (Valid warnings) = Some warnings
-valid_warnings (Broken fault) = None
-valid_warnings (NotJson fault) = None

@@ -25,9 +25,10 @@ pub enum RecordEnd {
     Limit,
 }
 
-const RECORD_SEPARATOR: u8 = 0x1E;
+/// The byte RS, which begins a record of a sequence.
+pub const RECORD_SEPARATOR: u8 = 0x1E;
 
-const LINE_FEED: u8 = b'\n';
+pub const LINE_FEED: u8 = b'\n';
 
 impl Framing {
     /// The byte between two records.

@@ -30,6 +30,16 @@ pub trait RecordSink {
         ensures { (records : List Record) → told self.old records → told self.new (records ++ found.now ∷ []) };
 }
 
+/// To which nothing that is reported matters.
+#[derive(Drop)]
+pub struct NoRecords;
+
+impl RecordSink for NoRecords {
+    ghost told = { λ _ _. Unit {0} };
+
+    fn tell_record(&mut self, _found: &Record) {}
+}
+
 impl SeqVerdict {
     ghost use Rattle.gj_coords.specs.Internal.KeptWarnings.{no_warnings};
     ghost use Rattle.gj_rules.specs.declared.records.record.Record.{Record};

@@ -1,20 +1,19 @@
-//! What is found in a feature that ends.
-ghost use Rattle.std.specs.Prelude.{◌≡◌, ◌++◌, ◌∷◌, [], ℕ, List, IsTrue};
+//! Where in the features of a text the next event stands, and what is found in a feature that ends.
+ghost use Rattle.std.specs.Prelude.{◌≡◌, ◌++◌, ◌∷◌, [], ℕ, List, true, IsTrue};
 ghost use Rattle.gj_json.specs.declared.event.Event.{Event};
 ghost use Rattle.gj_json.specs.declared.event.What.TheVariants as W;
-ghost use Rattle.std.specs.Option.{option_to_list};
 ghost use Rattle.gj_rules.specs.Internal.FeatureSteps.{no_feature};
 
 use super::FramedRules;
 use crate::feature::Feature;
-use crate::feature_count::{FeatureCount, Stage};
 use crate::findings::Findings;
 use crate::mode::Mode;
+use crate::role::Role;
 use gj_coords::{Fault, Rule, Warnings};
-use gj_json::{Event, Known, What};
+use gj_json::Known;
 
 /// An element that is no object.
-fn no_feature(index: u64, place: u64, close: Option<u64>) -> Feature
+pub(crate) fn no_feature(index: u64, place: u64, close: Option<u64>) -> Feature
     ensures { result ≡ no_feature index place close }
 {
     Feature {
@@ -31,39 +30,98 @@ fn no_feature(index: u64, place: u64, close: Option<u64>) -> Feature
 }
 
 impl<const FRAMES: usize> FramedRules<FRAMES> {
-    ghost use Rattle.gj_rules.specs.Internal.FeatureSteps.{starts_at, tells_at, feature_found};
+    ghost use Rattle.gj_rules.specs.Internal.FeatureSteps.{lists, at_element, in_array, is_feature, at_id, at_end, feature_found};
+    ghost use Rattle.gj_rules.specs.Internal.EventSteps.{is_feeding};
     ghost use Rattle.gj_rules.specs.Internal.FrameCalls.{settled};
     ghost use Rattle.gj_rules.specs.Internal.RulesState.{core_of};
     ghost use Rattle.gj_rules.specs.Internal.Summaries.{none_found};
     ghost use Rattle.gj_rules.specs.Rules.{StandsFor};
 
-    /// Whether an array that opens next is that of the first `features` of the text's object, where one opens directly in it.
-    pub(crate) fn starts_features(&self) -> bool
-        ensures { result ≡ starts_at self.now.skipped self.now.mode }
+    /// Whether the array of the first `features` is open, and no object in it.
+    #[inline(always)]
+    pub(crate) fn lists_features(&self) -> bool
+        ensures { result ≡ lists self.now.mode }
     {
-        if self.skipped > 0 {
-            return false;
-        }
         match self.mode {
-            Mode::Due(Known::Features) => true,
+            Mode::Elements(Role::Feature) => true,
             _ => false,
         }
     }
 
-    /// Whether an end of an object here is that of one that stands as a feature, and a few looks show that nothing is found in it.
+    /// Whether an element of it begins next, or it ends.
+    #[inline(always)]
+    pub(crate) fn awaits_feature(&self) -> bool
+        ensures { result ≡ at_element self.now.skipped self.now.mode }
+    {
+        self.skipped == 0 && self.lists_features()
+    }
+
+    /// Whether the end of an array that comes next is that of an element of it.
+    #[inline(always)]
+    pub(crate) fn ends_array_feature(&self) -> bool
+        ensures { result ≡ in_array self.now.skipped self.now.mode }
+    {
+        self.skipped == 1 && self.lists_features()
+    }
+
+    /// Whether the innermost open object with a role is a feature.
+    #[inline(always)]
+    fn is_feature(&self) -> bool
+        ensures { result ≡ is_feature (core_of self.now).top.slots.role }
+    {
+        match self.role() {
+            Role::Feature => true,
+            _ => false,
+        }
+    }
+
+    /// Whether the value of the first `id` of a feature begins next.
+    #[inline(always)]
+    pub(crate) fn awaits_id(&self) -> bool
+        ensures { result ≡ at_id self.now.skipped self.now.mode (core_of self.now).top.slots.role }
+    {
+        match self.mode {
+            Mode::Due(Known::Id) => self.skipped == 0 && self.is_feature(),
+            _ => false,
+        }
+    }
+
+    /// Whether the end of an object that comes next is that of a feature.
+    #[inline(always)]
+    pub(crate) fn ends_feature(&self) -> bool
+        ensures { result ≡ at_end self.now.skipped self.now.mode (core_of self.now).top.slots.role }
+    {
+        match self.mode {
+            Mode::Names => self.skipped == 0 && self.is_feature(),
+            _ => false,
+        }
+    }
+
+    /// Whether a value is under way in which nothing has a role.
+    #[inline(always)]
+    pub(crate) fn is_in_value(&self) -> bool
+        ensures { IsTrue result → self.now.skipped ≡ 0 → is_feeding self.now.skipped self.now.mode ≡ true }
+    {
+        self.skipped > 0 || self.is_feeding()
+    }
+
+    /// Where the innermost open object with a role begins.
+    #[inline(always)]
+    pub(crate) fn place(&self) -> u64
+        ensures { result ≡ (core_of self.now).top.slots.place }
+    {
+        self.frames[self.around as usize].slots.place
+    }
+
+    /// Whether a few looks show that nothing is found in a feature that ends.
     #[inline]
     pub(crate) fn is_clean_feature(&self) -> bool
-        ensures skipped { IsTrue result → self.now.skipped ≡ 0 }
-        ensures mode { IsTrue result → self.now.mode ≡ Mode.Names }
-        ensures clean { IsTrue result → settled (core_of self.now).top ≡ none_found }
+        ensures { IsTrue result → settled (core_of self.now).top ≡ none_found }
     {
-        if !self.awaits(Mode::Names) {
-            return false;
-        }
         self.frames[self.around as usize].is_clean_element()
     }
 
-    /// The end of such an object.
+    /// The end of such a feature.
     pub(crate) fn close_clean(&mut self)
         requires skipped { self.old.skipped ≡ 0 }
         requires mode { self.old.mode ≡ Mode.Names }
@@ -75,8 +133,8 @@ impl<const FRAMES: usize> FramedRules<FRAMES> {
     }
 
     /// The feature whose object closes here.
-    fn feature_found(&self, close: u64, count: &FeatureCount) -> Feature
-        ensures { result ≡ feature_found (settled (core_of self.now).top) close count.now }
+    pub(crate) fn feature_found(&self, index: u64, close: u64, id: Option<u64>) -> Feature
+        ensures { result ≡ feature_found (settled (core_of self.now).top) index (core_of self.now).top.slots.place close id }
     {
         let mut found = Findings::none();
         self.settle(&mut found);
@@ -85,33 +143,12 @@ impl<const FRAMES: usize> FramedRules<FRAMES> {
             Some(_) => Warnings::none(),
         };
         Feature {
-            index: count.index,
-            place: count.place,
+            index,
+            place: self.place(),
             close: Some(close),
-            id: count.id,
+            id,
             fault: found.fault,
             warnings,
-        }
-    }
-
-    /// The element of `features` that ends with this event, where one does.
-    pub(crate) fn feature_told(&self, event: &Event, count: &FeatureCount) -> Option<Feature>
-        ensures { option_to_list result ≡ tells_at count.now.inner event.now.what event.now.place (core_of self.now).top count.now }
-    {
-        if count.inner > 0 {
-            return None;
-        }
-        match count.stage {
-            Stage::List => match event.what {
-                What::OpenObject | What::OpenArray | What::CloseArray | What::Name(_) => None,
-                _ => Some(no_feature(count.index, event.place, None)),
-            },
-            Stage::Element => match event.what {
-                What::CloseObject => Some(self.feature_found(event.place, count)),
-                What::CloseArray => Some(no_feature(count.index, count.place, Some(event.place))),
-                _ => None,
-            },
-            _ => None,
         }
     }
 }

@@ -37,7 +37,7 @@ impl<const FRAMES: usize> FramedRules<FRAMES> {
 
     /// A name that is reported separately.
     #[inline(never)]
-    pub(crate) fn tell_name(&mut self, name: Known, place: u64)
+    pub(super) fn tell_name(&mut self, name: Known, place: u64)
         ensures { (events : List Event) → StandsFor self.old events → StandsFor self.new (events ++ record { place = place; what = W.Name name } ∷ []) }
     {
         self.tell_member(name, place);
@@ -78,7 +78,7 @@ impl<const FRAMES: usize> FramedRules<FRAMES> {
 
     /// The end of an object. Mostly it is one with a role.
     #[inline(never)]
-    pub(super) fn tell_close_object(&mut self, place: u64)
+    pub(crate) fn tell_close_object(&mut self, place: u64)
         ensures { (events : List Event) → StandsFor self.old events → StandsFor self.new (events ++ record { place = place; what = W.CloseObject } ∷ []) }
     {
         if self.awaits(Mode::Names) {

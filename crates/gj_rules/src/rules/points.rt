@@ -25,7 +25,7 @@ impl<const FRAMES: usize> FramedRules<FRAMES> {
 
     /// Whether a whole Point that comes next is the first `geometry` of an object in which its value is looked at.
     #[inline(always)]
-    pub(super) fn takes_point(&self) -> bool
+    pub(crate) fn takes_point(&self) -> bool
         ensures skipped { IsTrue result → self.now.skipped ≡ 0 }
         ensures mode { IsTrue result → self.now.mode ≡ Mode.Names }
         ensures due { IsTrue result → due_after Known.Geometry (core_of self.now).top ≡ Known.Geometry }

@@ -21,7 +21,6 @@ pub enum SeqVerdict {
 ghost use Rattle.gj_rules.specs.RecordFindings.{ended_as};
 ghost use Rattle.gj_rules.specs.Sequence.{if_ended, if_cut, shifted_verdict, SequenceJudgement, SequenceSays, IsSequenceVerdict};
 ghost use Rattle.gj_rules.specs.SequenceJudgement.{IsSequenceJudgement};
-ghost use Rattle.gj_rules.specs.Internal.VerdictParts.{valid_warnings};
 
 /// Under any limits each input has one verdict as a sequence, and no other: the one that says what the sequence is, with the
 /// list of the warnings of all records in turn. It does nothing: its contract is a law of the definitions.
@@ -97,27 +96,9 @@ pub fn shifted(verdict: Verdict, by: u64) -> Verdict
             place: fault.place + by,
             rule: fault.rule,
         }),
-        Verdict::NotJson(fault) => Verdict::NotJson(shifted_fault(fault, by)),
-    }
-}
-
-/// The refusal `by` bytes further on.
-pub fn shifted_fault(fault: JsonFault, by: u64) -> JsonFault
-    requires { fault.place + by ≤ 2 ^ 61 }
-    ensures { result ≡ record { place = fault.place + by; cause = fault.cause } }
-{
-    JsonFault {
-        place: fault.place + by,
-        cause: fault.cause,
-    }
-}
-
-/// The warnings of a valid record.
-pub fn valid_warnings(verdict: Verdict) -> Option<Warnings>
-    ensures { result ≡ valid_warnings verdict }
-{
-    match verdict {
-        Verdict::Valid(warnings) => Some(warnings),
-        _ => None,
+        Verdict::NotJson(fault) => Verdict::NotJson(JsonFault {
+            place: fault.place + by,
+            cause: fault.cause,
+        }),
     }
 }

@@ -1,14 +1,15 @@
-//! Rows of values and their least faults, for the six watchers and for the one walk.
-mod both;
+//! Rows of values and their least faults.
 mod flat;
 mod mixed;
+mod walked;
 mod warned;
+mod watchers;
 
 use crate::checks::holds;
-use both::{Both, SIX};
 use gj_coords::Rule::{G11, G12, G13, G14, G15, G16};
 use gj_coords::{Fault, Rule, Simple};
 use std::process::Abort;
+use walked::{SIX, Walked};
 
 /// Which rule is broken and where, if any.
 type Found = Option<(Rule, u64)>;
@@ -20,18 +21,17 @@ fn fault_of(found: &Found) -> Option<Fault> {
     }
 }
 
-/// Tests the faults as the first of the six types, and that the watchers find what the walk finds.
-fn expect_faults(rt: &impl Abort, both: &Both, expected: &[Found], name: &str) {
+/// Tests the faults as the first of the six types.
+fn expect_faults(rt: &impl Abort, walked: &Walked, expected: &[Found], name: &str) {
     for (simple, found) in SIX.iter().zip(expected) {
-        holds(rt, both.walked.walk.fault(*simple) == fault_of(found), name);
+        holds(rt, walked.walk.fault(*simple) == fault_of(found), name);
     }
-    holds(rt, both.by_walk() == both.by_watchers(), name);
 }
 
-/// Tests the faults as each of the six types, and that all are done at the end and not before.
-fn expect(rt: &impl Abort, both: &Both, expected: &[Found; 6], name: &str) {
-    holds(rt, both.all_done() && !both.any_early(), name);
-    expect_faults(rt, both, expected, name);
+/// Tests the faults as each of the six types, and that it is done at the end and not before.
+fn expect(rt: &impl Abort, walked: &Walked, expected: &[Found; 6], name: &str) {
+    holds(rt, walked.walk.done() && !walked.early, name);
+    expect_faults(rt, walked, expected, name);
 }
 
 /// A value, and its faults as each of the six types.
@@ -90,7 +90,7 @@ static SHAPES: [(&str, [Found; 6]); 9] = [
 #[test]
 fn each_shape_as_each_type(rt: HostRuntime) {
     for (text, expected) in SHAPES.iter() {
-        expect(&rt, &Both::of_text(text), expected, text);
+        expect(&rt, &Walked::of_text(text), expected, text);
     }
 }
 
@@ -141,7 +141,7 @@ static LINES: [(&str, [Found; 4]); 5] = [
 #[test]
 fn positions_and_lines(rt: HostRuntime) {
     for (text, expected) in LINES.iter() {
-        expect_faults(&rt, &Both::of_text(text), expected, text);
+        expect_faults(&rt, &Walked::of_text(text), expected, text);
     }
 }
 
@@ -219,10 +219,9 @@ static RINGS: [(&str, Simple, Found, &str); 12] = [
 #[test]
 fn linear_rings(rt: HostRuntime) {
     for (text, simple, expected, name) in RINGS.iter() {
-        let both = Both::of_text(text);
-        let found = both.walked.walk.fault(*simple);
+        let walked = Walked::of_text(text);
+        let found = walked.walk.fault(*simple);
         holds(&rt, found == fault_of(expected), name);
-        holds(&rt, both.by_walk() == both.by_watchers(), name);
     }
 }
 
@@ -237,8 +236,8 @@ static OF_SIXTY_LEVELS: [Found; 6] = [
 
 #[test]
 fn sixty_levels(rt: HostRuntime) {
-    let both = Both::of(&[(b"[", 60), (b"]", 60)]);
-    expect(&rt, &both, &OF_SIXTY_LEVELS, "sixty levels");
+    let walked = Walked::of(&[(b"[", 60), (b"]", 60)]);
+    expect(&rt, &walked, &OF_SIXTY_LEVELS, "sixty levels");
 }
 
 static OF_A_POSITION: [Found; 6] = [
@@ -252,8 +251,13 @@ static OF_A_POSITION: [Found; 6] = [
 
 #[test]
 fn a_hundred_thousand_numbers(rt: HostRuntime) {
-    let both = Both::of(&[(b"[7", 1), (b",7", 99_999), (b"]", 1)]);
-    expect(&rt, &both, &OF_A_POSITION, "a position of so many numbers");
+    let walked = Walked::of(&[(b"[7", 1), (b",7", 99_999), (b"]", 1)]);
+    expect(
+        &rt,
+        &walked,
+        &OF_A_POSITION,
+        "a position of so many numbers",
+    );
 }
 
 /// The end of a ring, its fault as a polygon's, and what it is.
@@ -265,9 +269,8 @@ static RING_ENDS: [(&[u8], Found, &str); 2] = [
 #[test]
 fn a_hundred_thousand_positions(rt: HostRuntime) {
     for (end, expected, name) in RING_ENDS.iter() {
-        let both = Both::of(&[(b"[[[0,0]", 1), (b",[5,0]", 99_998), (end, 1)]);
-        let found = both.walked.walk.fault(Simple::Polygon);
+        let walked = Walked::of(&[(b"[[[0,0]", 1), (b",[5,0]", 99_998), (end, 1)]);
+        let found = walked.walk.fault(Simple::Polygon);
         holds(&rt, found == fault_of(expected), name);
-        holds(&rt, both.by_walk() == both.by_watchers(), name);
     }
 }

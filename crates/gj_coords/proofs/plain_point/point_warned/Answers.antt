@@ -5,4 +5,4 @@ use Rattle.gj_coords.proofs.plain_point.point_warned.Goals as goal
 pub returns : goal.returns
 returns c =
     let f = c.args.flat.now in
-    point_with f c.warn_quick.new.warned (c.warn_quick.ensures ∙ ap (λ w. sound_noted w (flat_position f)) c.none-warned.ensures.exact)
+    point_with f c.judge.new.warned (c.judge.ensures.warned ∙ ap (λ w. sound_noted w (flat_position f)) c.none-warned.ensures.exact)

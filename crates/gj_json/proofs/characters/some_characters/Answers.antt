@@ -7,23 +7,23 @@ use Rattle.gj_json.proofs.characters.some_characters.Goals as goal
 
 pub returns-then-piece-eq92-clause-within : goal.returns-then-piece-eq92-clause-within
 returns-then-piece-eq92-clause-within c =
-    more_within c.args.piece.now c.escapes_run-escaped.result c.ascii_run.result c.escapes_run-escaped.ensures.within
-    (rw (c.ascii_run.ensures) (prefix_len-le-length is_unescaped_ascii _))
+    more_within c.args.piece.now c.escapes_run-escaped.result c.run.result c.escapes_run-escaped.ensures.within
+    (rw (c.run.ensures) (prefix_len-le-length is_unescaped_ascii _))
 
 pub returns-then-piece-eq92-clause-characters : goal.returns-then-piece-eq92-clause-characters
 returns-then-piece-eq92-clause-characters c =
     let before = c.escapes_run-escaped.ensures.characters in
-    let more = plain_characters _ c.ascii_run.result c.ascii_run.ensures in
-    (before.0 ++ more.0, reads_more Plain Plain Plain c.args.piece.now before.0 more.0 c.escapes_run-escaped.result c.ascii_run.result before.1 more.1)
+    let more = plain_characters _ c.run.result c.run.ensures in
+    (before.0 ++ more.0, reads_more Plain Plain Plain c.args.piece.now before.0 more.0 c.escapes_run-escaped.result c.run.result before.1 more.1)
 
 pub returns-then-piece-lt128-clause-within : goal.returns-then-piece-lt128-clause-within
-returns-then-piece-lt128-clause-within c = rw (c.ascii_run-then-piece-lt128.ensures) (prefix_len-le-length is_unescaped_ascii c.args.piece.now)
+returns-then-piece-lt128-clause-within c = rw (c.run-then-piece-lt128.ensures) (prefix_len-le-length is_unescaped_ascii c.args.piece.now)
 
 pub returns-then-piece-lt128-clause-characters : goal.returns-then-piece-lt128-clause-characters
-returns-then-piece-lt128-clause-characters c = plain_characters c.args.piece.now c.ascii_run-then-piece-lt128.result c.ascii_run-then-piece-lt128.ensures
+returns-then-piece-lt128-clause-characters c = plain_characters c.args.piece.now c.run-then-piece-lt128.result c.run-then-piece-lt128.ensures
 
 pub overflow_add-result : goal.overflow_add-result
 overflow_add-result c =
-    let all = more_within c.args.piece.now c.escapes_run-escaped.result c.ascii_run.result c.escapes_run-escaped.ensures.within
-    (rw (c.ascii_run.ensures) (prefix_len-le-length is_unescaped_ascii _)) in
+    let all = more_within c.args.piece.now c.escapes_run-escaped.result c.run.result c.escapes_run-escaped.ensures.within
+    (rw (c.run.ensures) (prefix_len-le-length is_unescaped_ascii _)) in
     record { fits = omega (arith, all) }

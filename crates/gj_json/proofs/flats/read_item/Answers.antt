@@ -21,27 +21,27 @@ valued piece first n value read =
     rw (cut_front piece first n) there
 
 pub bounds-piece-end : goal.bounds-piece-end
-bounds-piece-end c = within c.args.piece.now c.end-first.result c.read_short-count.result _ (c.read_short-count.ensures.number (omega arith))
+bounds-piece-end c = within c.args.piece.now c.white_end-first.result c.read_short-count.result _ (c.read_short-count.ensures.number (omega arith))
 
 pub returns-then-piece-end-gt32-clause-within : goal.returns-then-piece-end-gt32-clause-within
 returns-then-piece-end-gt32-clause-within c = let w =
-    within c.args.piece.now c.end-first.result c.read_short-count.result _ (c.read_short-count.ensures.number (omega arith)) in omega arith
+    within c.args.piece.now c.white_end-first.result c.read_short-count.result _ (c.read_short-count.ensures.number (omega arith)) in omega arith
 
 pub returns-then-piece-end-gt32-clause-item : goal.returns-then-piece-end-gt32-clause-item
 returns-then-piece-end-gt32-clause-item c = λ some.
     let piece = c.args.piece.now in
-    let first = c.end-first.result in
+    let first = c.white_end-first.result in
     let end = first + c.read_short-count.result in
-    let w = within c.args.piece.now c.end-first.result c.read_short-count.result _ (c.read_short-count.ensures.number (omega arith)) in
-    item_cut piece c.args.start _ c.args.at first end end c.end-first.ensures.on (omega arith) (omega arith)
-    (omega arith) c.end-first.ensures.white refl (valued piece first c.read_short-count.result _ (c.read_short-count.ensures.number (omega arith)))
+    let w = within c.args.piece.now c.white_end-first.result c.read_short-count.result _ (c.read_short-count.ensures.number (omega arith)) in
+    item_cut piece c.args.start _ c.args.at first end end c.white_end-first.ensures.on (omega arith) (omega arith)
+    (omega arith) c.white_end-first.ensures.white refl (valued piece first c.read_short-count.result _ (c.read_short-count.ensures.number (omega arith)))
     (none_cut piece end)
 
 pub returns-clause-item : goal.returns-clause-item
 returns-clause-item c = λ some.
     let piece = c.args.piece.now in
-    let first = c.end-first.result in
+    let first = c.white_end-first.result in
     let end = first + c.read_short-count.result in
-    item_cut piece c.args.start _ c.args.at first end c.end-end.result c.end-first.ensures.on
-    (omega arith) c.end-end.ensures.on c.end-end.ensures.within c.end-first.ensures.white refl
-    (valued piece first c.read_short-count.result _ (c.read_short-count.ensures.number (omega arith))) c.end-end.ensures.white
+    item_cut piece c.args.start _ c.args.at first end c.white_end-end.result c.white_end-first.ensures.on
+    (omega arith) c.white_end-end.ensures.on c.white_end-end.ensures.within c.white_end-first.ensures.white refl
+    (valued piece first c.read_short-count.result _ (c.read_short-count.ensures.number (omega arith))) c.white_end-end.ensures.white

@@ -4,7 +4,7 @@ use Rattle.gj_json.proofs.Grammar.SpelledCharacters.{plain_characters}
 use Rattle.gj_json.proofs.tokens.plain_text_run.Goals as goal
 
 pub returns-clause-within : goal.returns-clause-within
-returns-clause-within c = rw (c.ascii_run.ensures) (prefix_len-le-length is_unescaped_ascii c.args.piece.now)
+returns-clause-within c = rw (c.run.ensures) (prefix_len-le-length is_unescaped_ascii c.args.piece.now)
 
 pub returns-clause-characters : goal.returns-clause-characters
-returns-clause-characters c = plain_characters c.args.piece.now c.ascii_run.result c.ascii_run.ensures
+returns-clause-characters c = plain_characters c.args.piece.now c.run.result c.run.ensures

@@ -3,7 +3,9 @@ use Rattle.gj_number.proofs.Common.{List, ap, arith, subst, sym, with_value, ℕ
 use Rattle.std.specs.Simd.Lanes.{Each1}
 use Rattle.std.specs.List.{fold}
 use Rattle.gj_number.proofs.Shorts.SixteenLanes.{natural_few, natural_ends, natural_small, natural_spell, both_few, both_small, both_spell}
+use Rattle.gj_number.proofs.Shorts.UnsignedNumbers.{some_other, first_allowed, whole_is, rest_some, after_some, both_is}
 use Rattle.gj_number.proofs.lanes.unsigned_prefix.Goals as goal
+use Rattle.gj_number.proofs.lanes.unsigned_prefix.Goals.{then-rest-eq0-via-then-rest-eq0, then-rest-eq0-via-else-rest-eq0+then-fraction-eq0}
 
 pub bounds-piece-natural : goal.bounds-piece-natural
 bounds-piece-natural c =
@@ -69,3 +71,29 @@ returns-then-piece-natural-ne46-clause-ends c =
 pub returns-clause-ends : goal.returns-clause-ends
 returns-clause-ends c =
     natural_ends c.args.piece.now _ c.requires c.type_inv.piece c.lanes_of-lanes.ensures _ c.from_ten-others.ensures c.if-others-eq0.false
+
+pub returns-then-others-eq0-clause-taken : goal.returns-then-others-eq0-clause-taken
+returns-then-others-eq0-clause-taken c = λ n few u.
+    some_other c.args.piece.now _ c.requires c.type_inv.piece c.lanes_of-lanes.ensures _ c.from_ten-others.ensures n few u c.if-others-eq0.true
+
+pub returns-then-piece-natural-ne46-clause-taken : goal.returns-then-piece-natural-ne46-clause-taken
+returns-then-piece-natural-ne46-clause-taken c = λ n few u. (
+  whole_is c.args.piece.now _ c.requires c.type_inv.piece c.lanes_of-lanes.ensures _ c.from_ten-others.ensures n few u c.if-others-eq0.false
+      c.if-piece-natural-ne46.true,
+  first_allowed c.args.piece.now _ c.requires c.type_inv.piece c.lanes_of-lanes.ensures _ c.from_ten-others.ensures n few u c.if-others-eq0.false,
+)
+
+pub returns-then-rest-eq0-clause-taken : goal.returns-then-rest-eq0-clause-taken
+returns-then-rest-eq0-clause-taken c = λ n few u. elim c.then-rest-eq0.branch [
+  | then-rest-eq0-via-then-rest-eq0 w ↦ rest_some c.args.piece.now _ c.requires c.type_inv.piece c.lanes_of-lanes.ensures _ c.from_ten-others.ensures n few u
+      c.if-others-eq0.false c.if-piece-natural-ne46.false w.if-rest-eq0.true
+  | then-rest-eq0-via-else-rest-eq0+then-fraction-eq0 w ↦ after_some c.args.piece.now _ c.requires c.type_inv.piece c.lanes_of-lanes.ensures _ c.from_ten-others.ensures n few u
+      c.if-others-eq0.false c.if-piece-natural-ne46.false w.if-rest-eq0.false w.if-fraction-eq0.true
+]
+
+pub returns-clause-taken : goal.returns-clause-taken
+returns-clause-taken c = λ n few u. (
+  both_is c.args.piece.now _ c.requires c.type_inv.piece c.lanes_of-lanes.ensures _ c.from_ten-others.ensures n few u c.if-others-eq0.false
+      c.if-piece-natural-ne46.false c.if-rest-eq0.false,
+  first_allowed c.args.piece.now _ c.requires c.type_inv.piece c.lanes_of-lanes.ensures _ c.from_ten-others.ensures n few u c.if-others-eq0.false,
+)

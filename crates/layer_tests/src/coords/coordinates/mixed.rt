@@ -1,8 +1,7 @@
-//! Random small values. The pieces are cut at random, so a position comes as one `Flat` or by events. The walk and the
-//! six watchers get the same values event by event.
-use super::both::Both;
+//! Random small values. The pieces are cut at random, so a position comes as one `Flat` or by events, and it is found what is
+//! found event by event.
 use super::flat::Grouped;
-use crate::checks::holds_at;
+use super::walked::Walked;
 use gj_json::{Limits, Reader};
 use std::process::Abort;
 
@@ -102,18 +101,14 @@ fn expect_same(rt: &impl Abort, seed: u64) {
     let mut drawn = Drawn::new(seed);
     drawn.fill();
     let cut = drawn.next() as usize * 4;
-    let both = Both::of(&[(&drawn.bytes, 1)]);
+    let walked = Walked::of(&[(&drawn.bytes, 1)]);
     let mut grouped = Grouped::new();
     let mut reader = Reader::new(Limits::usual());
     if let (Some(one), Some(other)) = (drawn.bytes.get(..cut), drawn.bytes.get(cut..)) {
         let _ = reader.feed(one, &mut grouped);
         let _ = reader.feed(other, &mut grouped);
     }
-    grouped.expect_as(rt, &both, "drawn");
-    let faults = both.by_walk() == both.by_watchers();
-    holds_at(rt, faults, "drawn", seed as usize);
-    let warnings = both.warned_by_walk() == both.warned_by_watchers();
-    holds_at(rt, warnings, "drawn", seed as usize);
+    grouped.expect_as(rt, &walked, "drawn");
 }
 
 #[test]

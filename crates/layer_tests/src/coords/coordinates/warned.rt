@@ -1,5 +1,5 @@
-//! Rows of values and their warnings, for the six watchers and for the one walk.
-use super::both::{Both, SIX, Walked};
+//! Rows of values and their warnings.
+use super::walked::{SIX, Walked};
 use crate::checks::holds;
 use crate::rows::{Found, warnings_at};
 use gj_coords::Kind::{W2, W3, W4, W5, W6, W8, W9};
@@ -10,19 +10,17 @@ use std::process::Abort;
 /// A value, its type, and its warnings.
 type Row = (&'static str, Simple, Found);
 
-fn expect(rt: &impl Abort, both: &Both, simple: Simple, found: Found, name: &str) {
+fn expect(rt: &impl Abort, walked: &Walked, simple: Simple, found: Found, name: &str) {
     let expected = warnings_at(found);
-    holds(rt, both.walked.walk.warnings(simple) == expected, name);
+    holds(rt, walked.walk.warnings(simple) == expected, name);
     let mut warned = Warned::of(warnings_at(&[(W9, 1)]));
-    both.walked.walk.warn(simple, &mut warned);
+    walked.walk.warn(simple, &mut warned);
     holds(rt, warned.all() == expected.add(W9, 1), name);
-    let alike = both.warned_by_walk() == both.warned_by_watchers();
-    holds(rt, alike, name);
 }
 
 fn expect_row(rt: &impl Abort, row: &Row) {
     let (text, simple, found) = row;
-    expect(rt, &Both::of_text(text), *simple, found, text);
+    expect(rt, &Walked::of_text(text), *simple, found, text);
 }
 
 static POSITIONS: [Row; 23] = [
@@ -91,7 +89,7 @@ static EMPTY: [(&str, Found); 4] = [
 fn empty_arrays(rt: HostRuntime) {
     for simple in SIX.iter() {
         for (text, found) in EMPTY.iter() {
-            expect(&rt, &Both::of_text(text), *simple, found, text);
+            expect(&rt, &Walked::of_text(text), *simple, found, text);
         }
     }
 }
@@ -140,15 +138,15 @@ static RINGS: [(&str, &str, Found, &str); 4] = [
 #[test]
 fn rings(rt: HostRuntime) {
     for (exterior, hole, found, name) in RINGS.iter() {
-        let both = Both::of(&[
+        let walked = Walked::of(&[
             (b"[", 1),
             (exterior.as_bytes(), 1),
             (b",", 1),
             (hole.as_bytes(), 1),
             (b"]", 1),
         ]);
-        expect(&rt, &both, Polygon, found, name);
-        expect(&rt, &both, MultiLineString, &[], name);
+        expect(&rt, &walked, Polygon, found, name);
+        expect(&rt, &walked, MultiLineString, &[], name);
     }
 }
 
@@ -217,8 +215,8 @@ static AROUND: [(&str, Found); 2] = [
 fn a_hundred_thousand_positions(rt: HostRuntime) {
     for (around, found) in AROUND.iter() {
         let ring = around.as_bytes();
-        let both = Both::of(&[(b"[[[-180,-90]", 1), (ring, 25_000), (b"]]", 1)]);
-        expect(&rt, &both, Polygon, found, around);
+        let walked = Walked::of(&[(b"[[[-180,-90]", 1), (ring, 25_000), (b"]]", 1)]);
+        expect(&rt, &walked, Polygon, found, around);
     }
 }
 

@@ -1,4 +1,5 @@
 use Rattle.gj_coords.proofs.Common.{sym}
+use Rattle.std.proofs.lemmas.Option.{IfSome_then}
 use Rattle.gj_coords.proofs.Walks.FlatLaws.{flat_in_first, flat_in_second, flat_in_third, flat_in_fourth}
 use Rattle.gj_coords.proofs.Walks.SteadyLaws.{steady_first, steady_second, steady_third}
 use Rattle.gj_coords.specs.Internal.LevelGather.{line_of}
@@ -10,13 +11,12 @@ returns-in-First-clause-taken c =
     rw (c.requires, c.in-First.is, c.add_flat.ensures) (sym (flat_in_first c.args.flat.now s.outer))
 
 pub returns-in-First-clause-steady : goal.returns-in-First-clause-steady
-returns-in-First-clause-steady c = λ k.
+returns-in-First-clause-steady c =
     let s = c.args.self.now in
-    record {
+    IfSome_then c.steady_after.result c.steady_after.ensures (λ floor h. record {
       is_open = c.requires;
-      innermost = rw (c.in-First.is, c.steady_after.ensures.place k, c.add_flat.ensures)
-          (steady_first c.args.flat.now s.outer (rw c.add_flat.ensures at (c.steady_after.ensures.counted k)));
-    }
+      innermost = rw (c.in-First.is, h.1, c.add_flat.ensures) (steady_first c.args.flat.now s.outer (rw c.add_flat.ensures at h.0));
+    })
 
 pub returns-in-Second-clause-taken : goal.returns-in-Second-clause-taken
 returns-in-Second-clause-taken c =
@@ -24,13 +24,12 @@ returns-in-Second-clause-taken c =
     rw (c.requires, c.in-Second.is, c.add_flat-in-Second.ensures) (sym (flat_in_second c.args.flat.now s.outer s.middle))
 
 pub returns-in-Second-clause-steady : goal.returns-in-Second-clause-steady
-returns-in-Second-clause-steady c = λ k.
+returns-in-Second-clause-steady c =
     let s = c.args.self.now in
-    record {
+    IfSome_then c.steady_after-in-Second.result c.steady_after-in-Second.ensures (λ floor h. record {
       is_open = c.requires;
-      innermost = rw (c.in-Second.is, c.steady_after-in-Second.ensures.place k, c.add_flat-in-Second.ensures)
-          (steady_second c.args.flat.now s.middle (rw c.add_flat-in-Second.ensures at (c.steady_after-in-Second.ensures.counted k)));
-    }
+      innermost = rw (c.in-Second.is, h.1, c.add_flat-in-Second.ensures) (steady_second c.args.flat.now s.middle (rw c.add_flat-in-Second.ensures at h.0));
+    })
 
 pub returns-in-Third-clause-taken : goal.returns-in-Third-clause-taken
 returns-in-Third-clause-taken c =
@@ -38,13 +37,12 @@ returns-in-Third-clause-taken c =
     rw (c.requires, c.in-Third.is, c.add_flat-in-Third.ensures) (sym (flat_in_third c.args.flat.now s.outer s.middle (line_of s.inner)))
 
 pub returns-in-Third-clause-steady : goal.returns-in-Third-clause-steady
-returns-in-Third-clause-steady c = λ k.
+returns-in-Third-clause-steady c =
     let s = c.args.self.now in
-    record {
+    IfSome_then c.steady_after-in-Third.result c.steady_after-in-Third.ensures (λ floor h. record {
       is_open = c.requires;
-      innermost = rw (c.in-Third.is, c.steady_after-in-Third.ensures.place k, c.add_flat-in-Third.ensures)
-          (steady_third c.args.flat.now s.inner (rw c.add_flat-in-Third.ensures at (c.steady_after-in-Third.ensures.counted k)));
-    }
+      innermost = rw (c.in-Third.is, h.1, c.add_flat-in-Third.ensures) (steady_third c.args.flat.now s.inner (rw c.add_flat-in-Third.ensures at h.0));
+    })
 
 pub returns-in-Fourth-clause-taken : goal.returns-in-Fourth-clause-taken
 returns-in-Fourth-clause-taken c =

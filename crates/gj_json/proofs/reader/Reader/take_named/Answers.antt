@@ -17,8 +17,8 @@ returns-clause-feeds g c =
     let z : n + 0 ≡ n = omega arith in
     let first : get_or rest 0 0 ≡ colon_byte =
     ap (λ xs. get_or xs 0 0) (rest_of piece n) ∙ get_or-drop n piece 0 0 ∙ ap (λ i. get_or piece i 0) z ∙ usual.colon in
-    let colon = c.space_end-colon.result in
-    let leads = first_colon_cut rest colon (omega arith) first c.space_end-colon.ensures.on c.space_end-colon.ensures.within c.space_end-colon.ensures.white in
+    let colon = c.white_end-colon.result in
+    let leads = first_colon_cut rest colon (omega arith) first c.white_end-colon.ensures.on c.white_end-colon.ensures.within c.white_end-colon.ensures.white in
     rw (c.skip.ensures.count)
     (named_taken c.args.self.now c.skip.new.self piece n colon c.requires.takes.0 c.requires.due c.requires.takes.1 (omega arith) (as_string usual.quoted)
-    c.space_end-colon.ensures.within leads c.skip.ensures.passed (λ events h. rw (usual.known_as) (c.tell.ensures events h)))
+    c.white_end-colon.ensures.within leads c.skip.ensures.passed (λ events h. rw (usual.known_as) (c.tell.ensures events h)))

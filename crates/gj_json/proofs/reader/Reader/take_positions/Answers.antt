@@ -41,7 +41,7 @@ pub tell_positions-taken-requires : goal.tell_positions-taken-requires
 tell_positions-taken-requires g c =
     record {
       rising =
-          rising (gap_of c.args.form) (take c.read_positions-found.result c.read_positions-found.new.positions) c.loop-taken.self.offset c.loop-taken.rest.now
+          rising (gap_of c.args.separators.now) (take c.read_positions-found.result c.read_positions-found.new.positions) c.loop-taken.self.offset c.loop-taken.rest.now
           c.read_positions-found.ensures.spelled;
     }
 
@@ -61,7 +61,7 @@ pub overflow_add-next-in-loop-taken : goal.overflow_add-next-in-loop-taken
 overflow_add-next-in-loop-taken g c =
     let i = c.loop-taken.invariant in
     let all = c.read_positions-found.new.positions in
-    let gap = gap_of c.args.form in
+    let gap = gap_of c.args.separators.now in
     let e = ends gap all c.index-self-taken.result c.read_positions-found.result _ c.loop-taken.self.offset c.loop-taken.rest.now
     c.if-taken-eq0.false c.tell_positions-taken.ensures.few c.read_positions-found.ensures.spelled in
     let less = e.within in
@@ -73,7 +73,7 @@ pub overflow_add-next-in-loop-taken-2 : goal.overflow_add-next-in-loop-taken-2
 overflow_add-next-in-loop-taken-2 g c =
     let i = c.loop-taken.invariant in
     let all = c.read_positions-found.new.positions in
-    let gap = gap_of c.args.form in
+    let gap = gap_of c.args.separators.now in
     let e = ends gap all c.index-self-taken.result c.read_positions-found.result _ c.loop-taken.self.offset c.loop-taken.rest.now
     c.if-taken-eq0.false c.tell_positions-taken.ensures.few c.read_positions-found.ensures.spelled in
     let less = e.within in
@@ -84,7 +84,7 @@ overflow_add-next-in-loop-taken-2 g c =
 pub overflow_sub-count : goal.overflow_sub-count
 overflow_sub-count g c =
     let all = c.read_positions-found.new.positions in
-    let gap = gap_of c.args.form in
+    let gap = gap_of c.args.separators.now in
     let e = ends gap all c.index-self-taken.result c.read_positions-found.result _ c.loop-taken.self.offset c.loop-taken.rest.now
     c.if-taken-eq0.false c.tell_positions-taken.ensures.few c.read_positions-found.ensures.spelled in
     let on = e.on in
@@ -94,7 +94,7 @@ pub skip-requires-clause-room : goal.skip-requires-clause-room
 skip-requires-clause-room g c =
     let i = c.loop-taken.invariant in
     let all = c.read_positions-found.new.positions in
-    let gap = gap_of c.args.form in
+    let gap = gap_of c.args.separators.now in
     let e = ends gap all c.index-self-taken.result c.read_positions-found.result _ c.loop-taken.self.offset c.loop-taken.rest.now
     c.if-taken-eq0.false c.tell_positions-taken.ensures.few c.read_positions-found.ensures.spelled in
     let less = e.within in
@@ -104,7 +104,7 @@ skip-requires-clause-room g c =
 pub slice_bounds-rest-count : goal.slice_bounds-rest-count
 slice_bounds-rest-count g c =
     let all = c.read_positions-found.new.positions in
-    let gap = gap_of c.args.form in
+    let gap = gap_of c.args.separators.now in
     let e = ends gap all c.index-self-taken.result c.read_positions-found.result _ c.loop-taken.self.offset c.loop-taken.rest.now
     c.if-taken-eq0.false c.tell_positions-taken.ensures.few c.read_positions-found.ensures.spelled in
     let less = e.within in
@@ -113,7 +113,7 @@ slice_bounds-rest-count g c =
 pub slice_bounds-rest-start : goal.slice_bounds-rest-start
 slice_bounds-rest-start g c =
     let all = c.read_positions-found.new.positions in
-    let gap = gap_of c.args.form in
+    let gap = gap_of c.args.separators.now in
     let e = ends gap all c.index-self-taken.result c.read_positions-found.result _ c.loop-taken.self.offset c.loop-taken.rest.now
     c.if-taken-eq0.false c.tell_positions-taken.ensures.few c.read_positions-found.ensures.spelled in
     let less = e.within in
@@ -121,7 +121,7 @@ slice_bounds-rest-start g c =
 
 pub loop-taken-smaller : goal.loop-taken-smaller
 loop-taken-smaller g c =
-    let gap = gap_of c.args.form in
+    let gap = gap_of c.args.separators.now in
     let rest = c.loop-taken.rest.now in
     let all = c.read_positions-found.new.positions in
     let e = ends gap all c.index-self-taken.result c.read_positions-found.result _ c.loop-taken.self.offset rest c.if-taken-eq0.false

@@ -1,4 +1,4 @@
-use Rattle.gj_number.proofs.Common.{Scan, arith, false, length, length-take-le, refl, start, sym, take, true, with_digit, ◌+◌, ◌∙◌, ◌≡◌}
+use Rattle.gj_number.proofs.Common.{Scan, false, length, length-take-le, refl, start, sym, take, true, with_digit, ◌+◌, ◌∙◌, ◌≡◌}
 use Rattle.std.proofs.Common.{fold}
 use Rattle.gj_number.specs.Literal.{StandsFor}
 use Rattle.gj_number.proofs.Grammar.ScanPaths.{reaches_on}

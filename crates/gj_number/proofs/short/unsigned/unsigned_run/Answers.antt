@@ -1,14 +1,11 @@
--- The runs are found by the bits of the lanes that are no digits.
+-- The digits that are found are those of a number.
 use Rattle.gj_number.proofs.Common.{IsDigit, IsNumber, List, SpellsPlain, SpellsSign, SpellsUnsigned, append-nil, arith, false, get_or, inl, length}
 use Rattle.gj_number.proofs.Common.{refl, subst, suc, sym, take, true, zero, zero_digit, ℕ, [], ◌+◌, ◌<◌, ◌∙◌, ◌≡◌, ◌≤◌}
 use Rattle.std.proofs.Common.{zero-add}
 use Rattle.std.specs.Prelude.{pos}
 use Rattle.gj_number.proofs.Grammar.SpelledParts.{number_from}
 use Rattle.gj_number.proofs.Shorts.NumberPrefixes.{short_plain}
-use Rattle.gj_number.proofs.Shorts.SixteenLanes.{natural_few, natural_ends, natural_spell, both_few, both_spell}
-use Rattle.gj_number.proofs.Shorts.UnsignedNumbers.{some_other, first_allowed, whole_is, rest_some, after_some, both_is}
 use Rattle.gj_number.proofs.short.unsigned.unsigned_run.Goals as goal
-use Rattle.gj_number.proofs.short.unsigned.unsigned_run.Goals.{then-rest-eq0-via-then-rest-eq0, then-rest-eq0-via-else-rest-eq0+then-fraction-eq0}
 
 plain_number : (piece : List ℕ) (digits places n : ℕ) → SpellsPlain piece false digits places n → IsNumber (take n piece)
 plain_number piece digits places n p =
@@ -37,68 +34,22 @@ some_digit : (piece : List ℕ) (n : ℕ) → (IsDigit (get_or piece n 0) → �
 some_digit piece zero ends h = absurd (ends (h refl))
 some_digit piece (suc n) ends h = omega arith
 
-pub bounds-piece-natural : goal.bounds-piece-natural
-bounds-piece-natural c =
-    let few = natural_few c.args.piece.now _ (omega arith) c.type_inv.piece c.lanes_of.ensures _ c.from_ten-others.ensures c.if-others-eq0.false in
-    omega arith
+pub returns-in-Some-clause-number : goal.returns-in-Some-clause-number
+returns-in-Some-clause-number c = λ positive.
+    let piece = c.args.piece.now in
+    let found = c.in-Some.found in
+    let is = c.in-Some.ensures in
+    spelled_number piece found.natural found.fraction found.length found.value is.spells
+    (some_digit piece found.natural is.ends (c.leads.ensures.some c.if-leads.true)) (c.leads.ensures.one c.if-leads.true) (omega (arith, is.few)) (omega arith)
 
-pub returns-then-piece-natural-ne46-clause-few : goal.returns-then-piece-natural-ne46-clause-few
-returns-then-piece-natural-ne46-clause-few c =
-    natural_few c.args.piece.now _ (omega arith) c.type_inv.piece c.lanes_of.ensures _ c.from_ten-others.ensures c.if-others-eq0.false
+pub returns-in-Some-clause-taken : goal.returns-in-Some-clause-taken
+returns-in-Some-clause-taken c = λ n few u. (c.in-Some.ensures.taken n few u).0
 
-pub returns-then-piece-natural-ne46-clause-number : goal.returns-then-piece-natural-ne46-clause-number
-returns-then-piece-natural-ne46-clause-number c = λ some.
-    let few = natural_few c.args.piece.now _ (omega arith) c.type_inv.piece c.lanes_of.ensures _ c.from_ten-others.ensures c.if-others-eq0.false in
-    spelled_number c.args.piece.now _ 0 _ _
-    (natural_spell c.args.piece.now _ (omega arith) c.type_inv.piece c.lanes_of.ensures _ c.from_ten-others.ensures c.if-others-eq0.false _ refl) some
-    (c.leads.ensures.one c.if-not-leads.false) (omega arith) (omega arith)
-
-pub overflow_shr-rest : goal.overflow_shr-rest
-overflow_shr-rest c =
-    let few = natural_few c.args.piece.now _ (omega arith) c.type_inv.piece c.lanes_of.ensures _ c.from_ten-others.ensures c.if-others-eq0.false in
-    omega arith
-
-pub returns-clause-few : goal.returns-clause-few
-returns-clause-few c =
-    both_few c.args.piece.now _ (omega arith) c.type_inv.piece c.lanes_of.ensures _ c.from_ten-others.ensures c.if-others-eq0.false c.if-rest-eq0.false
-
-pub returns-clause-number : goal.returns-clause-number
-returns-clause-number c = λ some.
-    let few = both_few c.args.piece.now _ (omega arith) c.type_inv.piece c.lanes_of.ensures _ c.from_ten-others.ensures c.if-others-eq0.false
-    c.if-rest-eq0.false in
-    let ends = natural_ends c.args.piece.now _ (omega arith) c.type_inv.piece c.lanes_of.ensures _ c.from_ten-others.ensures c.if-others-eq0.false in
-    spelled_number c.args.piece.now _ _ _ _
-    (both_spell c.args.piece.now _ (omega arith) c.type_inv.piece c.lanes_of.ensures _ c.from_ten-others.ensures c.if-others-eq0.false c.if-rest-eq0.false _
-    refl c.if-piece-natural-ne46.false c.if-fraction-eq0.false)
-    (some_digit c.args.piece.now _ ends (c.leads.ensures.some c.if-not-leads.false)) (c.leads.ensures.one c.if-not-leads.false) (omega arith) (omega arith)
-
-pub returns-then-others-eq0-clause-taken : goal.returns-then-others-eq0-clause-taken
-returns-then-others-eq0-clause-taken c = λ n few u.
-    absurd (some_other c.args.piece.now _ (omega arith) c.type_inv.piece c.lanes_of.ensures _ c.from_ten-others.ensures n few u c.if-others-eq0.true)
-
-pub returns-then-not-leads-clause-taken : goal.returns-then-not-leads-clause-taken
-returns-then-not-leads-clause-taken c = λ n few u.
-    let first = first_allowed c.args.piece.now _ (omega arith) c.type_inv.piece c.lanes_of.ensures _ c.from_ten-others.ensures n few u c.if-others-eq0.false in
-    let t = c.leads.ensures.taken first in
-    let f = c.if-not-leads.true in
+pub returns-in_default-clause-taken : goal.returns-in_default-clause-taken
+returns-in_default-clause-taken c = λ n few u.
+    let t = c.leads.ensures.taken (c.in-Some.ensures.taken n few u).1 in
+    let f = c.if-leads.false in
     let e : true ≡ false = sym t ∙ f in cc
 
-pub returns-then-piece-natural-ne46-clause-taken : goal.returns-then-piece-natural-ne46-clause-taken
-returns-then-piece-natural-ne46-clause-taken c = λ n few u.
-    whole_is c.args.piece.now _ (omega arith) c.type_inv.piece c.lanes_of.ensures _ c.from_ten-others.ensures n few u c.if-others-eq0.false
-    c.if-piece-natural-ne46.true
-
-pub returns-then-rest-eq0-clause-taken : goal.returns-then-rest-eq0-clause-taken
-returns-then-rest-eq0-clause-taken c = λ n few u. elim c.then-rest-eq0.branch [
-  | then-rest-eq0-via-then-rest-eq0 w ↦ absurd
-      (rest_some c.args.piece.now _ (omega arith) c.type_inv.piece c.lanes_of.ensures _ c.from_ten-others.ensures n few u c.if-others-eq0.false
-      c.if-piece-natural-ne46.false w.if-rest-eq0.true)
-  | then-rest-eq0-via-else-rest-eq0+then-fraction-eq0 w ↦ absurd
-      (after_some c.args.piece.now _ (omega arith) c.type_inv.piece c.lanes_of.ensures _ c.from_ten-others.ensures n few u c.if-others-eq0.false
-      c.if-piece-natural-ne46.false w.if-rest-eq0.false w.if-fraction-eq0.true)
-]
-
-pub returns-clause-taken : goal.returns-clause-taken
-returns-clause-taken c = λ n few u.
-    both_is c.args.piece.now _ (omega arith) c.type_inv.piece c.lanes_of.ensures _ c.from_ten-others.ensures n few u c.if-others-eq0.false
-    c.if-piece-natural-ne46.false c.if-rest-eq0.false
+pub returns-in_default-2-clause-taken : goal.returns-in_default-2-clause-taken
+returns-in_default-2-clause-taken c = λ n few u. absurd (c.in_default.ensures.taken n few u)

@@ -6,5 +6,5 @@ returns-clause-stands g c = λ more events h. (
   h.0,
   λ text done rest all at deep few.
       let are = h.1 text done rest all at deep few in
-      (are.0, rw (c.replace.ensures.after) (more _ are.1)),
+      (are.0, are.1, rw (c.replace.ensures.after) (more _ are.2)),
 )

@@ -8,7 +8,7 @@ by_parts xs ys zs ws = append_assoc (xs ++ ys) zs ws ∙ append_assoc xs ys (zs 
 
 pub returns : goal.returns
 returns g c = λ events h.
-    let last = c.tell.new.self in
+    let last = c.tell_close_object.new.self in
     let H : List Event → Type 0 = λ es. Stand (g.S.FeatureSink.told last.sink) last.rules last.count es in
     subst H (by_parts events (located_events c.args.located.now) (flat_events c.args.flat.now) _)
-    (c.tell.ensures _ (c.tell_flat.ensures _ (c.tell_located.ensures events h)))
+    (c.tell_close_object.ensures _ (c.tell_flat.ensures _ (c.tell_head.ensures events h)))

@@ -1,11 +1,19 @@
--- A whole Point whose coordinates stand before its type, among the members of a feature.
-use Rattle.gj_rules.proofs.Features.EventsPassed.{late_point_inside}
+-- A whole Point whose coordinates stand before its type, as the first `geometry` of a feature.
+use Rattle.gj_rules.proofs.Common.{core_of}
+use Rattle.gj_json.specs.Head.{late_point_events}
+use Rattle.gj_rules.proofs.Features.EventsPassed.{late_point_passed, passed}
+use Rattle.gj_rules.proofs.Features.FeaturesSoFar.{more_heard}
 use Rattle.gj_rules.proofs.feature_rules.FeatureRulesEventSink.tell_late_point.Goals as goal
 
-pub returns-then-is_in_members : goal.returns-then-is_in_members
-returns-then-is_in_members g c = λ events h.
-    let old = c.args.self.now in (
+pub returns-then-takes_point : goal.returns-then-takes_point
+returns-then-takes_point g c = λ events h.
+    let old = c.args.self.now in
+    let Says = g.S.FeatureSink.told old.sink in
+    let es = late_point_events c.args.point.now c.args.flat.now in
+    let takes = c.takes_point.ensures in
+    let yes = c.if-takes_point.true in (
       c.tell_late_point.ensures events h.0,
-      late_point_inside (g.S.FeatureSink.told old.sink) c.args.point.now c.args.flat.now old.count events
-          (c.is_in_members.ensures.stage c.if-is_in_members.true, c.is_in_members.ensures.due c.if-is_in_members.true) h.1,
+      more_heard Says Says old.rules old.count old.count events es
+          (passed Says old.count (core_of old.rules) es
+          (late_point_passed (core_of old.rules) c.args.point.now c.args.flat.now (takes.skipped yes) (takes.mode yes) (takes.due yes))) h.0 h.1,
     )

@@ -1,16 +1,18 @@
 -- No part has ended, and the open one has no byte.
-use Rattle.gj_rules.proofs.Common.{SeqVerdict, ap, arith, parts_from, refl, sym, [], ◌∙◌}
+use Rattle.gj_rules.proofs.Common.{SeqVerdict, ap, arith, parts_from, refl, sym, []}
 use Rattle.gj_rules.proofs.Parts.PartCuts.{no_bytes_void}
 use Rattle.gj_rules.proofs.records.Records.new.Goals as goal
 
 pub returns-clause-stands : goal.returns-clause-stands
 returns-clause-stands c = record {
   done = [];
+  before = [];
   given = [];
+  split = refl;
   cut = λ last more. ap (λ n. parts_from c.args.framing last n more) (sym c.new.ensures.start);
   plain = refl;
   stands = c.new.ensures.stands;
-  depth = ap (λ l. l.depth) (c.new.ensures.limits ∙ c.record_limits.ensures);
+  depth = ap (λ l. l.depth) c.new.ensures.limits;
   taken = c.new.ensures.end;
   fits = omega arith;
   void = sym (no_bytes_void c.args.framing);

@@ -1,6 +1,6 @@
 -- One byte ends a record or is beyond the limit, or a run goes to the open record.
 use Rattle.gj_rules.proofs.Common.{get_or, refl, sym, take, ◌++◌, ◌∙◌}
-use Rattle.gj_rules.proofs.Sequences.DecidingBytes.{take_one}
+use Rattle.gj_rules.proofs.Parts.PartCuts.{take_one}
 use Rattle.gj_rules.proofs.Parts.RecordSteps.{open_of, over_next, none_if}
 use Rattle.gj_rules.proofs.records.Records.take.Goals as goal
 

@@ -8,7 +8,7 @@ abbrev pub invariant-loop-at : goal.invariant-loop-at
 invariant-loop-at l = record {
   within : l.at ≤ length l.piece;
   stands : (bytes : List ℕ) → StandsFor l.initial.self bytes → StandsFor l.self (bytes ++ take l.at l.piece);
-  limits : l.self.limits ≡ l.initial.self.limits;
+  limits : l.self.records.limits ≡ l.initial.self.records.limits;
   again : is_decided l.initial.self ≡ true → l.self ≡ l.initial.self;
 }
 

@@ -1,27 +1,32 @@
 -- The objects with a role are those of the open record.
-use Rattle.gj_rules.proofs.Common.{List, ap, arith, judged_at, length, subst, sym, ◌++◌, ◌∙◌}
+use Rattle.gj_rules.proofs.Common.{List, ap, judged_at, length, subst, sym, ◌++◌, ◌∙◌}
 use Rattle.std.proofs.Common.{ℕ}
 use Rattle.gj_json.specs.Text.{IsTextWithin}
-use Rattle.gj_rules.proofs.Sequences.SequenceSteps.{live_of, in_of, last_record, some_record, no_record}
+use Rattle.gj_json.proofs.Events.FinishedTexts.{none_is}
+use Rattle.gj_rules.proofs.Sequences.SequenceSteps.{live_of, open_live, last_given, has_number, has_none, not_refused}
 use Rattle.gj_rules.proofs.sequence.Sequence.judged.Goals as goal
 
 pub returns-then-self-eq0-clause-open : goal.returns-then-self-eq0-clause-open
 returns-then-self-eq0-clause-open c = λ bytes rest before last text s live e t.
     let self = c.args.self.now in
-    absurd (no_record self bytes before last (live_of self bytes live s) c.if-self-eq0.true e)
+    let none = none_is self.decided live in
+    let h = live_of self bytes none s in
+    absurd (has_number self bytes h (open_live self bytes none h) before last e c.if-self-eq0.true)
 
 pub returns-clause-none : goal.returns-clause-none
 returns-clause-none c = λ bytes s live e.
     let self = c.args.self.now in
-    let h = live_of self bytes live s in
-    absurd (some_record self bytes h (in_of self bytes (omega (arith, c.if-self-eq0.false)) h) e)
+    let none = none_is self.decided live in
+    let h = live_of self bytes none s in
+    absurd (c.if-self-eq0.false (has_none self bytes h (open_live self bytes none h) e))
 
 pub returns-clause-open : goal.returns-clause-open
 returns-clause-open c = λ bytes rest before last text s live e t.
     let self = c.args.self.now in
-    let h = live_of self bytes live s in
-    let k = in_of self bytes (omega (arith, c.if-self-eq0.false)) h in
-    let g = last_record self bytes before last h k e in
-    let T : List ℕ → Type 0 = λ bs. IsTextWithin self.limits.depth text (bs ++ rest) in
+    let none = none_is self.decided live in
+    let h = live_of self bytes none s in
+    let k = open_live self bytes none h in
+    let g = last_given self bytes h k before last e in
+    let T : List ℕ → Type 0 = λ bs. IsTextWithin self.records.limits.depth text (bs ++ rest) in
     let D : ℕ → Type 0 = λ d. IsTextWithin d text (k.given ++ rest) in
-    c.judged.ensures k.given rest text k.stands h.refusal (subst D (sym h.depth) (subst T (sym g) t)) ∙ ap (λ bs. judged_at (length bs) text) g
+    c.judged.ensures k.given rest text k.stands (not_refused self bytes h k) (subst D (sym k.depth) (subst T (sym g) t)) ∙ ap (λ bs. judged_at (length bs) text) g

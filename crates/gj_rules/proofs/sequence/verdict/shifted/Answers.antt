@@ -14,7 +14,7 @@ overflow_add-result c =
     let r : Stays c.args.by (Broken c.in-Broken.fault) = rw (c.in-Broken.is) at c.requires in
     omega (arith, r c.in-Broken.fault.place refl)
 
-pub shifted_fault-requires : goal.shifted_fault-requires
-shifted_fault-requires c =
+pub overflow_add-result-in-NotJson : goal.overflow_add-result-in-NotJson
+overflow_add-result-in-NotJson c =
     let r : Stays c.args.by (NotJson c.in-NotJson.fault) = rw (c.in-NotJson.is) at c.requires in
-    r c.in-NotJson.fault.place refl
+    omega (arith, r c.in-NotJson.fault.place refl)
