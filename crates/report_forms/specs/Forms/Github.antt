@@ -5,15 +5,17 @@ use Rattle.std.specs.List.{flat_map}
 use Rattle.gj_coords.specs.declared.kind.Kind.{Kind}
 use Rattle.gj_coords.specs.declared.warnings.Warnings.{Warnings}
 use Rattle.gj_coords.specs.Warnings.{kinds}
+use Rattle.geolint_report.specs.declared.found.Found.{Found}
 use Rattle.geolint_report.specs.declared.report.Report.{Report}
 use Rattle.geolint_report.specs.declared.report.Told.{Told}
 use Rattle.geolint_report.specs.declared.sites.Spot.{Spot}
 use Rattle.geolint_report.specs.declared.texts.Code.{Code}
 use Rattle.geolint_report.specs.Finding.{record_of, fault_of, warnings_of}
+use Rattle.geolint_report.specs.Found.{found_bytes}
 use Rattle.geolint_report.specs.Report.{warning_of, of_warning, spot_of, path_of}
 use Rattle.geolint_report.specs.Texts.{code_name, code_text}
 use Rattle.report_forms.specs.declared.options.Kinds.{Kinds}
-use Rattle.report_forms.specs.Forms.Messages.{and_record, and_times, and_path, level_of}
+use Rattle.report_forms.specs.Forms.Messages.{and_record, and_times, and_path, and_hint, hint_on, level_of}
 use Rattle.report_forms.specs.Names.{shown_name}
 use Rattle.report_forms.specs.Passing.{fails}
 
@@ -37,12 +39,24 @@ abbrev pub github_mark : Code → List ℕ
 github_mark (Code.Cause cause) = codes "::not JSON: "
 github_mark code = codes "::"
 
+-- what was found, in a message
+unfoldable pub github_some_found : Found → List ℕ
+github_some_found found = codes ", found: " ++ flat_map escaped_in_message (shown_name (found_bytes found))
+
+abbrev pub github_found : Option Found → List ℕ
+github_found (Some found) = github_some_found found
+github_found None = []
+
+-- what may be of help
+unfoldable pub github_advice : Report → Code → List ℕ
+github_advice report code = github_found report.found ++ (and_hint (hint_on code report.hint) ++ codes "\n")
+
 unfoldable pub github_message : Report → Told → ℕ → List ℕ
 github_message report told count =
     github_mark told.code
     ++ (code_text told.code
     ++ (and_record (record_of report.finding)
-    ++ (and_times count ++ (codes ", at byte " ++ (decimal told.place ++ (and_path (path_of report told) ++ codes "\n"))))))
+    ++ (and_times count ++ (codes ", at byte " ++ (decimal told.place ++ (and_path (path_of report told) ++ github_advice report told.code))))))
 
 -- the command for what is reported at a place, so often
 unfoldable pub github_command : Report → List ℕ → Told → ℕ → List ℕ

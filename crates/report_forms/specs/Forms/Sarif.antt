@@ -18,7 +18,7 @@ use Rattle.geolint_report.specs.Line.{truth}
 use Rattle.geolint_report.specs.Report.{warning_of, spot_of, path_of}
 use Rattle.geolint_report.specs.Texts.{code_name, code_text}
 use Rattle.report_forms.specs.declared.options.Kinds.{Kinds}
-use Rattle.report_forms.specs.Forms.Messages.{and_record, and_times, level_of, path_text}
+use Rattle.report_forms.specs.Forms.Messages.{and_record, and_times, and_hint, hint_on, level_of, path_text}
 use Rattle.report_forms.specs.Names.{digit_in}
 use Rattle.report_forms.specs.Passing.{fails}
 use Rattle.geolint_report.specs.declared.texts.TheConstants.{ALL}
@@ -45,7 +45,8 @@ uri_of name = scheme_of name ++ (flat_map in_uri name ++ codes "\"")
 
 -- ---- a result
 unfoldable pub sarif_message : Report → Told → ℕ → List ℕ
-sarif_message report told count = code_text told.code ++ (and_record (record_of report.finding) ++ and_times count)
+sarif_message report told count =
+    code_text told.code ++ (and_record (record_of report.finding) ++ (and_times count ++ and_hint (hint_on told.code report.hint)))
 
 -- where a file is, in what follows a message
 unfoldable pub location : List ℕ → List ℕ

@@ -1,15 +1,13 @@
 //! The form `github`: a command for each finding.
 ghost use Rattle.std.specs.Prelude.{OnOk};
-ghost use Rattle.std.specs.List.{flat_map};
 ghost use Rattle.geolint_report.specs.Line.{Adds};
 ghost use Rattle.report_forms.specs.Forms.Features.{github_entry, github_text, github_id, github_some_id, github_more, level_in, spot_at};
-ghost use Rattle.report_forms.specs.Forms.Github.{github_spot, escaped_in_message};
-ghost use Rattle.report_forms.specs.Names.{shown_name};
+ghost use Rattle.report_forms.specs.Forms.Github.{github_spot};
 
 use crate::every::entry::{Entry, note_fails, spot_at};
 use crate::every::forms::{put_and_byte, put_and_more, put_item, put_path_at};
-use crate::formats::github::{put_file, put_in_message, put_spot};
-use crate::formats::{level, put_name};
+use crate::formats::github::{put_file, put_shown, put_spot};
+use crate::formats::level;
 use crate::options::Options;
 use geolint_report::every::cursor::Mark;
 use geolint_report::line::put;
@@ -82,14 +80,6 @@ fn put_some_id(alloc: Global, id: &[u8], line: &mut Vec<u8>) -> Result<(), Alloc
 {
     put(line, b", id ")?;
     put_shown(alloc, id, line)
-}
-
-fn put_shown(alloc: Global, id: &[u8], line: &mut Vec<u8>) -> Result<(), AllocError>
-    ensures { OnOk result (Adds line.old line.new (flat_map escaped_in_message (shown_name id.now))) }
-{
-    let mut shown = Vec::new(alloc);
-    put_name(id, &mut shown)?;
-    put_in_message(shown.as_slice(), line)
 }
 
 /// Puts the command on what is not reported.

@@ -3,11 +3,13 @@ ghost use Rattle.std.specs.Prelude.{◌≡◌, OnOk};
 ghost use Rattle.std.specs.List.{flat_map};
 ghost use Rattle.geolint_report.specs.Finding.{warnings_of};
 ghost use Rattle.geolint_report.specs.Line.{Adds};
-ghost use Rattle.report_forms.specs.Forms.Github.{escaped_in_message, escaped_in_property, github_file, github_spot, github_mark, github_message};
+ghost use Rattle.report_forms.specs.Forms.Github.{escaped_in_message, escaped_in_property, github_file, github_spot, github_some_found, github_found, github_advice, github_mark, github_message};
+ghost use Rattle.report_forms.specs.Names.{shown_name};
 ghost use Rattle.report_forms.specs.Forms.Github.{github_command, github_warning, github_warnings, github_not_valid, github_rest, github_told, github_unread};
 
-use crate::formats::{level, put_and_path, put_and_record, put_and_times, put_name};
+use crate::formats::{hint_on, level, put_and_hint, put_and_path, put_and_record, put_and_times, put_name};
 use crate::options::Options;
+use geolint_report::found::Found;
 use geolint_report::line::{put, put_all, put_number};
 use geolint_report::report::{Report, Told, warning};
 use geolint_report::sites::Spot;
@@ -123,7 +125,7 @@ fn put_command(
     put_spot(report.spot(told.place), line)?;
     put(line, b",title=")?;
     told.code.put_name(line)?;
-    put_message(report, told, count, line)
+    put_message(alloc, report, told, count, line)
 }
 
 pub fn put_spot(spot: Option<Spot>, line: &mut Vec<u8>) -> Result<(), AllocError>
@@ -148,6 +150,7 @@ pub fn put_spot(spot: Option<Spot>, line: &mut Vec<u8>) -> Result<(), AllocError
 }
 
 fn put_message(
+    alloc: Global,
     report: &Report<'_>,
     told: &Told,
     count: u32,
@@ -162,7 +165,46 @@ fn put_message(
     put(line, b", at byte ")?;
     put_number(line, told.place)?;
     put_and_path(report.path(told), line)?;
+    put_advice(alloc, report, told.code, line)
+}
+
+fn put_advice(
+    alloc: Global,
+    report: &Report<'_>,
+    code: Code,
+    line: &mut Vec<u8>,
+) -> Result<(), AllocError>
+    ensures { OnOk result (Adds line.old line.new (github_advice report.now code)) }
+{
+    put_found(alloc, report.found, line)?;
+    put_and_hint(hint_on(code, report.hint), line)?;
     put(line, b"\n")
+}
+
+fn put_found(alloc: Global, found: Option<Found>, line: &mut Vec<u8>) -> Result<(), AllocError>
+    ensures { OnOk result (Adds line.old line.new (github_found found)) }
+{
+    match found {
+        Some(found) => put_some_found(alloc, &found, line),
+        None => Ok(()),
+    }
+}
+
+#[tactic(auto, unfolding(crate::specs::Forms::Github::github_some_found))]
+fn put_some_found(alloc: Global, found: &Found, line: &mut Vec<u8>) -> Result<(), AllocError>
+    ensures { OnOk result (Adds line.old line.new (github_some_found found.now)) }
+{
+    put(line, b", found: ")?;
+    put_shown(alloc, found.bytes(), line)
+}
+
+/// Puts a name, an `id` or what was found, as a message shows it.
+pub fn put_shown(alloc: Global, name: &[u8], line: &mut Vec<u8>) -> Result<(), AllocError>
+    ensures { OnOk result (Adds line.old line.new (flat_map escaped_in_message (shown_name name.now))) }
+{
+    let mut shown = Vec::new(alloc);
+    put_name(name, &mut shown)?;
+    put_in_message(shown.as_slice(), line)
 }
 
 /// What comes before the text of a message.
@@ -209,7 +251,7 @@ fn put_byte_in_property(byte: u8, line: &mut Vec<u8>) -> Result<(), AllocError>
     }
 }
 
-pub fn put_in_message(text: &[u8], line: &mut Vec<u8>) -> Result<(), AllocError>
+fn put_in_message(text: &[u8], line: &mut Vec<u8>) -> Result<(), AllocError>
     ensures { OnOk result (Adds line.old line.new (flat_map escaped_in_message text.now)) }
 {
     for byte in text {

@@ -9,7 +9,9 @@ ghost use Rattle.report_forms.specs.Forms.Sarif.{is_plain_in_uri, percent_of, in
 ghost use Rattle.report_forms.specs.Forms.Sarif.{region_start_of, region, region_if, logical_location, logical_location_of, sarif_result, break_unless};
 ghost use Rattle.report_forms.specs.Forms.Sarif.{sarif_unread, name_and_text, explained, section_of, code_level, sarif_rule, sarif_rules, rule_and_break};
 
-use crate::formats::{digit_in, level, put_and_record, put_and_times, put_path};
+use crate::formats::{
+    digit_in, hint_on, level, put_and_hint, put_and_record, put_and_times, put_path,
+};
 use crate::options::Options;
 use geolint_report::line::{put, put_all, put_number, put_truth};
 use geolint_report::report::{Report, Told, warning};
@@ -272,7 +274,8 @@ fn put_message(
 {
     told.code.put_text(line)?;
     put_record(report, line)?;
-    put_and_times(count, line)
+    put_and_times(count, line)?;
+    put_and_hint(hint_on(told.code, report.hint), line)
 }
 
 fn put_record(report: &Report<'_>, line: &mut Vec<u8>) -> Result<(), AllocError>

@@ -7,4 +7,4 @@ unfolding github_message
 returns c =
     let so_far1 = simp (append_assoc, c.in_ok-put.ensures, c.mark.ensures) at c.in_ok-put_text.ensures in
     let so_far2 = simp (append_assoc, so_far1, c.in_ok-put_and_record.ensures, c.record.ensures) at c.in_ok-put_and_times.ensures in
-    simp (append_assoc, so_far2, c.in_ok-put-2.ensures, c.in_ok-put_number.ensures, c.in_ok-put_and_path.ensures, c.path.ensures) at c.put-3.ensures
+    simp (append_assoc, so_far2, c.in_ok-put-2.ensures, c.in_ok-put_number.ensures, c.in_ok-put_and_path.ensures, c.path.ensures) at c.put_advice.ensures
