@@ -8,6 +8,7 @@ character in different ways."""
 
 import json
 import os
+import re
 import shutil
 import subprocess
 import sys
@@ -25,7 +26,8 @@ def without_advice(words, out):
     if "--format json" in " ".join(words):
         values = [json.loads(line) for line in out.splitlines()]
         return [{name: value for name, value in it.items() if name != "found"} for it in values]
-    return [line for line in out.splitlines() if not line.startswith(b"    found: ")]
+    lines = [line for line in out.splitlines() if not line.startswith(b"    found: ")]
+    return [re.sub(rb", found: .*?(?=; hint: |$)", b"", line) if line.startswith(b"::") else line for line in lines]
 
 
 def compare(words, given=b""):

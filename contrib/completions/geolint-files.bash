@@ -13,7 +13,7 @@ _geolint_files() {
         mapfile -t COMPREPLY < <(compgen -W "$(echo G{1..21} W{1..9} J{1..4})" -- "$word")
         return
         ;;
-    --allow)
+    --allow | --deny)
         # Kinds are divided by commas: the last one is completed.
         local kinds=
         [[ $word != *,* ]] || kinds=${word%,*},
@@ -22,7 +22,7 @@ _geolint_files() {
         ;;
     esac
     case $word in
-    -*) mapfile -t COMPREPLY < <(compgen -W '--strict --allow --quick --seq --ndjson --max-bytes --format --summary --every --every=warnings --most --split --force --part --join --file --files-from --null --ending --allow-empty --explain --help --version' -- "$word") ;;
+    -*) mapfile -t COMPREPLY < <(compgen -W '--strict --allow --deny --quick --seq --ndjson --max-bytes --format --summary --every --every=warnings --most --split --force --part --join --file --files-from --null --ending --allow-empty --explain --help --version' -- "$word") ;;
     *)
         compopt -o filenames 2>/dev/null
         mapfile -t COMPREPLY < <(compgen -f -- "$word")

@@ -1,5 +1,6 @@
 # Completion of geolint-files for fish: put this file into the folder fish/vendor_completions.d.
 complete -c geolint-files -l strict -d 'A valid file with a warning does not pass'
+complete -c geolint-files -l deny -x -a 'W1 W2 W3 W4 W5 W6 W7 W8 W9' -d 'Warnings of these kinds fail a file'
 complete -c geolint-files -l allow -x -a 'W1 W2 W3 W4 W5 W6 W7 W8 W9' -d 'Under --strict, warnings of these kinds do not fail a file'
 complete -c geolint-files -l quick -d 'Say only whether each file is valid'
 complete -c geolint-files -l seq -d 'Check each file as a text sequence'

@@ -11,12 +11,13 @@ import { textOfFindings, jsonOfFindings, linesOfFindings, githubOfFindings } fro
 
 const USAGE = `Checks GeoJSON files, and says for each that is not valid where and why
 
-Usage: geolint-files [--strict] [--allow W4,W9] [--quick] [--max-bytes N] [--format lines|json|github|sarif|text] [--summary]
+Usage: geolint-files [--strict] [--allow W4,W9] [--deny W5] [--quick] [--max-bytes N] [--format lines|json|github|sarif|text] [--summary]
                      [--seq | --ndjson] [--every[=warnings]] [--most N] [--files-from FILE|-] [--null] [--ending ENDING]
                      [--allow-empty] [PATH ..]
 
   --strict         A valid file with a warning does not pass
   --allow KINDS    Under --strict, warnings of these kinds do not fail a file, such as W4,W9
+  --deny KINDS     Warnings of these kinds fail a file, such as W5
   --quick          Say only whether each text is valid, and stop reading as soon as it cannot be valid
   --max-bytes N    Refuse files of more than N bytes
   --format FORMAT  The form of the report: lines (the default), json, github, sarif or text
@@ -41,6 +42,7 @@ Exit status: 0 if every file is valid, 1 if a file is not, 2 if a file could not
 const OPTIONS = {
   strict: { type: "boolean" },
   allow: { type: "string", multiple: true, default: [] },
+  deny: { type: "string", multiple: true, default: [] },
   quick: { type: "boolean" },
   "max-bytes": { type: "string" },
   format: { type: "string", default: "lines" },
@@ -80,13 +82,16 @@ function givenWords() {
   if (most !== undefined && (!/^[0-9]+$/.test(most) || BigInt(most) < 1n || BigInt(most) > 1n << 60n)) {
     throw new WrongWords(`invalid value '${most}' for '--max-bytes': it is a number from 1 to 2^60`);
   }
-  const allowed = values.allow.flatMap((it) => it.toUpperCase().split(",")).map((it) => it.trim());
-  const unknown = allowed.find((it) => !/^W[1-9]$/.test(it));
-  if (unknown !== undefined) throw new WrongWords(`invalid value '${unknown}' for '--allow': it is W1 to W9`);
+  const [allowed, denied] = ["allow", "deny"].map((option) => {
+    const kinds = values[option].flatMap((it) => it.toUpperCase().split(",")).map((it) => it.trim());
+    const unknown = kinds.find((it) => !/^W[1-9]$/.test(it));
+    if (unknown !== undefined) throw new WrongWords(`invalid value '${unknown}' for '--${option}': it is W1 to W9`);
+    return kinds;
+  });
   const which = values["every-warnings"] ? "findings" : values.every ? "faults" : null;
   const framing = values.seq ? "sequence" : values.ndjson ? "lines" : null;
   const endings = [...FOLDER_ENDINGS, ...values.ending.map((it) => `.${it.replace(/^\./, "").toLowerCase()}`)];
-  return { ...values, maxBytes: most === undefined ? 0 : BigInt(most), allowed, endings, which, framing, most: Number(values.most) || Infinity, paths: positionals, list: values["files-from"] ?? null };
+  return { ...values, maxBytes: most === undefined ? 0 : BigInt(most), allowed, denied, endings, which, framing, most: Number(values.most) || Infinity, paths: positionals, list: values["files-from"] ?? null };
 }
 
 /** The paths that are given, and those of a list: { path, isListed } each. */
@@ -207,7 +212,7 @@ async function bytesOf(file, from, to) {
 /** Checks all files, writes what the form has of each, and returns the status. */
 async function run(words) {
   const geolint = await load();
-  const fails = (rule) => Boolean(words.strict) && !words.allowed.includes(rule);
+  const fails = (rule) => words.denied.includes(rule) || (Boolean(words.strict) && !words.allowed.includes(rule));
   const passes = (it) => it.verdict === "valid" && !it.warnings.some(({ rule }) => fails(rule));
   const forms = {
     lines: (name, { verdict, items, more }) => linesOf(shown(name), verdict) + linesOfFindings(shown(name), items, more),

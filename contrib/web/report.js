@@ -54,7 +54,7 @@ export function sarifOf(reports, rules, version, unread = []) {
     defaultConfiguration: { level: levelOf(id) },
   }));
   const results = reports.flatMap(({ name, verdict, items = [], more = 0 }) => [
-    ...(verdict.verdict === "valid" ? verdict.warnings : verdict.verdict === "not valid" ? [] : [verdict]).map((it) => resultOf(name, it)),
+    ...(verdict.verdict === "valid" ? verdict.warnings : verdict.verdict === "not valid" ? [] : [verdict]).map((it) => resultOf(name, it, verdict.hint)),
     ...(verdict.verdict === "not valid" ? [resultOfQuick(name)] : []),
     ...eachOf(items).map((it) => resultOfFinding(name, it)),
     ...(more > 0 ? [{ level: "note", message: { text: `and ${more} more` }, locations: [{ physicalLocation: { artifactLocation: { uri: encodeURI(name) } } }] }] : []),
@@ -78,12 +78,15 @@ export function sarifOf(reports, rules, version, unread = []) {
 /** Of a quick look, which has no rule and no place. */
 const resultOfQuick = (name) => ({ ruleId: "not-valid", level: "error", message: { text: "not valid" }, locations: [{ physicalLocation: { artifactLocation: { uri: encodeURI(name) } } }] });
 
-function resultOf(name, it) {
+/** The hint in a message: on the fault or, where there is none, on the positions out of range. */
+export const hintOn = (rule, hint) => (hint && (!rule.startsWith("W") || rule === "W5") ? `; hint: ${hint.text}` : "");
+
+function resultOf(name, it, hint = null) {
   const start = it.line === null ? {} : { startLine: it.line, startColumn: it.column };
   const location = { physicalLocation: { artifactLocation: { uri: encodeURI(name) }, region: { ...start, byteOffset: it.offset, byteLength: 0 } } };
   if (it.path) location.logicalLocations = [{ fullyQualifiedName: it.path }];
   const times = (it.count > 1 ? `, ${it.count} times` : "") + (isTold(it.record) ? `, record ${it.record}` : "");
-  return { ruleId: it.rule, level: levelOf(it.rule), message: { text: it.text + times }, locations: [location] };
+  return { ruleId: it.rule, level: levelOf(it.rule), message: { text: it.text + times + hintOn(it.rule, hint) }, locations: [location] };
 }
 
 function resultOfFinding(name, it) {

@@ -1,6 +1,6 @@
 // The forms of a report for a terminal: the lines of the program geolint, and the form `lines` of geolint-files.
 
-import { eachOf } from "./report.js";
+import { eachOf, hintOn } from "./report.js";
 import { widthOf } from "./width.js";
 
 const isTold = (it) => it !== null && it !== undefined;
@@ -73,7 +73,7 @@ export function githubOf(name, verdict, fails = neverFails) {
   return (verdict.verdict === "valid" ? verdict.warnings : [verdict])
     .map((it) => {
       const details = [isTold(it.record) && `record ${it.record}`, it.count > 1 && `${it.count} times`, `at byte ${it.offset}`, it.path].filter(Boolean);
-      return commandOf(levelOf(it.rule, fails), name, spotOf(it), `${mark}${[it.text, ...details].join(", ")}`);
+      return commandOf(levelOf(it.rule, fails), name, spotOf(it), `${mark}${[it.text, ...details].join(", ")}${hintOn(it.rule, verdict.hint)}`);
     })
     .join("");
 }

@@ -17,8 +17,7 @@ pub record IsAskedLine (options : Options) (asked : Share) (file : FileState) (l
   pub of_file : line.file ≡ file
   pub share : line.share ≡ asked
   pub limits : line.settings.limits ≡ options.limits
-  pub strict : line.settings.strict ≡ options.strict
-  pub allowed : line.settings.allowed ≡ options.allowed
+  pub strictness : line.settings.strictness ≡ options.strictness
 
 -- the notes of a part with what was asked for, where both are there
 abbrev pub listed_of : Option Asked → Option Notes → Option Listed

@@ -20,8 +20,7 @@ use Rattle.geolint_files.specs.declared.outcome.Outcome.{Outcome}
 abbrev pub joined_options : Options → Settings → Options
 joined_options asked settings = record {
   limits = settings.limits;
-  strict = settings.strict;
-  allowed = settings.allowed;
+  strictness = settings.strictness;
   quick = false;
   framing = Some settings.framing;
   format = asked.format;

@@ -36,9 +36,9 @@ finding_in (not_read name reason) = None
 finding_in (listed report lines tally) = Some report.finding
 
 abbrev pub outcome_in : Options → ToldFile → Outcome
-outcome_in options (judged report) = outcome_of (passes options.strict options.allowed report.finding)
+outcome_in options (judged report) = outcome_of (passes options.strictness report.finding)
 outcome_in options (not_read name reason) = Unread
-outcome_in options (listed report lines tally) = outcome_of (passes options.strict options.allowed report.finding)
+outcome_in options (listed report lines tally) = outcome_of (passes options.strictness report.finding)
 
 -- what is counted of the features or records of files, where they are reported
 abbrev pub tallies_in : List ToldFile → List Tally
@@ -60,11 +60,11 @@ pub record Written : Type 0 where
 
 -- what one file adds
 pub record AddsReport (options : Options) (style : Style) (report : Report) (before after : Written) : Type 0 where
-  pub passes : report.passes ≡ passes options.strict options.allowed report.finding
+  pub passes : report.passes ≡ passes options.strictness report.finding
   pub told : List ℕ
-  pub is_report : IsReport options.format style before.is_first report options.strict options.allowed told
+  pub is_report : IsReport options.format style before.is_first report options.strictness told
   pub bytes : after.bytes ≡ before.bytes ++ told
-  pub first : after.is_first ≡ first_after options.format before.is_first report options.strict options.allowed
+  pub first : after.is_first ≡ first_after options.format before.is_first report options.strictness
   pub unread : after.unread ≡ before.unread
 
 pub record AddsUnread (options : Options) (name reason : List ℕ) (before after : Written) : Type 0 where
@@ -75,7 +75,7 @@ pub record AddsUnread (options : Options) (name reason : List ℕ) (before after
   pub unread : KeepsUnread options.format name reason before.unread after.unread
 
 abbrev pub IsLine : Options → Style → Bool → FeatureLine → List ℕ → Type 0
-IsLine options style is_first (feature_line entry) bytes = IsEntry options.format style is_first entry options.strict options.allowed bytes
+IsLine options style is_first (feature_line entry) bytes = IsEntry options.format style is_first entry options.strictness bytes
 IsLine options style is_first (others_line name count) bytes = IsMore options.format style is_first name count bytes
 
 -- what a line about a feature adds

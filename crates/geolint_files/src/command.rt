@@ -21,7 +21,7 @@ In a folder and the folders below it, files are checked by their endings, in upp
 
 Exit status:
   0    every file is valid; under --strict, with no warnings but those that --allow lets pass
-  1    a file is not valid, or under --strict has a warning that is not allowed
+  1    a file is not valid, or has a warning that --deny names, or under --strict one that is not allowed
   2    a file, a folder or a list could not be opened or read; no file was checked, and --allow-empty was not given; the
        arguments are wrong; or the report could not be written. This takes precedence over 1
   141  nothing reads the report any more, as in `geolint-files data | head -n 1`
@@ -80,7 +80,7 @@ const VALUED: CommandOption = CommandOption {
 };
 
 /// The options.
-static OPTIONS: [CommandOption; 20] = [
+static OPTIONS: [CommandOption; 21] = [
     CommandOption {
         name: "strict",
         help: "A valid file with a warning does not pass",
@@ -90,6 +90,14 @@ static OPTIONS: [CommandOption; 20] = [
         name: "allow",
         value_name: &["KINDS"],
         help: "Under --strict, warnings of these kinds do not fail a file, such as W4,W9",
+        action: ArgAction::Append,
+        delimiter: Some(','),
+        ..VALUED
+    },
+    CommandOption {
+        name: "deny",
+        value_name: &["KINDS"],
+        help: "Warnings of these kinds fail a file, such as W5",
         action: ArgAction::Append,
         delimiter: Some(','),
         ..VALUED
@@ -176,6 +184,7 @@ static OPTIONS: [CommandOption; 20] = [
             "quick",
             "strict",
             "allow",
+            "deny",
             "max-bytes",
             "seq",
             "ndjson",

@@ -147,8 +147,7 @@ fn line_of<S: Rewind + Drop>(
         settings: Settings {
             framing,
             limits: options.limits,
-            strict: options.strict,
-            allowed: options.allowed,
+            strictness: options.strictness,
         },
         share,
         checked: found.part,
@@ -397,8 +396,7 @@ fn report<W: Write + Drop, S: Rewind + Drop>(
     let joined = Order {
         options: Options {
             limits: line.settings.limits,
-            strict: line.settings.strict,
-            allowed: line.settings.allowed,
+            strictness: line.settings.strictness,
             quick: false,
             framing: Some(line.settings.framing),
             format: asked.format,

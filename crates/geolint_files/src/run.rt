@@ -689,7 +689,7 @@ impl<'a, W: Write + Drop> Run<'a, W> {
           name = name.entry;
           finding = finding;
           sites = sites.entry;
-          passes = passes self.old.options.strict self.old.options.allowed finding;
+          passes = passes self.old.options.strictness finding;
           found = None;
           hint = None;
         })) self.old self.new) }
@@ -710,7 +710,7 @@ impl<'a, W: Write + Drop> Run<'a, W> {
           name = name.entry;
           finding = finding;
           sites = sites.entry;
-          passes = passes self.old.options.strict self.old.options.allowed finding;
+          passes = passes self.old.options.strictness finding;
           found = found;
           hint = hint;
         })) self.old self.new) }
@@ -737,10 +737,10 @@ impl<'a, W: Write + Drop> Run<'a, W> {
         ensures same { SameTold self.old self.new }
         ensures out { self.new.out ≡ self.old.out }
         ensures told { OnOk result
-            (TellsReport self.old.options.format self.old.style self.old.log.is_first report.now self.old.options.strict self.old.options.allowed self.old.line
+            (TellsReport self.old.options.format self.old.style self.old.log.is_first report.now self.old.options.strictness self.old.line
             self.new.line) }
         ensures first { OnOk result
-            (self.new.log.is_first ≡ first_after self.old.options.format self.old.log.is_first report.now self.old.options.strict self.old.options.allowed) }
+            (self.new.log.is_first ≡ first_after self.old.options.format self.old.log.is_first report.now self.old.options.strictness) }
         ensures unread { self.new.log.unread ≡ self.old.log.unread }
     {
         let alloc = self.rt.alloc();

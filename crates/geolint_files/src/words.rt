@@ -20,14 +20,14 @@ use gj_coords::Kind;
 use gj_json::Limits;
 use gj_rules::Framing;
 use name_lists::NameEnd;
-use report_forms::options::{Every, Format, Kinds, Options};
+use report_forms::options::{Every, Format, Kinds, Options, Strictness};
 use std::alloc::{AllocError, Global};
 
 /// The most findings that are listed of a file, where nothing is said.
 const MOST_TOLD: u64 = 1000;
 
 /// The options whose words may be wrong, as the line on such a word names them.
-const FOR_KINDS: &str = "'--allow <KINDS>'";
+const FOR_KINDS: &str = "'--allow <KINDS>' or '--deny <KINDS>'";
 
 const FOR_CODE: &str = "'--explain <CODE>': the codes are G1 to G21, W1 to W9 and J1 to J4";
 
@@ -292,8 +292,7 @@ fn options_of<'a>(given: &ArgMatches<'a>) -> Result<Options, &'a str>
 {
     Ok(Options {
         limits: limits_in(given),
-        strict: given.get_flag("strict"),
-        allowed: allowed_in(given)?,
+        strictness: strictness_in(given)?,
         quick: given.get_flag("quick"),
         framing: framing_in(given),
         format: format_in(given),
@@ -352,16 +351,26 @@ fn limits_in(given: &ArgMatches<'_>) -> Limits
     }
 }
 
+fn strictness_in<'a>(given: &ArgMatches<'a>) -> Result<Strictness, &'a str>
+    ensures { IfOk result (λ strictness. one_text (found_of given.now) (codes "strict") ≡ Some (codes "true") → strictness.strict ≡ true) }
+{
+    Ok(Strictness {
+        strict: given.get_flag("strict"),
+        allowed: kinds_in(given, "allow")?,
+        denied: kinds_in(given, "deny")?,
+    })
+}
+
 // Which kinds a `Kinds` has been given, no clause of it says.
-fn allowed_in<'a>(given: &ArgMatches<'a>) -> Result<Kinds, &'a str> {
-    let mut allowed = Kinds::none();
-    for word in given.get_strs("allow").unwrap_or(&[]) {
+fn kinds_in<'a>(given: &ArgMatches<'a>, name: &str) -> Result<Kinds, &'a str> {
+    let mut kinds = Kinds::none();
+    for word in given.get_strs(name).unwrap_or(&[]) {
         match kind_named(word.trim_ascii()) {
-            Some(kind) => allowed.insert(kind),
+            Some(kind) => kinds.insert(kind),
             None => return Err(*word),
         }
     }
-    Ok(allowed)
+    Ok(kinds)
 }
 
 /// The kind of warning of this name, in capitals or not.

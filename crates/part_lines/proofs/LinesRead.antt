@@ -26,12 +26,12 @@ use Rattle.gj_coords.specs.declared.kind_warnings.KindWarnings.{KindWarnings}
 use Rattle.geolint_report.specs.Items.{item_number}
 use Rattle.report_forms.specs.Passing.{contains}
 use Rattle.part_lines.specs.Lines.{framing_word, every_word}
-use Rattle.part_lines.specs.LineText.{num, members_of, object_of, name_of, file_members, allowed_kind, allowed_kinds, settings_members, warning_members}
+use Rattle.part_lines.specs.LineText.{num, members_of, object_of, name_of, file_members, chosen_kind, chosen_kinds, settings_members, warning_members}
 use Rattle.part_lines.specs.LineText.{warning_if, kind_items, warning_items, valid_members, fault_members, tally_members, note_members, note_items}
 use Rattle.part_lines.specs.LineText.{listed_members, head_members, members_with, body_text, line_text}
 use Rattle.part_lines.specs.Sealed.{body_in, object_in, sealed}
 use Rattle.part_lines.proofs.SealedLines.{body-there}
-use Rattle.part_lines.specs.LineObject.{number_in, text_in, array_in, IsKindName, AreWarnings, AreWarningsOf, IsVerdictIn, AreNotes, IsListedIf, IsLineIn}
+use Rattle.part_lines.specs.LineObject.{number_in, text_in, array_in, IsKindName, AreKindsIn, AreWarnings, AreWarningsOf, IsVerdictIn, AreNotes, IsListedIf, IsLineIn}
 use Rattle.part_lines.specs.Writable.{Fits, AreWritableWarnings, IsWritableVerdict, AreWritableNotes, IsWritableIf, IsWritable}
 use Rattle.report_forms.specs.declared.options.Kinds.{Kinds}
 use Rattle.part_lines.specs.declared.line.Listed.{Listed}
@@ -68,22 +68,26 @@ HeadIn line ms =
     × (get_member (codes "parts") ms ≡ Some (num line.share.parts)) × (get_member (codes "path") ms ≡ Some (string (string_bytes line.file.path)))
     × (get_member (codes "size") ms ≡ Some (num line.file.size)) × (get_member (codes "modified") ms ≡ Some (string (string_bytes line.file.modified)))
     × (get_member (codes "framing") ms ≡ Some (string (framing_word line.settings.framing)))
-    × (get_member (codes "max_bytes") ms ≡ Some (num line.settings.limits.bytes)) × (get_member (codes "strict") ms ≡ Some (boolean line.settings.strict))
-    × (get_member (codes "allow") ms ≡ Some (array (settled_items (items_of (allowed_kinds line.settings.allowed)))))
+    × (get_member (codes "max_bytes") ms ≡ Some (num line.settings.limits.bytes)) × (get_member (codes "strict") ms ≡ Some (boolean line.settings.strictness.strict))
+    × (get_member (codes "allow") ms ≡ Some (array (settled_items (items_of (chosen_kinds line.settings.strictness.allowed)))))
+    × (get_member (codes "deny") ms ≡ Some (array (settled_items (items_of (chosen_kinds line.settings.strictness.denied)))))
     × (get_member (codes "begin") ms ≡ Some (num line.checked.begin)) × (get_member (codes "end") ms ≡ Some (num line.checked.end))
 
-allowed-names : (allowed : Kinds) (all : List Kind) → All IsKindName (map settled (flat_map (allowed_kind allowed) all))
-allowed-names allowed [] = All-nil IsKindName
-allowed-names allowed (kind ∷ all) = by_test (contains allowed kind) (allowed-names allowed all)
+chosen-names : (chosen : Kinds) (all : List Kind) → All IsKindName (map settled (flat_map (chosen_kind chosen) all))
+chosen-names chosen [] = All-nil IsKindName
+chosen-names chosen (kind ∷ all) = by_test (contains chosen kind) (chosen-names chosen all)
   where
-    by_test : (b : Bool) → All IsKindName (map settled (flat_map (allowed_kind allowed) all))
-        → All IsKindName (map settled ((if b then name_of (Code.Kind kind) ∷ [] else []) ++ flat_map (allowed_kind allowed) all))
-    by_test true rest = All-cons IsKindName (name_of (Code.Kind kind)) (map settled (flat_map (allowed_kind allowed) all)) (kind, refl) rest
+    by_test : (b : Bool) → All IsKindName (map settled (flat_map (chosen_kind chosen) all))
+        → All IsKindName (map settled ((if b then name_of (Code.Kind kind) ∷ [] else []) ++ flat_map (chosen_kind chosen) all))
+    by_test true rest = All-cons IsKindName (name_of (Code.Kind kind)) (map settled (flat_map (chosen_kind chosen) all)) (kind, refl) rest
     by_test false rest = rest
 
-all-names : (allowed : Kinds) → All IsKindName (map settled (allowed_kinds allowed))
-unfolding allowed_kinds
-all-names allowed = allowed-names allowed kinds
+all-names : (chosen : Kinds) → All IsKindName (map settled (chosen_kinds chosen))
+unfolding chosen_kinds
+all-names chosen = chosen-names chosen kinds
+
+kinds-there : (name : List ℕ) (it : Data) (chosen : Kinds) → get name it ≡ Some (array (settled_items (items_of (chosen_kinds chosen)))) → AreKindsIn name it
+kinds-there name it chosen is = (map settled (chosen_kinds chosen), array-there name it (chosen_kinds chosen) is, all-names chosen)
 
 notes-in : (begin : ℕ) (notes : List Note) → AreWritableNotes begin notes → AreNotes begin (map settled (note_items begin notes)) notes
 unfolding note_items note_members
@@ -292,32 +296,32 @@ members-said : (line : PartLine) (begin : ℕ) (verdict : SeqVerdict) (listed : 
     × IsVerdictIn (object (found-with line begin verdict listed)) begin verdict
 unfolding head_members file_members settings_members valid_members fault_members listed_members tally_members
 members-said line begin (SeqVerdict.Valid records warnings) (Some listed) fits = (
-  (refl, refl, refl, refl, refl, refl, refl, refl, refl, refl, refl, refl),
+  (refl, refl, refl, refl, refl, refl, refl, refl, refl, refl, refl, refl, refl),
   (refl, refl, refl, refl, refl, refl),
   (refl, all-warnings-said begin warnings fits.1),
 )
 members-said line begin (SeqVerdict.Record n (Verdict.Broken fault)) (Some listed) fits = (
-  (refl, refl, refl, refl, refl, refl, refl, refl, refl, refl, refl, refl),
+  (refl, refl, refl, refl, refl, refl, refl, refl, refl, refl, refl, refl, refl),
   (refl, refl, refl, refl, refl, refl),
   (refl, refl, (refl, place-there (fault.place + begin) fits.1)),
 )
 members-said line begin (SeqVerdict.Record n (Verdict.NotJson fault)) (Some listed) fits = (
-  (refl, refl, refl, refl, refl, refl, refl, refl, refl, refl, refl, refl),
+  (refl, refl, refl, refl, refl, refl, refl, refl, refl, refl, refl, refl, refl),
   (refl, refl, refl, refl, refl, refl),
   (refl, refl, (refl, place-there (fault.place + begin) fits.1)),
 )
 members-said line begin (SeqVerdict.Valid records warnings) None fits = (
-  (refl, refl, refl, refl, refl, refl, refl, refl, refl, refl, refl, refl),
+  (refl, refl, refl, refl, refl, refl, refl, refl, refl, refl, refl, refl, refl),
   refl,
   (refl, all-warnings-said begin warnings fits.1),
 )
 members-said line begin (SeqVerdict.Record n (Verdict.Broken fault)) None fits = (
-  (refl, refl, refl, refl, refl, refl, refl, refl, refl, refl, refl, refl),
+  (refl, refl, refl, refl, refl, refl, refl, refl, refl, refl, refl, refl, refl),
   refl,
   (refl, refl, (refl, place-there (fault.place + begin) fits.1)),
 )
 members-said line begin (SeqVerdict.Record n (Verdict.NotJson fault)) None fits = (
-  (refl, refl, refl, refl, refl, refl, refl, refl, refl, refl, refl, refl),
+  (refl, refl, refl, refl, refl, refl, refl, refl, refl, refl, refl, refl, refl),
   refl,
   (refl, refl, (refl, place-there (fault.place + begin) fits.1)),
 )
@@ -328,7 +332,7 @@ line-said line fits =
     let ms = found-with line line.checked.begin line.checked.verdict line.listed in
     let it = object ms in
     let (head, notes, verdict) = members-said line line.checked.begin line.checked.verdict line.listed fits.verdict in
-    let (version, part, parts, path, size, modified, framing, bytes, strict, allow, begin, end) = head in
+    let (version, part, parts, path, size, modified, framing, bytes, strict, allow, deny, begin, end) = head in
     record {
       version = number-there (codes "geolint_part") it 2 version;
       file = record {
@@ -342,11 +346,8 @@ line-said line fits =
         limits = fits.limits;
         depth = fits.depth;
         strict = ap (λ o. option_and_then as_bool o) strict;
-        allow = (
-          map settled (allowed_kinds line.settings.allowed),
-          array-there (codes "allow") it (allowed_kinds line.settings.allowed) allow,
-          all-names line.settings.allowed,
-        );
+        allow = kinds-there (codes "allow") it line.settings.strictness.allowed allow;
+        deny = kinds-there (codes "deny") it line.settings.strictness.denied deny;
       };
       share = record { part = number-there (codes "part") it _ part; parts = number-there (codes "parts") it _ parts };
       checked = record {

@@ -18,7 +18,7 @@ use Rattle.gj_rules.specs.declared.verdict.Verdict.{Verdict}
 use Rattle.report_forms.specs.Passing.{contains}
 use Rattle.report_forms.specs.declared.options.Kinds.{Kinds}
 use Rattle.part_lines.specs.Lines.{every_word, framing_word}
-use Rattle.part_lines.specs.LineText.{object_of, place_in_file, name_of, file_members, allowed_kind, allowed_kinds, settings_members, warning_members, warning_if}
+use Rattle.part_lines.specs.LineText.{object_of, place_in_file, name_of, file_members, chosen_kind, chosen_kinds, settings_members, warning_members, warning_if}
 use Rattle.part_lines.specs.LineText.{kind_items, warning_items, valid_members, fault_members, verdict_members, count_members, code_items}
 use Rattle.part_lines.specs.LineText.{count_items, tally_members, note_members, note_items, listed_members}
 use Rattle.part_lines.specs.LineText.{listed_members_if, head_members}
@@ -33,13 +33,13 @@ place-read levels begin place = reads-number levels (u64_saturate (place + begin
 
 -- ---- how the file was checked
 
-allowed-read : (b : Bool) (kind : Kind) → AreReadable 1 (if b then name_of (Code.Kind kind) ∷ [] else [])
-allowed-read true kind = (reads-string 1 (code_name (Code.Kind kind)), tt)
-allowed-read false kind = tt
+chosen-read : (b : Bool) (kind : Kind) → AreReadable 1 (if b then name_of (Code.Kind kind) ∷ [] else [])
+chosen-read true kind = (reads-string 1 (code_name (Code.Kind kind)), tt)
+chosen-read false kind = tt
 
-all-allowed-read : (allowed : Kinds) → AreReadable 1 (allowed_kinds allowed)
-unfolding allowed_kinds
-all-allowed-read allowed = reads-flat 1 (allowed_kind allowed) (λ kind. allowed-read (contains allowed kind) kind) kinds
+all-chosen-read : (chosen : Kinds) → AreReadable 1 (chosen_kinds chosen)
+unfolding chosen_kinds
+all-chosen-read chosen = reads-flat 1 (chosen_kind chosen) (λ kind. chosen-read (contains chosen kind) kind) kinds
 
 head-read : (line : PartLine) → IsWritable line → AreNamed 2 (head_members line)
 unfolding head_members file_members settings_members
@@ -58,10 +58,13 @@ head-read line fits = (
             (
               reads-number 2 line.settings.limits.bytes (omega (arith, fits.limits.most_bytes)),
               (
-                reads-boolean 2 line.settings.strict,
+                reads-boolean 2 line.settings.strictness.strict,
                 (
-                  reads-array 1 (allowed_kinds line.settings.allowed) (all-allowed-read line.settings.allowed),
-                  (reads-number 2 line.checked.begin fits.begin, (reads-number 2 line.checked.end fits.end, tt)),
+                  reads-array 1 (chosen_kinds line.settings.strictness.allowed) (all-chosen-read line.settings.strictness.allowed),
+                  (
+                    reads-array 1 (chosen_kinds line.settings.strictness.denied) (all-chosen-read line.settings.strictness.denied),
+                    (reads-number 2 line.checked.begin fits.begin, (reads-number 2 line.checked.end fits.end, tt)),
+                  ),
                 ),
               ),
             ),

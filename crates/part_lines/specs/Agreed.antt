@@ -25,7 +25,7 @@ pub record Agree (one other : PartLine) : Type 0 where
   pub file : IsSameFile one.file other.file
   pub framing : one.settings.framing ≡ other.settings.framing
   pub limits : one.settings.limits ≡ other.settings.limits
-  pub strict : one.settings.strict ≡ other.settings.strict
+  pub strict : one.settings.strictness.strict ≡ other.settings.strictness.strict
   pub number : one.share.number ≡ other.share.number
   pub parts : one.share.parts ≡ other.share.parts
   pub checked : one.checked ≡ other.checked

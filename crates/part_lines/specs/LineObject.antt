@@ -49,16 +49,17 @@ abbrev pub IsKindName : Data → Type 0
 IsKindName it = (kind : Kind) × (as_str it ≡ Some (code_name (Code.Kind kind)))
 
 -- some kinds: no clause says which, since `Kinds::insert` has none
-abbrev pub IsAllowedIn : Data → Type 0
-IsAllowedIn it = (items : List Data) × (array_in (codes "allow") it ≡ Some (items_of items)) × All IsKindName items
+abbrev pub AreKindsIn : List ℕ → Data → Type 0
+AreKindsIn name it = (items : List Data) × (array_in name it ≡ Some (items_of items)) × All IsKindName items
 
 pub record IsSettingsIn (it : Data) (settings : Settings) : Type 0 where
   pub framing : text_in (codes "framing") it ≡ Some (framing_word settings.framing)
   pub max_bytes : number_in (codes "max_bytes") it ≡ Some settings.limits.bytes
   pub limits : IsAllowed settings.limits.depth settings.limits.bytes
   pub depth : settings.limits.depth ≡ most.depth
-  pub strict : truth_in (codes "strict") it ≡ Some settings.strict
-  pub allow : IsAllowedIn it
+  pub strict : truth_in (codes "strict") it ≡ Some settings.strictness.strict
+  pub allow : AreKindsIn (codes "allow") it
+  pub deny : AreKindsIn (codes "deny") it
 
 pub record IsShareIn (it : Data) (share : Share) : Type 0 where
   pub part : number_in (codes "part") it ≡ Some share.number

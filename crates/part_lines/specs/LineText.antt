@@ -67,17 +67,17 @@ more_text = flat_map (λ m. codes "," ++ (quoted m.0 ++ (codes ":" ++ compact_te
 unfoldable pub file_members : FileState → List Named
 file_members file = (codes "path", string (string_bytes file.path)) ∷ (codes "size", num file.size) ∷ (codes "modified", string (string_bytes file.modified)) ∷ []
 
--- the kind where it is allowed
-abbrev pub allowed_kind : Kinds → Kind → List Data
-allowed_kind allowed kind = if contains allowed kind then name_of (Code.Kind kind) ∷ [] else []
+-- the kind where it is among them
+abbrev pub chosen_kind : Kinds → Kind → List Data
+chosen_kind chosen kind = if contains chosen kind then name_of (Code.Kind kind) ∷ [] else []
 
-unfoldable pub allowed_kinds : Kinds → List Data
-allowed_kinds allowed = flat_map (allowed_kind allowed) kinds
+unfoldable pub chosen_kinds : Kinds → List Data
+chosen_kinds chosen = flat_map (chosen_kind chosen) kinds
 
 unfoldable pub settings_members : Settings → List Named
 settings_members settings =
-    (codes "framing", string (framing_word settings.framing)) ∷ (codes "max_bytes", num settings.limits.bytes) ∷ (codes "strict", boolean settings.strict)
-    ∷ (codes "allow", array_of (allowed_kinds settings.allowed)) ∷ []
+    (codes "framing", string (framing_word settings.framing)) ∷ (codes "max_bytes", num settings.limits.bytes) ∷ (codes "strict", boolean settings.strictness.strict)
+    ∷ (codes "allow", array_of (chosen_kinds settings.strictness.allowed)) ∷ (codes "deny", array_of (chosen_kinds settings.strictness.denied)) ∷ []
 
 -- ---- the verdict
 

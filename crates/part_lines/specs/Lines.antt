@@ -30,8 +30,7 @@ pub record IsLike (first line : PartLine) : Type 0 where
   pub size : line.file.size ≡ first.file.size
   pub modified : string_bytes line.file.modified ≡ string_bytes first.file.modified
   pub bytes : line.settings.limits.bytes ≡ first.settings.limits.bytes
-  pub strict : line.settings.strict ≡ first.settings.strict
-  pub allowed : line.settings.allowed ≡ first.settings.allowed
+  pub strictness : line.settings.strictness ≡ first.settings.strictness
   pub framing : line.settings.framing ≡ first.settings.framing
   pub parts : line.share.parts ≡ first.share.parts
 

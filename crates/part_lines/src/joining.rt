@@ -92,9 +92,11 @@ fn check_line(first: &PartLine, line: &PartLine, index: usize) -> Result<(), Ref
         Err(Refusal::Changed(index))
     } else if line.settings.limits.bytes() != first.settings.limits.bytes() {
         Err(Refusal::OtherOptions(index))
-    } else if line.settings.strict != first.settings.strict {
+    } else if line.settings.strictness.strict != first.settings.strictness.strict {
         Err(Refusal::OtherOptions(index))
-    } else if line.settings.allowed != first.settings.allowed {
+    } else if line.settings.strictness.allowed != first.settings.strictness.allowed {
+        Err(Refusal::OtherOptions(index))
+    } else if line.settings.strictness.denied != first.settings.strictness.denied {
         Err(Refusal::OtherOptions(index))
     } else if line.settings.framing != first.settings.framing {
         Err(Refusal::OtherOptions(index))

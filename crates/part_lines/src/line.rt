@@ -3,7 +3,7 @@
 use geolint_report::every::listing::{Asked, Notes};
 use gj_json::Limits;
 use gj_rules::Framing;
-use report_forms::options::Kinds;
+use report_forms::options::Strictness;
 use sequence_parts::{CheckedPart, Share};
 
 /// A file as the system showed it when a part of it was checked.
@@ -24,10 +24,8 @@ pub struct Settings {
     pub framing: Framing,
     /// The limits of the whole file.
     pub limits: Limits,
-    /// A valid file with a warning does not pass.
-    pub strict: bool,
-    /// The kinds of warning that pass all the same.
-    pub allowed: Kinds,
+    /// Which kinds of warning fail the file.
+    pub strictness: Strictness,
 }
 
 /// The notes on the records of a part, and what was asked of these.

@@ -19,7 +19,7 @@ ghost use Rattle.serde_json.specs.Data.{Data};
 ghost use Rattle.serde_json.specs.Find.{get, as_str};
 ghost use Rattle.serde_json.specs.Read.{read};
 ghost use Rattle.serde_json.specs.View.{view, items_view};
-ghost use Rattle.part_lines.specs.LineObject.{number_in, text_in, truth_in, array_in, IsFileIn, IsSettingsIn, IsKindName, IsAllowedIn};
+ghost use Rattle.part_lines.specs.LineObject.{number_in, text_in, truth_in, array_in, IsFileIn, IsSettingsIn, IsKindName, AreKindsIn};
 ghost use Rattle.part_lines.specs.LineObject.{IsShareIn, IsCheckedIn, IsLineIn};
 ghost use Rattle.part_lines.specs.LineObject.{IsPlaceIn, IsRecordIn, IsWarningIn, AreWarningsOf, AreWarningsIn, IsVerdictIn};
 ghost use Rattle.part_lines.specs.LineObject.{IsNoteIn, AreNotes, AreNotesIn, IsListedIn, IsListedIf};
@@ -45,7 +45,7 @@ use geolint_report::texts::{CODES, Code, code_named};
 use gj_coords::{Fault, Kind, Rule, Warnings};
 use gj_json::{Cause, JsonFault, Limits};
 use gj_rules::{Framing, SeqVerdict, Verdict};
-use report_forms::options::Kinds;
+use report_forms::options::{Kinds, Strictness};
 use sequence_parts::{CheckedPart, Share};
 use serde_json::Value;
 use std::alloc::{AllocError, Global};
@@ -234,12 +234,16 @@ fn read_settings(value: &Value) -> Option<Settings>
     let framing = framing_named(text_of(value, "framing")?)?;
     let limits = read_limits(value)?;
     let strict = truth_of(value, "strict")?;
-    let allowed = read_allowed(value)?;
+    let allowed = read_kinds(value, "allow")?;
+    let denied = read_kinds(value, "deny")?;
     Some(Settings {
         framing,
         limits,
-        strict,
-        allowed,
+        strictness: Strictness {
+            strict,
+            allowed,
+            denied,
+        },
     })
 }
 
@@ -253,24 +257,24 @@ fn read_limits(value: &Value) -> Option<Limits>
 }
 
 /// No clause says which: [`Kinds::insert`] has none.
-fn read_allowed(value: &Value) -> Option<Kinds>
-    ensures some { IfSome result (λ allowed. IsAllowedIn (view value.now)) }
-    ensures none { result ≡ None → ¬ (IsAllowedIn (view value.now)) }
+fn read_kinds(value: &Value, name: &str) -> Option<Kinds>
+    ensures some { IfSome result (λ kinds. AreKindsIn name.now (view value.now)) }
+    ensures none { result ≡ None → ¬ (AreKindsIn name.now (view value.now)) }
 {
-    let found = array_of(value, "allow")?;
+    let found = array_of(value, name)?;
     read_each_kind(found.as_slice())
 }
 
 fn read_each_kind(found: &[Value]) -> Option<Kinds>
-    ensures some { IfSome result (λ allowed. All IsKindName (map view found.now)) }
+    ensures some { IfSome result (λ kinds. All IsKindName (map view found.now)) }
     ensures none { result ≡ None → ¬ (All IsKindName (map view found.now)) }
 {
-    let mut allowed = Kinds::none();
+    let mut kinds = Kinds::none();
     for one in found {
         let kind = read_kind(one)?;
-        allowed.insert(kind);
+        kinds.insert(kind);
     }
-    Some(allowed)
+    Some(kinds)
 }
 
 fn read_kind(value: &Value) -> Option<Kind>

@@ -9,7 +9,7 @@ ghost use Rattle.geolint_report.specs.Line.{Adds};
 ghost use Rattle.json.specs.Print.{quoted};
 ghost use Rattle.serde_json.specs.Written.{compact_text};
 ghost use Rattle.part_lines.specs.LineText.{line_text, body_text, num, array_of, object_of, items_text, more_text, file_members, settings_members};
-ghost use Rattle.part_lines.specs.LineText.{allowed_kinds, allowed_kind, place_in_file, verdict_members, valid_members, record_members, fault_members};
+ghost use Rattle.part_lines.specs.LineText.{chosen_kinds, chosen_kind, place_in_file, verdict_members, valid_members, record_members, fault_members};
 ghost use Rattle.part_lines.specs.LineText.{warning_items, kind_items, warning_members, listed_members, listed_members_if, tally_members, count_items};
 ghost use Rattle.part_lines.specs.LineText.{code_items, count_members, note_items, one_note, note_members};
 ghost use Rattle.part_lines.specs.Lines.{every_word, framing_word};
@@ -89,9 +89,11 @@ fn put_settings(alloc: Global, settings: &Settings, out: &mut Vec<u8>) -> Result
     put(out, b",\"max_bytes\":")?;
     put_limit(&settings.limits, out)?;
     put(out, b",\"strict\":")?;
-    put_truth(out, settings.strict)?;
+    put_truth(out, settings.strictness.strict)?;
     put(out, b",\"allow\":")?;
-    put_allowed(alloc, &settings.allowed, out)
+    put_kinds(alloc, &settings.strictness.allowed, out)?;
+    put(out, b",\"deny\":")?;
+    put_kinds(alloc, &settings.strictness.denied, out)
 }
 
 fn put_limit(limits: &Limits, out: &mut Vec<u8>) -> Result<(), AllocError>
@@ -117,22 +119,22 @@ fn framing_name(framing: Framing) -> &'static [u8]
     }
 }
 
-/// Appends the kinds that are allowed.
-fn put_allowed(alloc: Global, allowed: &Kinds, out: &mut Vec<u8>) -> Result<(), AllocError>
-    ensures { OnOk result (Adds out.old out.new (compact_text (array_of (allowed_kinds allowed.now)))) }
+/// Appends kinds of warning.
+fn put_kinds(alloc: Global, chosen: &Kinds, out: &mut Vec<u8>) -> Result<(), AllocError>
+    ensures { OnOk result (Adds out.old out.new (compact_text (array_of (chosen_kinds chosen.now)))) }
 {
     let mut items = Vec::new(alloc);
     for kind in &KINDS {
-        put_allowed_kind(allowed, *kind, &mut items)?;
+        put_chosen_kind(chosen, *kind, &mut items)?;
     }
     put_array(items.as_slice(), out)
 }
 
-/// Appends a kind after a comma, where it is allowed.
-fn put_allowed_kind(allowed: &Kinds, kind: Kind, items: &mut Vec<u8>) -> Result<(), AllocError>
-    ensures { OnOk result (Adds items.old items.new (items_text (allowed_kind allowed.now kind))) }
+/// Appends a kind after a comma, where it is among them.
+fn put_chosen_kind(chosen: &Kinds, kind: Kind, items: &mut Vec<u8>) -> Result<(), AllocError>
+    ensures { OnOk result (Adds items.old items.new (items_text (chosen_kind chosen.now kind))) }
 {
-    if allowed.contains(kind) {
+    if chosen.contains(kind) {
         put(items, b",")?;
         put_code(Code::Kind(kind), items)
     } else {

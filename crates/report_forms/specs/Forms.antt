@@ -15,7 +15,7 @@ use Rattle.geolint_report.specs.Line.{Adds}
 use Rattle.report_forms.specs.declared.formats.lines.Style.{Style}
 use Rattle.report_forms.specs.declared.formats.sarif.Log.{Log}
 use Rattle.report_forms.specs.declared.options.Format.{Format}
-use Rattle.report_forms.specs.declared.options.Kinds.{Kinds}
+use Rattle.report_forms.specs.declared.options.Strictness.{Strictness}
 use Rattle.report_forms.specs.Forms.Github.{github_told, github_unread}
 use Rattle.report_forms.specs.Forms.Json.{IsJsonFound, json_line, json_unread}
 use Rattle.report_forms.specs.Forms.Lines.{AreLines, lines_found, lines_hint}
@@ -24,23 +24,23 @@ use Rattle.report_forms.specs.Forms.Text.{text_told}
 use Rattle.report_forms.specs.Internal.WrittenCommas.{is_none_yet}
 
 -- the report of a file that was checked; in a log the first result has no comma before it
-abbrev pub IsReport : Format → Style → Bool → Report → Bool → Kinds → List ℕ → Type 0
-IsReport Format.Text style is_first report strict allowed bytes = bytes ≡ text_told report
-IsReport Format.Lines style is_first report strict allowed bytes =
+abbrev pub IsReport : Format → Style → Bool → Report → Strictness → List ℕ → Type 0
+IsReport Format.Text style is_first report strictness bytes = bytes ≡ text_told report
+IsReport Format.Lines style is_first report strictness bytes =
     (lines : List ℕ) × AreLines style report (fault_of report.finding) lines × (bytes ≡ lines ++ (lines_found report.found ++ lines_hint report.hint))
-IsReport Format.Json style is_first report strict allowed bytes =
+IsReport Format.Json style is_first report strictness bytes =
     (name found : List ℕ) × SpellsString report.name.now name × IsJsonFound report.found found × (bytes ≡ json_line name found report)
-IsReport Format.Github style is_first report strict allowed bytes = bytes ≡ github_told report strict allowed
-IsReport Format.Sarif style is_first report strict allowed bytes = bytes ≡ next_results is_first (sarif_told report strict allowed)
+IsReport Format.Github style is_first report strictness bytes = bytes ≡ github_told report strictness
+IsReport Format.Sarif style is_first report strictness bytes = bytes ≡ next_results is_first (sarif_told report strictness)
 
-abbrev pub TellsReport : Format → Style → Bool → Report → Bool → Kinds → Vec ℕ Global → Vec ℕ Global → Type 0
-TellsReport format style is_first report strict allowed old new =
-    (bytes : List ℕ) × IsReport format style is_first report strict allowed bytes × Adds old new bytes
+abbrev pub TellsReport : Format → Style → Bool → Report → Strictness → Vec ℕ Global → Vec ℕ Global → Type 0
+TellsReport format style is_first report strictness old new =
+    (bytes : List ℕ) × IsReport format style is_first report strictness bytes × Adds old new bytes
 
 -- whether a log has no result yet, once that file is reported
-abbrev pub first_after : Format → Bool → Report → Bool → Kinds → Bool
-first_after Format.Sarif is_first report strict allowed = is_first && is_none_yet (sarif_told report strict allowed)
-first_after format is_first report strict allowed = is_first
+abbrev pub first_after : Format → Bool → Report → Strictness → Bool
+first_after Format.Sarif is_first report strictness = is_first && is_none_yet (sarif_told report strictness)
+first_after format is_first report strictness = is_first
 
 -- the report of one that could not be opened or read: for people nothing, who read it on standard error; a log reports it at its end
 abbrev pub IsUnreadReport : Format → List ℕ → List ℕ → List ℕ → Type 0

@@ -1,5 +1,5 @@
--- Whether a file passes, under `--strict` and `--allow`.
-use Rattle.std.specs.Prelude.{Bool, true, false, not, ◌&&◌, ◌||◌, Option, Some, None, is_some, get_or}
+-- Whether a file passes, under `--strict`, `--allow` and `--deny`.
+use Rattle.std.specs.Prelude.{Bool, false, not, ◌&&◌, ◌||◌, Option, Some, None, is_some, get_or}
 use Rattle.std.specs.List.{list_all}
 use Rattle.gj_coords.specs.declared.kind.Kind.{Kind}
 use Rattle.gj_coords.specs.declared.warnings.Warnings.{Warnings}
@@ -8,27 +8,26 @@ use Rattle.gj_coords.specs.Warnings.{kinds, index_of}
 use Rattle.geolint_report.specs.declared.judge.Finding.{Finding}
 use Rattle.geolint_report.specs.Finding.{warnings_of}
 use Rattle.report_forms.specs.declared.options.Kinds.{Kinds}
+use Rattle.report_forms.specs.declared.options.Strictness.{Strictness}
 
 abbrev pub contains : Kinds → Kind → Bool
-contains allowed kind = get_or allowed.contained (index_of kind) false
+contains kinds kind = get_or kinds.contained (index_of kind) false
 
--- a kind is allowed, or there is no warning of it
-abbrev pub lets : Kinds → Warnings → Kind → Bool
-lets allowed warnings kind = contains allowed kind || not (is_some (first_in kind warnings))
+-- a warning of the kind fails a file: it is denied, or under --strict not allowed
+abbrev pub fails : Strictness → Kind → Bool
+fails strictness kind = contains strictness.denied kind || (strictness.strict && not (contains strictness.allowed kind))
 
--- each kind of which there is a warning is allowed
-abbrev pub lets_all : Kinds → Warnings → Bool
-lets_all allowed warnings = list_all (lets allowed warnings) kinds
+-- the kind fails no file, or there is no warning of it
+abbrev pub lets : Strictness → Warnings → Kind → Bool
+lets strictness warnings kind = not (fails strictness kind) || not (is_some (first_in kind warnings))
 
--- a valid file passes; under --strict only where each kind of its warnings is among those that are allowed
-abbrev pub passes_with : Bool → Kinds → Option Warnings → Bool
-passes_with strict allowed None = false
-passes_with false allowed (Some warnings) = true
-passes_with true allowed (Some warnings) = lets_all allowed warnings
+abbrev pub lets_all : Strictness → Warnings → Bool
+lets_all strictness warnings = list_all (lets strictness warnings) kinds
 
-abbrev pub passes : Bool → Kinds → Finding → Bool
-passes strict allowed finding = passes_with strict allowed (warnings_of finding)
+-- a valid file passes where each kind of its warnings does
+abbrev pub passes_with : Strictness → Option Warnings → Bool
+passes_with strictness None = false
+passes_with strictness (Some warnings) = lets_all strictness warnings
 
--- a warning of the kind fails a file
-abbrev pub fails : Bool → Kinds → Kind → Bool
-fails strict allowed kind = strict && not (contains allowed kind)
+abbrev pub passes : Strictness → Finding → Bool
+passes strictness finding = passes_with strictness (warnings_of finding)

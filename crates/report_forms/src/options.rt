@@ -43,6 +43,28 @@ impl Kinds {
     }
 }
 
+/// Which kinds of warning fail a valid file.
+#[derive(Clone, Copy, Debug, PartialEq, Eq)]
+pub struct Strictness {
+    /// Each kind fails it, unless it is among `allowed`.
+    pub strict: bool,
+    pub allowed: Kinds,
+    /// These kinds fail it in any case.
+    pub denied: Kinds,
+}
+
+impl Strictness {
+    ghost use Rattle.std.specs.Prelude.{◌≡◌};
+    ghost use Rattle.report_forms.specs.Passing.{fails};
+
+    /// Whether a warning of this kind fails a file.
+    pub fn fails(&self, kind: Kind) -> bool
+        ensures { result ≡ fails self.now kind }
+    {
+        self.denied.contains(kind) || (self.strict && !self.allowed.contains(kind))
+    }
+}
+
 /// What is reported of each feature of a file, after the file's own report.
 #[derive(Clone, Copy, Debug, PartialEq, Eq)]
 pub enum Every {
@@ -57,9 +79,8 @@ pub enum Every {
 #[derive(Clone, Copy)]
 pub struct Options {
     pub limits: Limits,
-    /// A valid file with a warning does not pass, unless its kind is among `allowed`.
-    pub strict: bool,
-    pub allowed: Kinds,
+    /// A valid file with a warning of a kind that fails it does not pass.
+    pub strictness: Strictness,
     /// Only whether each file is valid is asked.
     pub quick: bool,
     /// How the texts of each file are separated, whatever its name is.
@@ -72,45 +93,29 @@ pub struct Options {
 }
 
 impl Options {
-    ghost use Rattle.std.specs.Prelude.{◌≡◌, Some};
-    ghost use Rattle.report_forms.specs.Passing.{passes, passes_with, lets, lets_all, fails};
+    ghost use Rattle.std.specs.Prelude.{◌≡◌};
+    ghost use Rattle.report_forms.specs.Passing.{passes, lets, lets_all};
 
     /// Whether a file passes of which this is found.
     pub fn passes(&self, finding: &Finding) -> bool
-        ensures { result ≡ passes self.now.strict self.now.allowed finding.now }
+        ensures { result ≡ passes self.now.strictness finding.now }
     {
         match finding.warnings() {
             None => false,
-            Some(warnings) => self.lets_pass(&warnings),
+            Some(warnings) => self.lets_all(&warnings),
         }
     }
 
-    fn lets_pass(&self, warnings: &Warnings) -> bool
-        ensures { result ≡ passes_with self.now.strict self.now.allowed (Some warnings.now) }
-    {
-        match self.strict {
-            false => true,
-            true => self.lets_all(warnings),
-        }
-    }
-
-    /// Whether each kind of which there is a warning is allowed.
+    /// Whether no kind of which there is a warning fails a file.
     fn lets_all(&self, warnings: &Warnings) -> bool
-        ensures { result ≡ lets_all self.now.allowed warnings.now }
+        ensures { result ≡ lets_all self.now.strictness warnings.now }
     {
         KINDS.iter().all(|kind| self.lets(warnings, *kind))
     }
 
     fn lets(&self, warnings: &Warnings, kind: Kind) -> bool
-        ensures { result ≡ lets self.now.allowed warnings.now kind }
+        ensures { result ≡ lets self.now.strictness warnings.now kind }
     {
-        self.allowed.contains(kind) || !has(warnings, kind)
-    }
-
-    /// Whether a warning of this kind fails a file.
-    pub fn fails(&self, kind: Kind) -> bool
-        ensures { result ≡ fails self.now.strict self.now.allowed kind }
-    {
-        self.strict && !self.allowed.contains(kind)
+        !self.strictness.fails(kind) || !has(warnings, kind)
     }
 }

@@ -81,6 +81,7 @@ def _parser() -> argparse.ArgumentParser:
     add = parser.add_argument
     add("--strict", action=flag, help="a valid file with a warning does not pass")
     add("--allow", metavar="KINDS", type=_kinds, action="append", help="under --strict, kinds of warnings that pass, such as W4,W9")
+    add("--deny", metavar="KINDS", type=_kinds, action="append", help="kinds of warnings that fail a file, such as W5")
     add("--quick", action=flag, help="say only whether each file is valid, and stop reading as soon as it cannot be valid")
     add("--seq", action=flag, help="check each file as a text sequence, whatever its name is")
     add("--ndjson", action=flag, help="check each line of each file as a text of its own")
@@ -122,6 +123,7 @@ def _order(words: Sequence[str]) -> Order:
         framing="sequence" if given.seq else "newlines" if given.ndjson else None,
         strict=given.strict,
         allowed=frozenset(kind for kinds in given.allow or [] for kind in kinds),
+        denied=frozenset(kind for kinds in given.deny or [] for kind in kinds),
         every=given.every,
         most=given.most,
     )

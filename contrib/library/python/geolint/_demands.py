@@ -8,7 +8,8 @@ from ._verdict import Verdict, Warning
 
 
 class Demands:
-    """A text is valid. With `strict`, it has no warnings, but for the kinds in `allow`, such as (4, 9)."""
+    """A text is valid, and has no warnings of the kinds in `deny`, such as (5,). With `strict`, it has no others either, but for the kinds
+    in `allow`, such as (4, 9)."""
 
     def __init__(
         self,
@@ -16,10 +17,11 @@ class Demands:
         allow: Iterable[int] = (),
         max_depth: Optional[int] = None,
         max_bytes: Optional[int] = None,
+        deny: Iterable[int] = (),
     ) -> None:
-        self.strict, self.allow = strict, tuple(allow)
+        self.strict, self.allow, self.deny = strict, tuple(allow), tuple(deny)
         self.max_depth, self.max_bytes = max_depth, max_bytes
 
     def failing(self, verdict: Verdict) -> Iterator[Warning]:
         """The warnings that do not pass."""
-        return (w for w in verdict.warnings if self.strict and w.kind not in self.allow)
+        return (w for w in verdict.warnings if w.kind in self.deny or self.strict and w.kind not in self.allow)

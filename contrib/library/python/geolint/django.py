@@ -32,8 +32,8 @@ def _source(value: Any) -> Any:
 class GeoJSONValidator(Demands):
     """A field holds a GeoJSON text (RFC 7946): of a form or a model, for files, texts and bytes.
 
-    With `strict`, a text with warnings does not pass, but for the kinds in `allow`, such as (4, 9). The error has the code
-    "invalid_geojson", or "geojson_warning", and what is wrong in its params: code, text, place, line, column and path.
+    With `strict`, a text with warnings does not pass, but for the kinds in `allow`, such as (4, 9), and never with one in `deny`. The
+    error has the code "invalid_geojson", or "geojson_warning", and what is wrong in its params: code, text, place, line, column and path.
     """
 
     message = "%(where)s: %(code)s: %(text)s%(at)s"
@@ -59,7 +59,7 @@ class GeoJSONValidator(Demands):
         return isinstance(other, GeoJSONValidator) and self.__dict__ == other.__dict__
 
     def __hash__(self) -> int:
-        return hash((self.strict, self.allow, self.max_depth, self.max_bytes))
+        return hash((self.strict, self.allow, self.deny, self.max_depth, self.max_bytes))
 
 
 class GeoJSONUploadHandler(FileUploadHandler):  # type: ignore[misc]

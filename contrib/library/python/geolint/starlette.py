@@ -51,7 +51,7 @@ class GeoJSONBody(Demands):
     """A dependency that checks the body of a request while it comes, and stores it meanwhile: at most `max_bytes` of it, which are
     100 MB unless it is given, and without a limit if it is None.
 
-    With `strict`, a text with warnings does not pass, but for the kinds in `allow`, such as (4, 9).
+    With `strict`, a text with warnings does not pass, but for the kinds in `allow`, such as (4, 9), and never with one in `deny`.
     """
 
     def __init__(
@@ -60,8 +60,9 @@ class GeoJSONBody(Demands):
         allow: Iterable[int] = (),
         max_depth: Optional[int] = None,
         max_bytes: Optional[int] = 100_000_000,
+        deny: Iterable[int] = (),
     ) -> None:
-        super().__init__(strict, allow, max_depth, max_bytes)
+        super().__init__(strict, allow, max_depth, max_bytes, deny)
 
     async def __call__(self, request: Request) -> AsyncIterator[GeoJSON]:
         async with self.of(request) as body:

@@ -153,7 +153,7 @@ impl<'a, W: Write + Drop> Run<'a, W> {
               name = name.entry;
               finding = finding;
               sites = None;
-              passes = passes self.old.options.strict self.old.options.allowed finding;
+              passes = passes self.old.options.strictness finding;
               found = None;
               hint = None;
             }) lines notes.now.tally) self.old self.new) }
@@ -414,7 +414,7 @@ impl<'a, W: Write + Drop> Run<'a, W> {
         ensures same { SameTold self.old self.new }
         ensures out { self.new.out ≡ self.old.out }
         ensures told { OnOk result
-            (TellsEntry self.old.options.format self.old.style self.old.log.is_first entry.now self.old.options.strict self.old.options.allowed self.old.line
+            (TellsEntry self.old.options.format self.old.style self.old.log.is_first entry.now self.old.options.strictness self.old.line
             self.new.line) }
         ensures first { OnOk result (self.new.log.is_first ≡ first_behind self.old.options.format self.old.log.is_first) }
         ensures unread { self.new.log.unread ≡ self.old.log.unread }

@@ -11,7 +11,7 @@ use Rattle.geolint_report.specs.declared.every.listing.Item.{Item}
 use Rattle.report_forms.specs.declared.formats.lines.Part.{Part}
 use Rattle.report_forms.specs.declared.formats.lines.Style.{Style}
 use Rattle.report_forms.specs.declared.options.Format.{Format}
-use Rattle.report_forms.specs.declared.options.Kinds.{Kinds}
+use Rattle.report_forms.specs.declared.options.Strictness.{Strictness}
 use Rattle.geolint_report.specs.declared.sites.Spot.{Spot}
 use Rattle.geolint_report.specs.declared.texts.Code.{Code}
 use Rattle.report_forms.specs.Forms.Github.{escaped_in_message, github_file, github_spot}
@@ -47,9 +47,9 @@ note_word (Code.Cause cause) = codes "not JSON"
 note_word code = codes "broken"
 
 -- what is reported fails a file
-abbrev pub note_fails : Bool → Kinds → Code → Bool
-note_fails strict allowed (Code.Kind kind) = fails strict allowed kind
-note_fails strict allowed code = true
+abbrev pub note_fails : Strictness → Code → Bool
+note_fails strictness (Code.Kind kind) = fails strictness kind
+note_fails strictness code = true
 
 -- an `id` after these bytes, where there is one
 unfoldable pub some_id : List ℕ → List ℕ → List ℕ
@@ -192,21 +192,21 @@ sarif_more name count = codes "{\"level\":\"note\",\"message\":{\"text\":\"" ++ 
 -- ---- by the form that is asked for
 
 -- the level of what is reported
-abbrev pub level_in : Bool → Kinds → Entry → List ℕ
-level_in strict allowed entry = level_of (note_fails strict allowed entry.note.told.code)
+abbrev pub level_in : Strictness → Entry → List ℕ
+level_in strictness entry = level_of (note_fails strictness entry.note.told.code)
 
 -- the line of a finding; in a log the first result has no comma before it
-abbrev pub IsEntry : Format → Style → Bool → Entry → Bool → Kinds → List ℕ → Type 0
-IsEntry Format.Text style is_first entry strict allowed bytes = bytes ≡ text_entry entry
-IsEntry Format.Lines style is_first entry strict allowed bytes = bytes ≡ lines_entry style entry
-IsEntry Format.Json style is_first entry strict allowed bytes =
+abbrev pub IsEntry : Format → Style → Bool → Entry → Strictness → List ℕ → Type 0
+IsEntry Format.Text style is_first entry strictness bytes = bytes ≡ text_entry entry
+IsEntry Format.Lines style is_first entry strictness bytes = bytes ≡ lines_entry style entry
+IsEntry Format.Json style is_first entry strictness bytes =
     (name id : List ℕ) × SpellsString entry.name.now name × SpellsString entry.id.now id × (bytes ≡ json_entry name id entry)
-IsEntry Format.Github style is_first entry strict allowed bytes = bytes ≡ github_entry (level_in strict allowed entry) entry
-IsEntry Format.Sarif style is_first entry strict allowed bytes =
-    (id : List ℕ) × SpellsString entry.id.now id × (bytes ≡ break_unless is_first ++ sarif_entry (level_in strict allowed entry) id entry)
+IsEntry Format.Github style is_first entry strictness bytes = bytes ≡ github_entry (level_in strictness entry) entry
+IsEntry Format.Sarif style is_first entry strictness bytes =
+    (id : List ℕ) × SpellsString entry.id.now id × (bytes ≡ break_unless is_first ++ sarif_entry (level_in strictness entry) id entry)
 
-abbrev pub TellsEntry : Format → Style → Bool → Entry → Bool → Kinds → Vec ℕ Global → Vec ℕ Global → Type 0
-TellsEntry format style is_first entry strict allowed old new = (bytes : List ℕ) × IsEntry format style is_first entry strict allowed bytes × Adds old new bytes
+abbrev pub TellsEntry : Format → Style → Bool → Entry → Strictness → Vec ℕ Global → Vec ℕ Global → Type 0
+TellsEntry format style is_first entry strictness old new = (bytes : List ℕ) × IsEntry format style is_first entry strictness bytes × Adds old new bytes
 
 -- the line on those that are not reported
 abbrev pub IsMore : Format → Style → Bool → List ℕ → ℕ → List ℕ → Type 0

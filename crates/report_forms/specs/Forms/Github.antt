@@ -14,7 +14,7 @@ use Rattle.geolint_report.specs.Finding.{record_of, fault_of, warnings_of}
 use Rattle.geolint_report.specs.Found.{found_bytes}
 use Rattle.geolint_report.specs.Report.{warning_of, of_warning, spot_of, path_of}
 use Rattle.geolint_report.specs.Texts.{code_name, code_text}
-use Rattle.report_forms.specs.declared.options.Kinds.{Kinds}
+use Rattle.report_forms.specs.declared.options.Strictness.{Strictness}
 use Rattle.report_forms.specs.Forms.Messages.{and_record, and_times, and_path, and_hint, hint_on, level_of}
 use Rattle.report_forms.specs.Names.{shown_name}
 use Rattle.report_forms.specs.Passing.{fails}
@@ -64,26 +64,26 @@ github_command report level told count =
     github_file level report.name.now
     ++ (github_spot (spot_of report told.place) ++ (codes ",title=" ++ (code_name told.code ++ github_message report told count)))
 
-abbrev pub github_warning : Report → Bool → Kinds → Warnings → Kind → List ℕ
-github_warning report strict allowed warnings kind = of_warning (github_command report (level_of (fails strict allowed kind))) (warning_of kind warnings)
+abbrev pub github_warning : Report → Strictness → Warnings → Kind → List ℕ
+github_warning report strictness warnings kind = of_warning (github_command report (level_of (fails strictness kind))) (warning_of kind warnings)
 
-unfoldable pub github_warnings : Report → Bool → Kinds → Warnings → List ℕ
-github_warnings report strict allowed warnings = flat_map (github_warning report strict allowed warnings) kinds
+unfoldable pub github_warnings : Report → Strictness → Warnings → List ℕ
+github_warnings report strictness warnings = flat_map (github_warning report strictness warnings) kinds
 
 unfoldable pub github_not_valid : List ℕ → List ℕ
 github_not_valid name = github_file (codes "error") name ++ codes "::not valid\n"
 
-abbrev pub github_rest : Report → Bool → Kinds → Option Warnings → List ℕ
-github_rest report strict allowed (Some warnings) = github_warnings report strict allowed warnings
-github_rest report strict allowed None = github_not_valid report.name.now
+abbrev pub github_rest : Report → Strictness → Option Warnings → List ℕ
+github_rest report strictness (Some warnings) = github_warnings report strictness warnings
+github_rest report strictness None = github_not_valid report.name.now
 
-abbrev pub github_of : Report → Bool → Kinds → Option Told → List ℕ
-github_of report strict allowed (Some told) = github_command report (codes "error") told 1
-github_of report strict allowed None = github_rest report strict allowed (warnings_of report.finding)
+abbrev pub github_of : Report → Strictness → Option Told → List ℕ
+github_of report strictness (Some told) = github_command report (codes "error") told 1
+github_of report strictness None = github_rest report strictness (warnings_of report.finding)
 
 -- the commands of a file: that of its fault, or one for each kind of warning
-abbrev pub github_told : Report → Bool → Kinds → List ℕ
-github_told report strict allowed = github_of report strict allowed (fault_of report.finding)
+abbrev pub github_told : Report → Strictness → List ℕ
+github_told report strictness = github_of report strictness (fault_of report.finding)
 
 -- the command of a file that could not be opened or read
 unfoldable pub github_unread : List ℕ → List ℕ → List ℕ

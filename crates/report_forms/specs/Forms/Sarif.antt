@@ -17,7 +17,7 @@ use Rattle.geolint_report.specs.Finding.{record_of, fault_of, warnings_of}
 use Rattle.geolint_report.specs.Line.{truth}
 use Rattle.geolint_report.specs.Report.{warning_of, spot_of, path_of}
 use Rattle.geolint_report.specs.Texts.{code_name, code_text}
-use Rattle.report_forms.specs.declared.options.Kinds.{Kinds}
+use Rattle.report_forms.specs.declared.options.Strictness.{Strictness}
 use Rattle.report_forms.specs.Forms.Messages.{and_record, and_times, and_hint, hint_on, level_of, path_text}
 use Rattle.report_forms.specs.Names.{digit_in}
 use Rattle.report_forms.specs.Passing.{fails}
@@ -96,23 +96,23 @@ abbrev pub sarif_results : Report → List ℕ → Option (Told × ℕ) → List
 sarif_results report level (Some warning) = sarif_result report level warning.0 warning.1 ∷ []
 sarif_results report level None = []
 
-abbrev pub sarif_kind : Report → Bool → Kinds → Warnings → Kind → List (List ℕ)
-sarif_kind report strict allowed warnings kind = sarif_results report (level_of (fails strict allowed kind)) (warning_of kind warnings)
+abbrev pub sarif_kind : Report → Strictness → Warnings → Kind → List (List ℕ)
+sarif_kind report strictness warnings kind = sarif_results report (level_of (fails strictness kind)) (warning_of kind warnings)
 
-unfoldable pub sarif_warnings : Report → Bool → Kinds → Warnings → List (List ℕ)
-sarif_warnings report strict allowed warnings = flat_map (sarif_kind report strict allowed warnings) kinds
+unfoldable pub sarif_warnings : Report → Strictness → Warnings → List (List ℕ)
+sarif_warnings report strictness warnings = flat_map (sarif_kind report strictness warnings) kinds
 
-abbrev pub sarif_rest : Report → Bool → Kinds → Option Warnings → List (List ℕ)
-sarif_rest report strict allowed (Some warnings) = sarif_warnings report strict allowed warnings
-sarif_rest report strict allowed None = sarif_result report (codes "error") not_valid 1 ∷ []
+abbrev pub sarif_rest : Report → Strictness → Option Warnings → List (List ℕ)
+sarif_rest report strictness (Some warnings) = sarif_warnings report strictness warnings
+sarif_rest report strictness None = sarif_result report (codes "error") not_valid 1 ∷ []
 
-abbrev pub sarif_found : Report → Bool → Kinds → Option Told → List (List ℕ)
-sarif_found report strict allowed (Some told) = sarif_result report (codes "error") told 1 ∷ []
-sarif_found report strict allowed None = sarif_rest report strict allowed (warnings_of report.finding)
+abbrev pub sarif_found : Report → Strictness → Option Told → List (List ℕ)
+sarif_found report strictness (Some told) = sarif_result report (codes "error") told 1 ∷ []
+sarif_found report strictness None = sarif_rest report strictness (warnings_of report.finding)
 
 -- the results of a file
-abbrev pub sarif_told : Report → Bool → Kinds → List (List ℕ)
-sarif_told report strict allowed = sarif_found report strict allowed (fault_of report.finding)
+abbrev pub sarif_told : Report → Strictness → List (List ℕ)
+sarif_told report strictness = sarif_found report strictness (fault_of report.finding)
 
 -- ---- what stands between two
 

@@ -52,10 +52,10 @@ pub fn note_word(code: Code) -> &'static [u8]
 
 /// Whether what is reported fails a file.
 pub fn note_fails(code: Code, options: &Options) -> bool
-    ensures { result ≡ note_fails options.now.strict options.now.allowed code }
+    ensures { result ≡ note_fails options.now.strictness code }
 {
     match code {
-        Code::Kind(kind) => options.fails(kind),
+        Code::Kind(kind) => options.strictness.fails(kind),
         _ => true,
     }
 }

@@ -20,7 +20,7 @@ pub fn put_entry(
     options: &Options,
     line: &mut Vec<u8>,
 ) -> Result<(), AllocError>
-    ensures { OnOk result (Adds line.old line.new (github_entry (level_in options.now.strict options.now.allowed entry.now) entry.now)) }
+    ensures { OnOk result (Adds line.old line.new (github_entry (level_in options.now.strictness entry.now) entry.now)) }
 {
     put_command(
         alloc,

@@ -33,7 +33,7 @@ impl Log {
         line: &mut Vec<u8>,
     ) -> Result<(), AllocError>
         ensures bytes { OnOk result ((id : List ℕ) × SpellsString entry.now.id.now id
-            × Adds line.old line.new (break_unless self.old.is_first ++ sarif_entry (level_in options.now.strict options.now.allowed entry.now) id entry.now)) }
+            × Adds line.old line.new (break_unless self.old.is_first ++ sarif_entry (level_in options.now.strictness entry.now) id entry.now)) }
         ensures first { self.new.is_first ≡ false }
         ensures unread { self.new.unread ≡ self.old.unread }
     {
@@ -65,7 +65,7 @@ fn put_entry(
 ) -> Result<(), AllocError>
     ensures { OnOk result
         ((id : List ℕ) × SpellsString entry.now.id.now id
-        × Adds line.old line.new (sarif_entry (level_in options.now.strict options.now.allowed entry.now) id entry.now)) }
+        × Adds line.old line.new (sarif_entry (level_in options.now.strictness entry.now) id entry.now)) }
 {
     let id = json_string(alloc, entry.id)?;
     put_result(

@@ -25,7 +25,7 @@ pub fn put_report(
     options: &Options,
     line: &mut Vec<u8>,
 ) -> Result<(), AllocError>
-    ensures { OnOk result (Adds line.old line.new (github_told report.now options.now.strict options.now.allowed)) }
+    ensures { OnOk result (Adds line.old line.new (github_told report.now options.now.strictness)) }
 {
     match report.finding.fault() {
         Some(told) => put_command(alloc, b"error", report, &told, 1, line),
@@ -40,7 +40,7 @@ fn put_rest(
     options: &Options,
     line: &mut Vec<u8>,
 ) -> Result<(), AllocError>
-    ensures { OnOk result (Adds line.old line.new (github_rest report.now options.now.strict options.now.allowed (warnings_of report.now.finding))) }
+    ensures { OnOk result (Adds line.old line.new (github_rest report.now options.now.strictness (warnings_of report.now.finding))) }
 {
     match report.finding.warnings() {
         Some(warnings) => put_warnings(alloc, report, options, &warnings, line),
@@ -55,7 +55,7 @@ fn put_warnings(
     warnings: &Warnings,
     line: &mut Vec<u8>,
 ) -> Result<(), AllocError>
-    ensures { OnOk result (Adds line.old line.new (github_warnings report.now options.now.strict options.now.allowed warnings.now)) }
+    ensures { OnOk result (Adds line.old line.new (github_warnings report.now options.now.strictness warnings.now)) }
 {
     for kind in &KINDS {
         put_warning(alloc, report, options, warnings, *kind, line)?;
@@ -72,13 +72,13 @@ fn put_warning(
     kind: Kind,
     line: &mut Vec<u8>,
 ) -> Result<(), AllocError>
-    ensures { OnOk result (Adds line.old line.new (github_warning report.now options.now.strict options.now.allowed warnings.now kind)) }
+    ensures { OnOk result (Adds line.old line.new (github_warning report.now options.now.strictness warnings.now kind)) }
 {
     match warning(kind, warnings) {
         Some((told, count)) => {
             put_command(
                 alloc,
-                level(options.fails(kind)),
+                level(options.strictness.fails(kind)),
                 report,
                 &told,
                 count,

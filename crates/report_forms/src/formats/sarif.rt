@@ -70,8 +70,8 @@ impl Log {
         options: &Options,
         line: &mut Vec<u8>,
     ) -> Result<(), AllocError>
-        ensures bytes { OnOk result (Adds line.old line.new (next_results self.old.is_first (sarif_told report.now options.now.strict options.now.allowed))) }
-        ensures first { OnOk result (self.new.is_first ≡ (self.old.is_first && is_none_yet (sarif_told report.now options.now.strict options.now.allowed))) }
+        ensures bytes { OnOk result (Adds line.old line.new (next_results self.old.is_first (sarif_told report.now options.now.strictness))) }
+        ensures first { OnOk result (self.new.is_first ≡ (self.old.is_first && is_none_yet (sarif_told report.now options.now.strictness))) }
         ensures unread { self.new.unread ≡ self.old.unread }
     {
         match report.finding.fault() {
@@ -89,10 +89,10 @@ impl Log {
     ) -> Result<(), AllocError>
         ensures bytes { OnOk result
             (Adds line.old line.new
-            (next_results self.old.is_first (sarif_rest report.now options.now.strict options.now.allowed (warnings_of report.now.finding)))) }
+            (next_results self.old.is_first (sarif_rest report.now options.now.strictness (warnings_of report.now.finding)))) }
         ensures first { OnOk result
             (self.new.is_first ≡ (self.old.is_first && is_none_yet
-            (sarif_rest report.now options.now.strict options.now.allowed (warnings_of report.now.finding)))) }
+            (sarif_rest report.now options.now.strictness (warnings_of report.now.finding)))) }
         ensures unread { self.new.unread ≡ self.old.unread }
     {
         match report.finding.warnings() {
@@ -115,9 +115,9 @@ impl Log {
         line: &mut Vec<u8>,
     ) -> Result<(), AllocError>
         ensures bytes { OnOk result
-            (Adds line.old line.new (next_results self.old.is_first (sarif_warnings report.now options.now.strict options.now.allowed warnings.now))) }
+            (Adds line.old line.new (next_results self.old.is_first (sarif_warnings report.now options.now.strictness warnings.now))) }
         ensures first { OnOk result
-            (self.new.is_first ≡ (self.old.is_first && is_none_yet (sarif_warnings report.now options.now.strict options.now.allowed warnings.now))) }
+            (self.new.is_first ≡ (self.old.is_first && is_none_yet (sarif_warnings report.now options.now.strictness warnings.now))) }
         ensures unread { self.new.unread ≡ self.old.unread }
     {
         for kind in &KINDS {
@@ -136,14 +136,14 @@ impl Log {
         line: &mut Vec<u8>,
     ) -> Result<(), AllocError>
         ensures bytes { OnOk result
-            (Adds line.old line.new (next_results self.old.is_first (sarif_kind report.now options.now.strict options.now.allowed warnings.now kind))) }
+            (Adds line.old line.new (next_results self.old.is_first (sarif_kind report.now options.now.strictness warnings.now kind))) }
         ensures first { OnOk result
-            (self.new.is_first ≡ (self.old.is_first && is_none_yet (sarif_kind report.now options.now.strict options.now.allowed warnings.now kind))) }
+            (self.new.is_first ≡ (self.old.is_first && is_none_yet (sarif_kind report.now options.now.strictness warnings.now kind))) }
         ensures unread { self.new.unread ≡ self.old.unread }
     {
         match warning(kind, warnings) {
             Some((told, count)) => {
-                self.put_result(level(options.fails(kind)), report, &told, count, line)
+                self.put_result(level(options.strictness.fails(kind)), report, &told, count, line)
             }
             None => Ok(()),
         }

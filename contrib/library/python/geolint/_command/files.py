@@ -33,12 +33,13 @@ class Asked:
     framing: Optional[str] = None
     strict: bool = False
     allowed: frozenset[int] = frozenset()
+    denied: frozenset[int] = frozenset()
     every: Optional[str] = None
     most: int = 1000
 
     def fails(self, kind: int) -> bool:
         """Whether a warning of this kind fails a file."""
-        return self.strict and kind not in self.allowed
+        return kind in self.denied or self.strict and kind not in self.allowed
 
 
 @dataclass(frozen=True)

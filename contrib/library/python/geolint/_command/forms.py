@@ -170,6 +170,11 @@ def _github_spot(spot: Optional[Place]) -> str:
     return f",line={spot.line},col={spot.column}" if spot else ""
 
 
+def _hint(it: Told, found: Found) -> str:
+    """The hint: on the fault or, where there is none, on the positions out of range."""
+    return f"; hint: {found.hint}" if found.hint and it.kind in (None, 5) else ""
+
+
 def github(found: Found, asked: Asked, colour: bool) -> str:
     if found.verdict is None:
         return f"{_github_file('error', found.name)}::not valid\n"
@@ -182,7 +187,7 @@ def github(found: Found, asked: Asked, colour: bool) -> str:
         times = f", {it.count} times" if it.count > 1 else ""
         path = f", {_path(it, spot)}" if _path(it, spot) else ""
         head = f"{_github_file(level, found.name)}{_github_spot(spot)},title={it.code}"
-        commands.append(f"{head}::{mark}{it.text}{record}{times}, at byte {it.place}{path}\n")
+        commands.append(f"{head}::{mark}{it.text}{record}{times}, at byte {it.place}{path}{_in_message(_hint(it, found))}\n")
     return "".join(commands)
 
 

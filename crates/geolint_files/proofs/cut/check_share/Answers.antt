@@ -7,6 +7,6 @@ returns-in-Ok g c =
     let asked = IfOk-at_ok _ c.in-Ok.is c.line_of-line.ensures.asked in
     on_ok_weaker c.put_share.result (λ told. (
       c.in-Ok.line,
-      record { of_file = refl; share = asked.share; limits = asked.limits; strict = asked.strict; allowed = asked.allowed },
+      record { of_file = refl; share = asked.share; limits = asked.limits; strictness = asked.strictness },
       told,
     )) c.put_share.ensures

@@ -3,7 +3,7 @@ use Rattle.geolint_files.proofs.LinesRead.{line-read}
 use Rattle.geolint_files.proofs.cut.line_of.Goals as goal
 
 pub returns-clause-asked : goal.returns-clause-asked
-returns-clause-asked g c = record { of_file = refl; share = refl; limits = refl; strict = refl; allowed = refl }
+returns-clause-asked g c = record { of_file = refl; share = refl; limits = refl; strictness = refl }
 
 pub returns-clause-read : goal.returns-clause-read
 returns-clause-read g c =

@@ -8,6 +8,7 @@ pub returns : goal.returns
 unfolding settings_members escape_byte
 returns c =
     let s : List ℕ = c.args.out.now.items in
-    ends c.put_allowed.result s _ _ _ _ (more_text (settings_members c.args.settings.now)) (then s _ _ _ _ (then s _ _ _ _ (then s _ _ _ _ (then s _ _
-    _ _ (then s _ _ _ _ (then s _ _ _ _ c.in_ok-put.ensures c.in_ok-put_framing.ensures) c.in_ok-put-2.ensures) c.in_ok-put_limit.ensures)
-    c.in_ok-put-3.ensures) c.in_ok-put_truth.ensures) c.in_ok-put-4.ensures) c.put_allowed.ensures (simp (append_assoc, append-nil, truth-text))
+    ends c.put_kinds-2.result s _ _ _ _ (more_text (settings_members c.args.settings.now)) (then s _ _ _ _ (then s _ _ _ _ (then s _ _ _ _ (then s _ _
+    _ _ (then s _ _ _ _ (then s _ _ _ _ (then s _ _ _ _ (then s _ _ _ _ c.in_ok-put.ensures c.in_ok-put_framing.ensures) c.in_ok-put-2.ensures)
+    c.in_ok-put_limit.ensures) c.in_ok-put-3.ensures) c.in_ok-put_truth.ensures) c.in_ok-put-4.ensures) c.in_ok-put_kinds.ensures) c.in_ok-put-5.ensures)
+    c.put_kinds-2.ensures (simp (append_assoc, append-nil, truth-text))

@@ -29,7 +29,7 @@ returns-in-Some g c =
       name = c.args.name;
       finding = finding;
       sites = None;
-      passes = passes old.options.strict old.options.allowed finding;
+      passes = passes old.options.strictness finding;
       found = None;
       hint =
           None;
@@ -71,7 +71,7 @@ returns-in-Ok g c =
       name = c.args.name;
       finding = finding;
       sites = None;
-      passes = passes old.options.strict old.options.allowed finding;
+      passes = passes old.options.strictness finding;
       found = None;
       hint =
           None;

@@ -13,7 +13,7 @@ returns-else-has_places-clause-told g c =
       name = c.args.name;
       finding = finding;
       sites = None;
-      passes = passes old.options.strict old.options.allowed finding;
+      passes = passes old.options.strictness finding;
       found = None;
       hint =
           None;

@@ -34,11 +34,11 @@ returns g c =
       adds = λ bytes. record {
         passes = refl;
         told = told;
-        is_report = subst (λ (p : Bool). IsReport old.options.format old.style old.log.is_first (report p) old.options.strict old.options.allowed told)
+        is_report = subst (λ (p : Bool). IsReport old.options.format old.style old.log.is_first (report p) old.options.strictness told)
             c.passes-passes.ensures is_report;
         bytes = refl;
         first = ap (λ (log : Log). log.is_first) (c.show.ensures.log ∙ c.write.ensures.log) ∙ c.in_ok-put.ensures.first
-            ∙ ap (λ (p : Bool). first_after old.options.format old.log.is_first (report p) old.options.strict old.options.allowed) c.passes-passes.ensures;
+            ∙ ap (λ (p : Bool). first_after old.options.format old.log.is_first (report p) old.options.strictness) c.passes-passes.ensures;
         unread = ap (λ (log : Log). log.unread.items) (c.show.ensures.log ∙ c.write.ensures.log)
             ∙ ap (λ (kept : Vec ℕ Global). kept.items) c.put.ensures.unread;
       };

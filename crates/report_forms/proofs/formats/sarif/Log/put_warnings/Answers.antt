@@ -8,7 +8,7 @@ use Rattle.geolint_report.proofs.ElementsInTurn.{parts-more}
 
 pub loop-kind-preserved : goal.loop-kind-preserved
 loop-kind-preserved c =
-    let part = sarif_kind c.args.report.now c.args.options.now.strict c.args.options.now.allowed c.args.warnings.now in
+    let part = sarif_kind c.args.report.now c.args.options.now.strictness c.args.warnings.now in
     let was : Bool = c.args.self.now.is_first in
     let before : List (List ℕ) = flat_map part (take c.loop-kind.kind-index kinds) in
     let here : List (List ℕ) = part (get_or kinds c.loop-kind.kind-index W1) in
@@ -30,7 +30,7 @@ loop-kind-preserved c =
 pub returns-clause-bytes : goal.returns-clause-bytes
 unfolding sarif_warnings
 returns-clause-bytes c =
-    let part = sarif_kind c.args.report.now c.args.options.now.strict c.args.options.now.allowed c.args.warnings.now in
+    let part = sarif_kind c.args.report.now c.args.options.now.strictness c.args.warnings.now in
     let was : Bool = c.args.self.now.is_first in
     let end : c.loop-kind.kind-index ≡ length kinds = omega (arith, c.loop-kind-test.false, c.loop-kind.auto.kind-index-end) in
     subst (λ (i : ℕ). c.loop-kind.line.items ≡ c.args.line.now.items ++ next_results was (flat_map part (take i kinds))) end c.loop-kind.invariant.done
@@ -38,7 +38,7 @@ returns-clause-bytes c =
 pub returns-clause-first : goal.returns-clause-first
 unfolding sarif_warnings
 returns-clause-first c =
-    let part = sarif_kind c.args.report.now c.args.options.now.strict c.args.options.now.allowed c.args.warnings.now in
+    let part = sarif_kind c.args.report.now c.args.options.now.strictness c.args.warnings.now in
     let was : Bool = c.args.self.now.is_first in
     let end : c.loop-kind.kind-index ≡ length kinds = omega (arith, c.loop-kind-test.false, c.loop-kind.auto.kind-index-end) in
     subst (λ (i : ℕ). c.loop-kind.self.is_first ≡ (was && is_none_yet (flat_map part (take i kinds)))) end c.loop-kind.invariant.first

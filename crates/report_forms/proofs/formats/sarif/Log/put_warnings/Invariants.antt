@@ -6,7 +6,7 @@ use Rattle.report_forms.proofs.formats.sarif.Log.put_warnings.Given as goal
 -- the results of the kinds before this one are there
 abbrev pub invariant-loop-kind : goal.invariant-loop-kind
 invariant-loop-kind l =
-    let results = flat_map (sarif_kind l.report l.options.strict l.options.allowed l.warnings) (take l.kind-index kinds) in
+    let results = flat_map (sarif_kind l.report l.options.strictness l.warnings) (take l.kind-index kinds) in
     record {
       done : l.line.items ≡ l.initial.line.items ++ next_results l.initial.self.is_first results;
       first : l.self.is_first ≡ (l.initial.self.is_first && is_none_yet results);
