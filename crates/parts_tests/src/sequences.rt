@@ -556,14 +556,14 @@ static WRITTEN: [Written; 2] = [
             (Kind::W1, 7),
             (Kind::W5, 25),
         ],
-        "{\"geolint_part\":2,\"part\":2,\"parts\":2,\"path\":\"a \\\"b\\\".geojsons\",\"size\":116,\"modified\":\"17.000000005\",\"framing\":\"seq\",\"max_bytes\":1000,\"strict\":true,\"allow\":[\"W4\",\"W9\"],\"deny\":[],\"begin\":40,\"end\":99,\"records\":12,\"warnings\":[{\"kind\":\"W1\",\"count\":1,\"at\":47},{\"kind\":\"W5\",\"count\":3,\"at\":60}],\"sha256\":\"c4d4a2aa9afd6bb77b56044cd2d10280461852b3b66e21f913c01d2129e672f0\"}\\n",
+        "{\"geolint_part\":2,\"part\":2,\"parts\":2,\"path\":\"a \\\"b\\\".geojsons\",\"size\":116,\"modified\":\"17.000000005\",\"framing\":\"seq\",\"max_bytes\":1000,\"strict\":true,\"allow\":[\"W4\",\"W9\"],\"deny\":[],\"begin\":40,\"end\":99,\"records\":12,\"warnings\":[{\"kind\":\"W1\",\"count\":1,\"at\":47},{\"kind\":\"W5\",\"count\":3,\"at\":60}],\"sha256\":\"78af16f4c28e181cbcb94a3771f6a01ae47b7d23488d68305e0eae4c5fc23db3\"}\n",
     ),
     (
         Framing::Lines,
         3,
         Some((Rule::G15, 5)),
         &[],
-        "{\"geolint_part\":2,\"part\":2,\"parts\":2,\"path\":\"a \\\"b\\\".geojsons\",\"size\":116,\"modified\":\"17.000000005\",\"framing\":\"ndjson\",\"max_bytes\":1000,\"strict\":true,\"allow\":[\"W4\",\"W9\"],\"deny\":[],\"begin\":40,\"end\":99,\"record\":3,\"fault\":\"G15\",\"at\":45,\"sha256\":\"aa2e53f2adc402d2471438f4f5efac2de5260882eb948e56ba3de440b3fcbf4f\"}\\n",
+        "{\"geolint_part\":2,\"part\":2,\"parts\":2,\"path\":\"a \\\"b\\\".geojsons\",\"size\":116,\"modified\":\"17.000000005\",\"framing\":\"ndjson\",\"max_bytes\":1000,\"strict\":true,\"allow\":[\"W4\",\"W9\"],\"deny\":[],\"begin\":40,\"end\":99,\"record\":3,\"fault\":\"G15\",\"at\":45,\"sha256\":\"eedb18c06cccee405a068008b7d4c00c8d91ab4f78935f57b6741998ae198def\"}\n",
     ),
 ];
 
@@ -658,7 +658,7 @@ static NOTED: [(u64, Code, u64); 2] = [
 ];
 
 const LISTED: &str =
-    "{\"geolint_part\":2,\"part\":2,\"parts\":2,\"path\":\"a \\\"b\\\".geojsons\",\"size\":116,\"modified\":\"17.000000005\",\"framing\":\"seq\",\"max_bytes\":1000,\"strict\":true,\"allow\":[\"W4\",\"W9\"],\"deny\":[],\"begin\":40,\"end\":99,\"records\":1,\"warnings\":[],\"every\":\"warnings\",\"most\":5,\"items\":1,\"items_broken\":1,\"counts\":[{\"code\":\"G15\",\"count\":1},{\"code\":\"W3\",\"count\":1}],\"findings\":7,\"listed\":[{\"record\":2,\"code\":\"G15\",\"at\":45},{\"record\":9,\"code\":\"W3\",\"at\":99}],\"sha256\":\"221f70bdb61f68523178b75eeaece1a3be5ed19ea86ba18625153146289d558a\"}\\n";
+    "{\"geolint_part\":2,\"part\":2,\"parts\":2,\"path\":\"a \\\"b\\\".geojsons\",\"size\":116,\"modified\":\"17.000000005\",\"framing\":\"seq\",\"max_bytes\":1000,\"strict\":true,\"allow\":[\"W4\",\"W9\"],\"deny\":[],\"begin\":40,\"end\":99,\"records\":1,\"warnings\":[],\"every\":\"warnings\",\"most\":5,\"items\":1,\"items_broken\":1,\"counts\":[{\"code\":\"G15\",\"count\":1},{\"code\":\"W3\",\"count\":1}],\"findings\":7,\"listed\":[{\"record\":2,\"code\":\"G15\",\"at\":45},{\"record\":9,\"code\":\"W3\",\"at\":99}],\"sha256\":\"accff0a1b4e381e6a25187ea01681e53b08d0cdc88c798ff2d2aef589705ffd9\"}\n";
 
 /// A part that lists what is found in its records.
 #[test]
