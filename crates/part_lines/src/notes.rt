@@ -9,7 +9,7 @@ ghost use Rattle.sequence_parts.specs.JoinedNotes.{moved_item, moved_note};
 ghost use Rattle.part_lines.specs.Lines.{IsListedLineOf};
 ghost use Rattle.part_lines.specs.Internal.NotesSoFar.{ListsWhatIsAsked, numbered_among, records_noted};
 
-use crate::joining::Refusal;
+use crate::joining::{Refusal, order_of};
 use crate::line::{Listed, PartLine};
 use geolint_report::every::listing::{Asked, Item, Note, Notes};
 use geolint_report::every::tally::Tally;
@@ -42,19 +42,6 @@ pub fn join_notes(alloc: Global, lines: &[PartLine], asked: Asked) -> Result<Not
     } else {
         Err(Refusal::NotInOrder)
     }
-}
-
-/// The indices of lines, in the order of their parts.
-fn order_of(alloc: Global, lines: &[PartLine]) -> Result<Vec<usize>, AllocError> {
-    let mut order = Vec::new(alloc);
-    order.resize(lines.len(), 0)?;
-    for (index, line) in lines.iter().enumerate() {
-        let before = line.share.number.saturating_sub(1);
-        if before < order.len() as u64 {
-            order[before as usize] = index;
-        }
-    }
-    Ok(order)
 }
 
 /// What a line lists, where it is what is asked for.

@@ -1,34 +1,25 @@
-use denote.Enum.Bare.{same_true}
-use Rattle.std.proofs.Common.{◌≡◌, ◌∙◌, sym, ap, List, Bool, refl, rules}
-use Rattle.std.specs.Cmp.{booleans_Decides}
-use Rattle.std.proofs.lemmas.Bool.{not-false}
-use Rattle.std.proofs.lemmas.Slice.Eq.{slice_eq-Decides}
-use Rattle.gj_rules.specs.contracts.records.framing.Framing.{the_type}
-use Rattle.report_forms.specs.declared.options.Strictness.{Strictness}
-use Rattle.part_lines.proofs.SameSettings.{same_text}
+use Rattle.std.proofs.Common.{◌∙◌, sym}
+use Rattle.std.proofs.lemmas.Bool.{not-false, not-true}
+use Rattle.std.proofs.lemmas.Bool.Decides.{Decides-and, Decides-eqb}
+use Rattle.std.proofs.lemmas.Slice.Eq.{bytes_eq-Decides}
+use Rattle.part_lines.proofs.SameSettings.{settings_Decides}
 use Rattle.part_lines.proofs.joining.check_line.Goals as goal
 
-alike : (one other : Strictness) → one.strict ≡ other.strict → one.allowed.contained ≡ other.allowed.contained
-    → one.denied.contained ≡ other.denied.contained → one ≡ other
-alike one other strict allowed denied =
-    ap (λ (b : Bool). record { strict = b; allowed = one.allowed; denied = one.denied }) strict
-    ∙ (ap (λ (l : List Bool). record { strict = other.strict; allowed = record { contained = l }; denied = one.denied }) allowed
-    ∙ ap (λ (l : List Bool). record { strict = other.strict; allowed = other.allowed; denied = record { contained = l } }) denied)
+pub returns-then-ne-3-clause-complete : goal.returns-then-ne-3-clause-complete
+returns-then-ne-3-clause-complete c = λ like.
+    let same = (settings_Decides c.args.line.now.settings c.args.first.now.settings).1 like.settings in
+    sym (not-true _ (sym c.ne-else-ne-2.ensures ∙ c.if-ne-3.true)) ∙ same
 
-pub returns-else-line-first-3 : goal.returns-else-line-first-3
-returns-else-line-first-3 c =
-    let one = c.args.line.now.settings.strictness in
-    let other = c.args.first.now.settings.strictness in
+pub returns-else-line-first-clause-alike : goal.returns-else-line-first-clause-alike
+returns-else-line-first-clause-alike c =
+    let one = c.args.line.now in
+    let first = c.args.first.now in
+    let file = (Decides-and _ _ (bytes_eq-Decides _ _) (Decides-and _ _ (Decides-eqb one.file.size first.file.size) (bytes_eq-Decides _ _))).0
+    (not-false _ (sym c.ne-else-ne.ensures ∙ c.if-ne-2.false)) in
     record {
-      path = same_text _ _ c.ne.result c.if-ne.false c.ne.ensures;
-      size = c.if-line-first.false;
-      modified = same_text _ _ c.ne-else-line-first.result c.if-ne-2.false c.ne-else-line-first.ensures;
-      bytes = sym c.bytes.ensures.value ∙ (c.if-bytes.false ∙ c.bytes-else-ne-2.ensures.value);
-      strictness = alike one other ((booleans_Decides one.strict other.strict).0 (not-false _ c.if-line-first-2.false))
-          ((slice_eq-Decides booleans_Decides one.allowed.contained other.allowed.contained _ refl).0
-          (not-false _ (sym c.ne-else-line-first-2.ensures ∙ c.if-ne-3.false)))
-          ((slice_eq-Decides booleans_Decides one.denied.contained other.denied.contained _ refl).0
-          (not-false _ (sym c.ne-else-ne-3.ensures ∙ c.if-ne-4.false)));
-      framing = same_true the_type (search rules) _ _ (not-false _ (sym c.ne-else-ne-4.ensures ∙ c.if-ne-5.false));
-      parts = c.if-line-first-3.false;
+      path = file.0;
+      size = file.1.0;
+      modified = file.1.1;
+      settings = (settings_Decides one.settings first.settings).0 (not-false _ (sym c.ne-else-ne-2.ensures ∙ c.if-ne-3.false));
+      parts = c.if-line-first.false;
     }
