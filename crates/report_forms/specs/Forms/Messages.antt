@@ -1,7 +1,7 @@
 -- The text of a path, and what a message may say besides its text.
 use Rattle.std.specs.Prelude.{ℕ, Bool, List, [], ◌++◌, Option, Some, None, codes, if◌then◌else◌, nat_lt}
 use Rattle.std.specs.Fmt.{decimal}
-use Rattle.gj_coords.specs.declared.kind.Kind.{Kind, W5}
+use Rattle.gj_coords.specs.declared.kind.Kind.{Kind}
 use Rattle.gj_hints.specs.declared.kind.Hint.{Hint}
 use Rattle.gj_hints.specs.Texts.{text_of}
 use Rattle.gj_json.specs.declared.path.Path.{Path}
