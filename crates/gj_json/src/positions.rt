@@ -6,7 +6,6 @@ ghost use Rattle.gj_json.specs.Internal.SpelledPositions.{gap_of, room_of, AreFe
 ghost use Rattle.gj_json.specs.declared.lanes.TheConstants.{LANES};
 
 use crate::cut_position::CutPosition;
-use crate::lanes::LANES;
 use crate::separators::{Inner, Separators};
 use gj_number::{Short, cuts_at, digit_span, read_short};
 

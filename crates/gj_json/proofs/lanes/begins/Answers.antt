@@ -1,5 +1,5 @@
 -- The lanes that differ, and the first bytes.
-use Rattle.gj_json.proofs.Common.{Bool, List, ap, ap₂, arith, bit_and, bytes_eq, cond, eqb, false, length, length-take-le, map, mask_l, mask_l-mod, not, refl, suc}
+use Rattle.gj_json.proofs.Common.{Bool, List, ap, ap₂, arith, bit_and, bytes_eq, cond, eqb, false, length, length-take-le, mask_l, mask_l-mod, not, refl, suc}
 use Rattle.gj_json.proofs.Common.{sym, take-take, true, w8, zero, zip2, ℕ, ◌%◌, ◌&&◌, ◌*◌, ◌+◌, ◌-◌, ◌/◌, ◌^◌, ◌∙◌, ◌∷◌, ◌≡◌, ◌≤◌}
 use Rattle.std.proofs.Common.{take}
 use Rattle.std.proofs.lemmas.Bool.{ne_eqb}
