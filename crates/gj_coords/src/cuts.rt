@@ -104,20 +104,20 @@ impl AddedCuts {
     ghost use Rattle.gj_json.specs.CutPosition.{IsCutPosition};
     ghost use Rattle.gj_coords.specs.Internal.CutPositionGather.{HasLeast, IsAdded};
 
-    /// Adds a position that is in range and whose longitude is not `start`: whether it did.
+    /// Adds a position that is in range and whose corner is not `start`: whether it did.
     #[inline(always)]
-    pub fn adds(&mut self, position: &CutPosition, start: i64) -> bool
+    pub fn adds(&mut self, position: &CutPosition, start: &Corner) -> bool
         requires least { HasLeast self.old.precise }
         requires room { self.old.precise.count + 2 < 2 ^ 32 }
         ensures same { result ≡ false → self.new ≡ self.old }
         ensures least { HasLeast self.new.precise }
         ensures few { self.new.precise.count ≤ self.old.precise.count + 2 }
-        ensures added { IsTrue result → (flat : Flat) → IsCutPosition position.now flat → IsAdded flat start self.old self.new }
+        ensures added { IsTrue result → (flat : Flat) → IsCutPosition position.now flat → IsAdded flat start.now self.old self.new }
     {
         let Some(corner) = corner(position) else {
             return false;
         };
-        if i64::from(corner.x) == start {
+        if corner == *start {
             return false;
         }
         self.precise = self.precise.with(position);

@@ -9,7 +9,7 @@ use crate::kind::Kind;
 use crate::position::{Numbers, Values, misshapen};
 use crate::tally::Tally;
 use crate::warned::Warned;
-use crate::winding::{Corner, Turn, Winding, longitude_of};
+use crate::winding::{Corner, Turn, Winding};
 use gj_json::{CutPosition, Flat};
 
 /// The least number of positions of a linear ring.
@@ -132,7 +132,7 @@ impl Positions {
     }
 
     /// Adds positions that come as their cut values, up to the first that is out of range or may have the values of the first
-    /// of all: how many. It adds none where no position before them is in range.
+    /// of all: how many. It adds none where that one is out of range.
     pub fn add_cuts(&mut self, positions: &[CutPosition]) -> usize
         ensures few { result ≤ length positions.now }
         ensures added { (flats : List Flat) → AreCutPositions (take result positions.now) flats → self.new ≡ positions_added self.old flats }
@@ -143,17 +143,19 @@ impl Positions {
         let Some(first) = &self.first else {
             return 0;
         };
+        let Some(start) = first.corner() else {
+            return 0;
+        };
         let Some(sum) = self.winding.running_sum() else {
             return 0;
         };
-        let start = longitude_of(&first.first);
         let most = cuts::at_once(positions);
         let mut added = AddedCuts {
             sum,
             precise: PreciseNumbers::none(),
         };
         let mut at = 0;
-        while at < most && added.adds(&positions[at], start) {
+        while at < most && added.adds(&positions[at], &start) {
             at += 1;
         }
         if at > 0 {

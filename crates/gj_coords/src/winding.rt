@@ -125,16 +125,6 @@ fn bounded_cut(number: &Option<Decimal>, most: i32) -> Option<i32>
     }
 }
 
-/// The cut number of a longitude that is in range, or one that no longitude in range has.
-pub fn longitude_of(longitude: &Option<Decimal>) -> i64
-    ensures { (x : ℤ) → bounded_cut most_longitude (cut_value longitude.now) ≡ Some x → result ≡ x }
-{
-    match bounded_cut(longitude, MOST_LONGITUDE) {
-        Some(x) => i64::from(x),
-        None => i64::MAX,
-    }
-}
-
 /// The number, where it is at most `most` from zero.
 #[inline(always)]
 fn within(number: i64, most: i32) -> Option<i32>

@@ -22,7 +22,7 @@ pub fn begins(piece: &[u8], word: &[u8; LANES], count: usize) -> bool
     ensures { result ≡ bytes_eq (take count piece.now) (take count word.now) }
 {
     let differing = u8x16::from_slice(piece).simd_ne(u8x16::from_array(*word));
-    differing.to_bitmask().trailing_zeros() as usize >= count
+    differing.to_bitmask() & ((1 << count) - 1) == 0
 }
 
 #[inline(always)]

@@ -1,12 +1,11 @@
 //! Reads positions as their cut values, where the same bytes stand between their numbers as between those of the array before.
 
-ghost use Rattle.std.specs.Prelude.{◌≡◌, ◌+◌, ◌^◌, ◌≤◌, false, length, take, drop, IfSome, IsTrue};
+ghost use Rattle.std.specs.Prelude.{◌≡◌, ◌+◌, ◌-◌, ◌^◌, ◌≤◌, false, length, take, drop, IfSome, IsTrue};
 ghost use Rattle.std.specs.Option.{option_map_or};
-ghost use Rattle.gj_json.specs.Internal.SpelledPositions.{gap_of, room_of, AreFew, AreSeparators, EndsAt, HasHead, IsInner, SpellsPosition, SpellsPositions};
+ghost use Rattle.gj_json.specs.Internal.SpelledPositions.{gap_of, room_of, AreFew, AreSeparators, EndsAt, HasHead, IsInner, SpellsPosition, SpellsPositions, place_after_all};
 ghost use Rattle.gj_json.specs.declared.lanes.TheConstants.{LANES};
 
 use crate::cut_position::CutPosition;
-use crate::lanes::LANES;
 use crate::separators::{Inner, Separators};
 use gj_number::{Short, cuts_at, digit_span, read_short};
 
@@ -31,7 +30,7 @@ fn room_of(separators: &Separators<'_>) -> usize
         None => 0,
         Some(third) => third.separator.count(),
     };
-    ROOM + separators.outer.head.count()
+    ROOM + separators.outer.head.len()
         + separators.inner.separator.count()
         + third
         + separators.outer.separator.count()
@@ -91,7 +90,7 @@ fn read_position<const FEW: bool>(
         return None;
     }
     let (inner, outer) = (&separators.inner, &separators.outer);
-    let first = outer.head.count();
+    let first = outer.head.len();
     let one = digit_span(piece, first)?;
     if !inner.separator.stands::<FEW>(piece, one.end()) {
         return None;
@@ -129,6 +128,7 @@ fn read_in_loop<const FEW: bool>(
     requires small { start + length piece.now ≤ 2 ^ 60 }
     ensures few { result ≤ 24 }
     ensures spelled { SpellsPositions (gap_of separators.now) (take result positions.new) start piece.now }
+    ensures next { HasHead separators.now (drop (place_after_all (gap_of separators.now) (take result positions.new) start - start) piece.now) }
 {
     let end = start + piece.len() as u64;
     let mut count = 0;
@@ -155,13 +155,12 @@ pub fn read_positions(
     positions: &mut [CutPosition; MOST_POSITIONS],
 ) -> usize
     requires separators { AreSeparators separators.now }
+    requires head { HasHead separators.now piece.now }
     requires small { start + length piece.now ≤ 2 ^ 60 }
     ensures few { result ≤ 24 }
     ensures spelled { SpellsPositions (gap_of separators.now) (take result positions.new) start piece.now }
+    ensures next { HasHead separators.now (drop (place_after_all (gap_of separators.now) (take result positions.new) start - start) piece.now) }
 {
-    if piece.len() < LANES || !separators.outer.head.stands::<false>(piece, 0) {
-        return 0;
-    }
     if separators.are_few() {
         return read_in_loop::<true>(piece, separators, start, positions);
     }

@@ -85,7 +85,7 @@ pub struct Inner<'a> {
 pub struct Outer<'a> {
     pub separator: Separator<'a>,
     /// Its end, from the bracket of the next array on.
-    pub head: Separator<'a>,
+    pub head: &'a [u8],
     /// Whether it ends with a minus sign.
     pub negative: bool,
     /// How many bytes stand before the closing bracket.
@@ -164,10 +164,11 @@ impl<'a> Inner<'a> {
 impl<'a> Outer<'a> {
     ghost use Rattle.gj_json.specs.Internal.SpelledPositions.{IsOuter};
 
-    /// That around the bracket that is thought to stand at an index.
+    /// That around the bracket that is thought to stand at an index, up to the number of an array that begins at `next`.
     #[inline(always)]
-    fn around(piece: &'a [u8], at: u64) -> Option<Outer<'a>>
-        ensures { IfSome result (λ outer. IsOuter outer) }
+    fn around(piece: &'a [u8], at: u64, next: usize) -> Option<Outer<'a>>
+        ensures outer { IfSome result (λ outer. IsOuter outer) }
+        ensures next { IfSome result (λ outer. cut (drop next piece.now) 0 (length outer.head.now) ≡ outer.head.now) }
     {
         let last = before_white(piece, at);
         let close = after_white(piece, last);
@@ -175,17 +176,16 @@ impl<'a> Outer<'a> {
             return None;
         }
         let open = after_white(piece, close + 2);
-        if !has_byte(piece, open, b'[') {
+        if open != next || !has_byte(piece, open, b'[') {
             return None;
         }
         let number = after_white(piece, open + 1);
         let negative = has_byte(piece, number, b'-');
         let end = number + negative as usize;
         let separator = Separator::between(piece, last, end)?;
-        let head = Separator::between(piece, open, end)?;
         Some(Outer {
             separator,
-            head,
+            head: &piece[open..end],
             negative,
             close: close - last,
             open: open - last,
@@ -194,19 +194,20 @@ impl<'a> Outer<'a> {
 }
 
 impl<'a> Separators<'a> {
-    ghost use Rattle.gj_json.specs.Internal.SpelledPositions.{gap_of, AreFew, AreSeparators};
+    ghost use Rattle.gj_json.specs.Internal.SpelledPositions.{gap_of, AreFew, AreSeparators, HasHead};
 
-    /// Those of an array that was read from the start of a piece, and of the next.
+    /// Those of an array that was read from the start of a piece, and of the next, which begins at an index.
     #[inline(always)]
-    pub fn of(piece: &'a [u8], flat: &Flat) -> Option<Separators<'a>>
-        ensures { IfSome result (λ separators. AreSeparators separators) }
+    pub fn of(piece: &'a [u8], flat: &Flat, next: usize) -> Option<Separators<'a>>
+        ensures separators { IfSome result (λ separators. AreSeparators separators) }
+        ensures next { IfSome result (λ separators. HasHead separators (drop next piece.now)) }
     {
         let inner = Inner::before(piece, flat.second.place - flat.place, true)?;
         let third = match &flat.third {
             None => None,
             Some(number) => Some(Inner::before(piece, number.place - flat.place, false)?),
         };
-        let outer = Outer::around(piece, flat.close.wrapping_sub(flat.place))?;
+        let outer = Outer::around(piece, flat.close.wrapping_sub(flat.place), next)?;
         Some(Separators {
             inner,
             third,

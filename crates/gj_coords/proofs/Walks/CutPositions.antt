@@ -1,9 +1,9 @@
 -- Positions that come as their cut values are added as their arrays of numbers are.
 use Rattle.gj_coords.proofs.Common.{AreCutPositions, Corner, Flat, IsCutPosition, Level, Outermost, Values, Warned, ap, arith, arrays_counted}
 use Rattle.gj_coords.proofs.Common.{counted_noted, first_steady, flat_position, position_added, precise_noted, second_steady, sound_noted, subst, sym}
-use Rattle.gj_coords.proofs.Common.{take, ℤ, ◌∙◌}
+use Rattle.gj_coords.proofs.Common.{take, ◌∙◌}
 use Rattle.std.proofs.Common.{◌≡◌, ℕ, zero, suc, ◌+◌, ◌<◌, ◌≤◌, List, [], ◌∷◌, ◌++◌, length, slice_index_or, Bool, true, false}
-use Rattle.std.proofs.Common.{Option, Some, None, option_map, refl}
+use Rattle.std.proofs.Common.{Some, None, refl}
 use Rattle.std.proofs.lemmas.Bool.Decides.{Decides-eqb, Decides-and}
 use Rattle.std.proofs.lemmas.List.{length-take-le}
 use Rattle.gj_json.specs.declared.cut_position.CutPosition.{CutPosition}
@@ -12,7 +12,7 @@ use Rattle.gj_coords.specs.declared.cuts.AddedCuts.{AddedCuts}
 use Rattle.gj_coords.specs.declared.cuts.PreciseNumbers.{PreciseNumbers}
 use Rattle.gj_coords.specs.declared.ring.Positions.{Positions}
 use Rattle.gj_coords.specs.declared.winding.Winding.{Winding}
-use Rattle.gj_coords.specs.Winding.{corner_of, both}
+use Rattle.gj_coords.specs.Winding.{corner_of}
 use Rattle.gj_coords.specs.Internal.AddedPositions.{positions_added, all_noted, all_steady, all_first, AllAfter}
 use Rattle.gj_coords.specs.Internal.CutPositionGather.{HasCounted, IsAdded}
 use Rattle.gj_coords.specs.Internal.FlatPosition.{flat_values}
@@ -35,10 +35,8 @@ differ a b other = go (same_values a b) refl
     go false e = refl
     go true e = absurd (other (same_corner a b e))
 
--- the first of two that are both there
-pub first_of_both : (x y : Option ℤ) (corner : Corner) → both x y ≡ Some corner → x ≡ Some corner.x
-first_of_both (Some x) (Some y) corner e = ap (option_map (λ c. c.x)) e
-first_of_both other another corner e = cc
+some_same : (a b : Corner) → Some a ≡ Some b → a ≡ b
+some_same a b e = cc
 
 pub cut_added : (s : Positions) (flat : Flat) (first : Values) (corner : Corner) (winding : Winding) (warned : Warned) → s.fault ≡ None → s.first ≡ Some first
     → corner_in (flat_values flat) ≡ Some corner → (corner_in first ≡ Some corner → ⊥) → winding ≡ winding_added s.winding (Some corner)
@@ -68,12 +66,11 @@ with_cuts s at added = record s {
   closes = closes_after at s.closes;
 }
 
-one_cut_more : (s : Positions) (at : ℕ) (flat : Flat) (first : Values) (start : ℤ) (old new : AddedCuts) → s.fault ≡ None → s.first ≡ Some first
-    → ((corner : Corner) → corner_in first ≡ Some corner → start ≡ corner.x) → IsAdded flat start old new
-    → with_cuts s (suc at) new ≡ position_added (with_cuts s at old) (flat_position flat)
-one_cut_more s at flat first start old new sound begun longitude is =
+one_cut_more : (s : Positions) (at : ℕ) (flat : Flat) (first : Values) (start : Corner) (old new : AddedCuts) → s.fault ≡ None → s.first ≡ Some first
+    → corner_in first ≡ Some start → IsAdded flat start old new → with_cuts s (suc at) new ≡ position_added (with_cuts s at old) (flat_position flat)
+one_cut_more s at flat first start old new sound begun at_start is =
     cut_added (with_cuts s at old) flat first is.corner (with_sum s.winding new.sum) (precise_noted s.warned (counted_noted new.precise)) sound begun
-    is.in_range (λ e. is.apart (longitude is.corner e)) (ap (with_sum s.winding) is.sum) (is.counted s.warned)
+    is.in_range (λ e. is.apart (some_same start is.corner (sym at_start ∙ e))) (ap (with_sum s.winding) is.sum) (is.counted s.warned)
 
 -- what is written back is that
 pub cuts_written : (s : Positions) (at : ℕ) (added : AddedCuts) (winding : Winding) (warned : Warned) → 0 < at → winding ≡ with_sum s.winding added.sum
@@ -112,16 +109,16 @@ noted_more [] f w = refl
 noted_more (g ∷ fs) f w = noted_more fs f (sound_noted w (flat_position g))
 
 -- so a loop adds one more to what it has added
-pub cuts_more : (s : Positions) (ps : List CutPosition) (d : CutPosition) (at : ℕ) (first : Values) (start : ℤ) (old new : AddedCuts) → at < length ps
-    → s.fault ≡ None → s.first ≡ Some first → ((corner : Corner) → corner_in first ≡ Some corner → start ≡ corner.x)
+pub cuts_more : (s : Positions) (ps : List CutPosition) (d : CutPosition) (at : ℕ) (first : Values) (start : Corner) (old new : AddedCuts) → at < length ps
+    → s.fault ≡ None → s.first ≡ Some first → corner_in first ≡ Some start
     → ((flat : Flat) → IsCutPosition (slice_index_or ps at d) flat → IsAdded flat start old new)
     → ((flats : List Flat) → AreCutPositions (take at ps) flats → with_cuts s at old ≡ positions_added s flats)
     → (flats : List Flat) → AreCutPositions (take (at + 1) ps) flats → with_cuts s (at + 1) new ≡ positions_added s flats
-cuts_more s ps d at first start old new less sound begun longitude one all flats are =
+cuts_more s ps d at first start old new less sound begun at_start one all flats are =
     let e : at + 1 ≡ suc at = omega arith in
     let P : ℕ → Type 0 = λ n. AreCutPositions (take n ps) flats in
     let m = more_of ps d at flats less (subst P e are) in
-    ap (λ n. with_cuts s n new) e ∙ one_cut_more s at m.last first start old new sound begun longitude (one m.last m.is)
+    ap (λ n. with_cuts s n new) e ∙ one_cut_more s at m.last first start old new sound begun at_start (one m.last m.is)
     ∙ ap (λ x. position_added x (flat_position m.last)) (all m.before m.are) ∙ sym (added_more m.before m.last s) ∙ ap (positions_added s) (sym m.joined)
 
 -- and counts the numbers of one more

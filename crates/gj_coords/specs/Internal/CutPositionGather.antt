@@ -1,5 +1,5 @@
 -- What a loop over positions that come as their cut values gathers of them.
-use Rattle.std.specs.Prelude.{◌≡◌, ◌≢◌, ◌==◌, ◌+◌, ◌^◌, ◌-◌, ℕ, ℤ, if◌then◌else◌, Some}
+use Rattle.std.specs.Prelude.{◌≡◌, ◌≢◌, ◌==◌, ◌+◌, ◌^◌, ◌-◌, ℕ, if◌then◌else◌, Some}
 use Rattle.gj_json.specs.declared.cut_position.CutPosition.{CutPosition}
 use Rattle.gj_json.specs.declared.flat.Flat.{Flat}
 use Rattle.gj_coords.specs.declared.cuts.AddedCuts.{AddedCuts}
@@ -44,10 +44,10 @@ HasCounted flat old new =
 
 -- ---- positions after others
 
--- a position in range more, whose longitude is not this one
-pub record IsAdded (flat : Flat) (start : ℤ) (old new : AddedCuts) : Type 0 where
+-- a position in range more, whose corner is not this one
+pub record IsAdded (flat : Flat) (start : Corner) (old new : AddedCuts) : Type 0 where
   pub corner : Corner
   pub in_range : corner_in (flat_values flat) ≡ Some corner
-  pub apart : start ≢ corner.x
+  pub apart : start ≢ corner
   pub sum : new.sum ≡ sum_added old.sum corner
   pub counted : HasCounted flat old.precise new.precise

@@ -28,11 +28,11 @@ pub record IsOuter (outer : Outer) : Type 0 where
   pub comma : get_or outer.separator.bytes.now (outer.close + 1) 0 ≡ comma
   pub on : outer.close + 2 ≤ outer.open
   pub between : AllByRecursion IsWhite (cut outer.separator.bytes.now (outer.close + 2) outer.open)
-  pub head : outer.head.bytes.now ≡ drop outer.open outer.separator.bytes.now
+  pub head : outer.head.now ≡ drop outer.open outer.separator.bytes.now
   pub room : outer.open + 1 + bool_byte outer.negative ≤ length outer.separator.bytes.now
-  pub opens : get_or outer.head.bytes.now 0 0 ≡ open_bracket
-  pub white : AllByRecursion IsWhite (cut outer.head.bytes.now 1 (length outer.head.bytes.now - bool_byte outer.negative))
-  pub sign : IsTrue outer.negative → get_or outer.head.bytes.now (length outer.head.bytes.now - 1) 0 ≡ minus_sign
+  pub opens : get_or outer.head.now 0 0 ≡ open_bracket
+  pub white : AllByRecursion IsWhite (cut outer.head.now 1 (length outer.head.now - bool_byte outer.negative))
+  pub sign : IsTrue outer.negative → get_or outer.head.now (length outer.head.now - 1) 0 ≡ minus_sign
 
 pub record AreSeparators (separators : Separators) : Type 0 where
   pub inner : IsInner separators.inner
@@ -51,7 +51,7 @@ gap_of separators = separators.outer.open - separators.outer.close - 2
 -- how long a piece must be at the least for its position to be read
 abbrev pub room_of : Separators → ℕ
 room_of separators =
-    160 + length separators.outer.head.bytes.now + length separators.inner.separator.bytes.now
+    160 + length separators.outer.head.now + length separators.inner.separator.bytes.now
     + option_map_or (λ third. length third.separator.bytes.now) separators.third 0 + length separators.outer.separator.bytes.now
 
 -- After the second number, which ends at an index, no number stands or one with at most seven places, and then the closing
@@ -75,7 +75,7 @@ pub record EndsAt (piece : List ℕ) (at last : ℕ) : Type 0 where
 
 -- the piece starts with what stands from a bracket up to the first digit
 abbrev pub HasHead : Separators → List ℕ → Type 0
-HasHead separators piece = cut piece 0 (length separators.outer.head.bytes.now) ≡ separators.outer.head.bytes.now
+HasHead separators piece = cut piece 0 (length separators.outer.head.now) ≡ separators.outer.head.now
 
 -- The piece, which begins at the place `start`, starts with the array, a comma, so many bytes of white space and a bracket.
 pub record SpellsPosition (gap : ℕ) (position : CutPosition) (start : ℕ) (piece : List ℕ) : Type 0 where

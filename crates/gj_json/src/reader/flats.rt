@@ -1,6 +1,6 @@
 //! Arrays of numbers, taken at once.
 
-ghost use Rattle.std.specs.Prelude.{◌≡◌, ◌+◌, ◌^◌, ◌≤◌, ◌<◌, true, length, take, drop, get_or, None, Some, IsTrue};
+ghost use Rattle.std.specs.Prelude.{◌≡◌, ◌+◌, ◌-◌, ◌^◌, ◌≤◌, ◌<◌, true, length, take, drop, get_or, None, Some, IsTrue};
 ghost use Rattle.gj_json.specs.Bytes.{open_bracket};
 ghost use Rattle.gj_json.specs.Internal.FlatParts.{awaits, IsDueAt};
 ghost use Rattle.gj_json.specs.Internal.OpenLevels.{levels_in, inner_of};
@@ -105,6 +105,8 @@ impl Reader {
         left: &mut u8,
         sink: &mut S,
     ) -> usize
+        requires rest { piece.now ≡ drop (length before.now - length piece.now) before.now }
+        requires within { length piece.now ≤ length before.now }
         requires next { IsDueAt self.old.mode piece.now }
         requires takes { IsOpenFor self.old piece.now }
         requires deep { length (levels_in self.old.levels) < self.old.limits.depth }
@@ -118,7 +120,7 @@ impl Reader {
             *left -= 1;
             return 0;
         }
-        let Some(separators) = Separators::of(before, flat) else {
+        let Some(separators) = Separators::of(before, flat, before.len() - piece.len()) else {
             return 0;
         };
         let many = self.take_positions(piece, &separators, sink);

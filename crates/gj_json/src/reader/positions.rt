@@ -23,7 +23,7 @@ pub(super) fn arrays_before_next(count: usize) -> u8 {
 impl Reader {
     ghost use Rattle.gj_json.specs.Internal.FedReader.{IsOpenFor};
     ghost use Rattle.gj_json.specs.Internal.FedReader.{FeedsAll};
-    ghost use Rattle.gj_json.specs.Internal.SpelledPositions.{AreSeparators};
+    ghost use Rattle.gj_json.specs.Internal.SpelledPositions.{AreSeparators, HasHead};
 
     /// Takes the positions at the start of the piece whose arrays have these separators, each with a comma and another array after
     /// it, as long as the sink takes them by their cut values: how many bytes.
@@ -35,6 +35,7 @@ impl Reader {
         sink: &mut S,
     ) -> usize
         requires separators { AreSeparators separators.now }
+        requires head { HasHead separators.now piece.now }
         requires next { IsDueAt self.old.mode piece.now }
         requires takes { IsOpenFor self.old piece.now }
         requires deep { length (levels_in self.old.levels) < self.old.limits.depth }

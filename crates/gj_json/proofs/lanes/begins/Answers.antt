@@ -1,47 +1,40 @@
--- The first lane that differs, and the bytes before it.
-use Rattle.gj_json.proofs.Common.{Bool, List, ap, arith, bytes_eq, cond, eqb, false, le-leb, leading_from_mask_l, leb, length, length-take-le, map}
-use Rattle.gj_json.proofs.Common.{map-id, mask_l, mask_l-mod, not, prefix_len, refl, suc, sym, take-take, trailing_mask_l, true, w8, zero, zip2, ℕ}
-use Rattle.gj_json.proofs.Common.{◌%◌, ◌&&◌, ◌+◌, ◌^◌, ◌∙◌, ◌∷◌, ◌≡◌, ◌≤◌}
+-- The lanes that differ, and the first bytes.
+use Rattle.gj_json.proofs.Common.{Bool, List, ap, ap₂, arith, bit_and, bytes_eq, cond, eqb, false, length, length-take-le, mask_l, mask_l-mod, not, refl, suc}
+use Rattle.gj_json.proofs.Common.{sym, take-take, true, w8, zero, zip2, ℕ, ◌%◌, ◌&&◌, ◌*◌, ◌+◌, ◌-◌, ◌/◌, ◌^◌, ◌∙◌, ◌∷◌, ◌≡◌, ◌≤◌}
 use Rattle.std.proofs.Common.{take}
-use Rattle.std.proofs.Math.Dec.{leb-zero, leb-suc-suc, leb-suc-zero}
+use Rattle.std.proofs.lemmas.Bool.{ne_eqb}
+use Rattle.std.proofs.lemmas.Nat.{and_mask, mod-pow-add, one_shl}
 use Rattle.std.proofs.lemmas.Simd.{tops_compared, length-zip2}
-use lib.Count.{count_trailing_zeros}
 use Rattle.gj_json.proofs.lanes.begins.Goals as goal
 
 abbrev unlike : ℕ → ℕ → Bool
 unlike a b = not (eqb a b)
 
--- so many lanes pass before the first that fails, where any does
-passed : (n : ℕ) (failed : List Bool) → n ≤ length failed → length failed ≤ 64
-    → leb n (count_trailing_zeros 64 (mask_l failed)) ≡ leb n (prefix_len (λ b. not b) failed)
-unfolding count_trailing_zeros
-passed n failed few long = go (mask_l failed) refl
+-- so many lanes are alike where no bit of them is set
+alike : (n : ℕ) (v w : List ℕ) → length v ≡ length w → n ≤ length v → eqb (mask_l (zip2 unlike v w) % 2 ^ n) 0 ≡ bytes_eq (take n v) (take n w)
+alike zero v w e l = ap (λ k. eqb k 0) {x = mask_l (zip2 unlike v w) % 2 ^ 0} {y = 0} (omega arith)
+alike (suc n) (x ∷ v) (y ∷ w) e l = head (eqb x y) (alike n v w (omega (arith, e)) (omega (arith, l)))
   where
-    same : map (λ (b : Bool). b) failed ≡ failed
-    same = map-id failed
+    more : ℕ
+    more = mask_l (zip2 unlike v w)
 
-    go : (mask : ℕ) → mask_l failed ≡ mask → leb n (count_trailing_zeros 64 (mask_l failed)) ≡ leb n (prefix_len (λ b. not b) failed)
-    go zero none =
-        let all : prefix_len (λ b. not b) failed ≡ length failed = leading_from_mask_l (λ (b : Bool). b) failed (ap mask_l same ∙ none) in
-        ap (λ m. leb n (count_trailing_zeros 64 m)) none ∙ le-leb n 64 (omega (arith, few, long))
-        ∙ sym (le-leb n (prefix_len (λ b. not b) failed) (omega (arith, few, all)))
-    go (suc mask) some =
-        let first : count_trailing_zeros 64 (mask_l (map (λ (b : Bool). b) failed)) ≡ prefix_len (λ b. not b) failed =
-        trailing_mask_l (λ (b : Bool). b) 64 failed long (omega (arith, some, ap mask_l same)) in
-        ap (leb n) (ap (λ (bs : List Bool). count_trailing_zeros 64 (mask_l bs)) (sym same) ∙ first)
+    split : (bit : ℕ) → bit ≤ 1 → (bit + 2 * more) % 2 ^ suc n ≡ more % 2 ^ n * 2 + bit
+    split bit small =
+        let next : suc n ≡ n + 1 = omega arith in
+        let half : (bit + 2 * more) / 2 ^ 1 ≡ more = omega arith in
+        let odd : (bit + 2 * more) % 2 ^ 1 ≡ bit = omega arith in
+        ap (λ k. (bit + 2 * more) % 2 ^ k) next ∙ mod-pow-add (bit + 2 * more) n 1 ∙ ap (λ k. k % 2 ^ n * 2 + (bit + 2 * more) % 2 ^ 1) half
+        ∙ ap (λ k. more % 2 ^ n * 2 + k) odd
 
-same_bytes : (n : ℕ) (v w : List ℕ) → length v ≡ length w → n ≤ length v → leb n (prefix_len (λ b. not b) (zip2 unlike v w)) ≡ bytes_eq (take n v) (take n w)
-same_bytes zero v w e l = leb-zero (prefix_len (λ b. not b) (zip2 unlike v w))
-same_bytes (suc n) (x ∷ v) (y ∷ w) e l = head (eqb x y) (same_bytes n v w (omega (arith, e)) (omega (arith, l)))
-  where
-    head : (alike : Bool) → leb n (prefix_len (λ b. not b) (zip2 unlike v w)) ≡ bytes_eq (take n v) (take n w)
-        → leb (suc n) (cond (not (not alike)) (1 + prefix_len (λ b. not b) (zip2 unlike v w)) 0) ≡ (alike && bytes_eq (take n v) (take n w))
-    head true h =
-        let m = prefix_len (λ b. not b) (zip2 unlike v w) in
-        let one : 1 + m ≡ suc m = omega arith in
-        ap (λ k. leb (suc n) k) one ∙ leb-suc-suc n m ∙ h
-    head false h = leb-suc-zero n
-same_bytes (suc n) _ _ e l = absurd (omega (arith, e, l))
+    none : (k : ℕ) → eqb (k * 2 + 0) 0 ≡ eqb k 0
+    none zero = refl
+    none (suc k) = ne_eqb (suc k * 2 + 0) 0 (λ e. omega (arith, e)) ∙ sym (ne_eqb (suc k) 0 (λ e. omega (arith, e)))
+
+    head : (same : Bool) → eqb (more % 2 ^ n) 0 ≡ bytes_eq (take n v) (take n w)
+        → eqb ((cond (not same) 1 0 + 2 * more) % 2 ^ suc n) 0 ≡ (same && bytes_eq (take n v) (take n w))
+    head true h = ap (λ k. eqb k 0) (split 0 (omega arith)) ∙ none (more % 2 ^ n) ∙ h
+    head false h = ap (λ k. eqb k 0) (split 1 (omega arith)) ∙ ne_eqb (more % 2 ^ n * 2 + 1) 0 (λ e. omega (arith, e))
+alike (suc n) _ _ e l = absurd (omega (arith, e, l))
 
 pub returns : goal.returns
 returns c =
@@ -52,8 +45,7 @@ returns c =
     let wide : length w ≡ 16 = c.told-word in
     let failed = zip2 unlike v w in
     let lanes : length failed ≡ 16 = length-zip2 unlike v w (long ∙ sym wide) ∙ long in
-    ap (λ m. leb n (count_trailing_zeros 64 m))
-    (ap (λ bs. mask_l bs % 2 ^ 64) (tops_compared w8 unlike v w) ∙ mask_l-mod failed 64 (omega (arith, lanes)))
-    ∙ passed n failed (omega (arith, lanes, c.requires.few)) (omega (arith, lanes))
-    ∙ same_bytes n v w (long ∙ sym wide) (omega (arith, long, c.requires.few))
+    ap (λ m. eqb m 0) (ap₂ (λ m k. bit_and m (k - 1)) (ap (λ bs. mask_l bs % 2 ^ 64) (tops_compared w8 unlike v w) ∙ mask_l-mod failed 64 (omega (arith, lanes)))
+    (one_shl n 64 (omega (arith, c.requires.few))) ∙ and_mask (mask_l failed) n)
+    ∙ alike n v w (long ∙ sym wide) (omega (arith, long, c.requires.few))
     ∙ ap (λ xs. bytes_eq xs (take n w)) (take-take n 16 c.args.piece.now c.requires.few)

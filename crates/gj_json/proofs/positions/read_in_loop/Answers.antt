@@ -19,7 +19,7 @@ step gap g e start piece before rest within read p s more is =
 pub loop-count-init : goal.loop-count-init
 loop-count-init g c =
     let piece = c.args.piece.now in
-    let head = c.args.separators.now.outer.head.bytes.now in
+    let head = c.args.separators.now.outer.head.now in
     let o = c.requires.separators.outer in
     let room : 1 ≤ length head = (let r = o.room in omega (
       arith,

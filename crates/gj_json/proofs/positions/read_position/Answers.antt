@@ -46,13 +46,13 @@ no_number_before piece at close on within white bracket n = elim (cases_lt at cl
 
 -- what is told of a position, by the bytes of its separators
 module _ (piece : List ℕ) (start : ℕ) (s : Separators) (are : AreSeparators s) (has_head : HasHead s piece) (room : room_of s ≤ length piece)
-    (one other : Span) (one_is : IsSpan piece one) (other_is : IsSpan piece other) (first_is : one.first ≡ length s.outer.head.bytes.now)
+    (one other : Span) (one_is : IsSpan piece one) (other_is : IsSpan piece other) (first_is : one.first ≡ length s.outer.head.now)
     (inner_there : cut piece one.end (one.end + length s.inner.separator.bytes.now) ≡ s.inner.separator.bytes.now)
     (second_is : other.first ≡ one.end + length s.inner.separator.bytes.now) (last : ℕ) (ends : EndsAt piece other.end last)
     (near : last ≤ other.end + option_map_or (λ third. length third.separator.bytes.now) s.third 0 + 32)
     (outer_there : cut piece last (last + length s.outer.separator.bytes.now) ≡ s.outer.separator.bytes.now) where
   abbrev head_bytes : List ℕ
-  head_bytes = s.outer.head.bytes.now
+  head_bytes = s.outer.head.now
 
   abbrev inner_bytes : List ℕ
   inner_bytes = s.inner.separator.bytes.now
@@ -284,7 +284,7 @@ module _ (piece : List ℕ) (start : ℕ) (s : Separators) (are : AreSeparators 
 
 record Found (piece : List ℕ) (s : Separators) (one other : Span) (last : ℕ) : Type 0 where
   room : room_of s ≤ length piece
-  first_is : one.first ≡ length s.outer.head.bytes.now
+  first_is : one.first ≡ length s.outer.head.now
   inner_there : cut piece one.end (one.end + length s.inner.separator.bytes.now) ≡ s.inner.separator.bytes.now
   second_is : other.first ≡ one.end + length s.inner.separator.bytes.now
   ends : EndsAt piece other.end last
@@ -302,7 +302,7 @@ returns-clause-spelled g c =
     let Q : ℕ → Type 0 = λ n. EndsAt piece n last in
     let f : Found piece s one other last = record {
       room = omega (arith, c.room_of.ensures, c.if-piece-room_of.false);
-      first_is = c.in_ok-one.ensures.first ∙ c.count-first.ensures;
+      first_is = c.in_ok-one.ensures.first;
       inner_there = subst P c.end.ensures (c.stands.ensures c.if-not-stands.false);
       second_is = omega (arith, c.in_ok-other.ensures.first, c.end-2.ensures, c.count.ensures);
       ends = subst Q c.end-3.ensures c.in_ok-last.ensures.ends;
@@ -313,7 +313,7 @@ returns-clause-spelled g c =
     let r = head_room piece c.args.start s c.requires.separators c.requires.head f.room one other c.in_ok-one.ensures.span c.in_ok-other.ensures.span
     f.first_is f.inner_there f.second_is last f.ends f.near f.outer_there in
     let i = c.requires.separators.inner.room in
-    let first = told.first (length s.outer.head.bytes.now - bool_byte s.outer.negative)
+    let first = told.first (length s.outer.head.now - bool_byte s.outer.negative)
     (sign_one piece c.args.start s c.requires.separators c.requires.head f.room one other c.in_ok-one.ensures.span c.in_ok-other.ensures.span
     f.first_is f.inner_there f.second_is last f.ends f.near f.outer_there) (omega (arith, f.first_is, r))
     (after_one piece c.args.start s c.requires.separators c.requires.head f.room one other c.in_ok-one.ensures.span c.in_ok-other.ensures.span
@@ -328,7 +328,7 @@ returns-clause-spelled g c =
     position_spelled piece c.args.start s c.requires.separators c.requires.head f.room one other c.in_ok-one.ensures.span c.in_ok-other.ensures.span
     f.first_is f.inner_there f.second_is last f.ends f.near f.outer_there _ c.in_ok-one-2.one c.in_ok-one-2.two first second
     (of_value first.short c.in_ok-one-2.one one_fits first.is) (of_value second.short c.in_ok-one-2.two other_fits second.is) refl
-    (ap (λ n. n - bool_byte s.outer.negative) c.count-first.ensures)
+    refl
     (omega (arith, f.second_is, c.end-2.ensures, c.count.ensures)) refl
 
 pub returns-clause-next : goal.returns-clause-next
@@ -341,7 +341,7 @@ returns-clause-next g c =
     let P : ℕ → Type 0 = λ n. cut piece n (n + length s.inner.separator.bytes.now) ≡ s.inner.separator.bytes.now in
     let Q : ℕ → Type 0 = λ n. EndsAt piece n last in
     next_head piece c.args.start s c.requires.separators c.requires.head (omega (arith, c.room_of.ensures, c.if-piece-room_of.false)) one other
-    c.in_ok-one.ensures.span c.in_ok-other.ensures.span (c.in_ok-one.ensures.first ∙ c.count-first.ensures)
+    c.in_ok-one.ensures.span c.in_ok-other.ensures.span c.in_ok-one.ensures.first
     (subst P c.end.ensures (c.stands.ensures c.if-not-stands.false)) (omega (arith, c.in_ok-other.ensures.first, c.end-2.ensures, c.count.ensures)) last
     (subst Q c.end-3.ensures c.in_ok-last.ensures.ends) (omega (arith, c.in_ok-last.ensures.near, c.end-3.ensures))
     (c.stands-2.ensures c.if-not-stands-2.false)

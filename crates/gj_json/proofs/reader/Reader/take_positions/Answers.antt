@@ -1,10 +1,10 @@
 -- The positions that the sink takes, as their arrays in turn.
-use Rattle.gj_json.proofs.Common.{CutPosition, FeedsAll, List, Passed, SpellsPositions, ValueDue, ap, arith, awaits, get_or, get_or-drop, length}
+use Rattle.gj_json.proofs.Common.{CutPosition, FeedsAll, List, Passed, SpellsPositions, ValueDue, ap, arith, awaits, drop, get_or, get_or-drop, length}
 use Rattle.gj_json.proofs.Common.{open_bracket, place_after, place_after_all, subst, sym, ℕ, [], ◌-◌, ◌<◌, ◌∙◌, ◌≡◌, ◌≤◌}
 use Rattle.std.proofs.Common.{append-nil, take, length-drop}
-use Rattle.std.proofs.lemmas.List.{get_or-take, length-take}
+use Rattle.std.proofs.lemmas.List.{get_or-take, length-take, take_all}
 use Rattle.gj_json.specs.CutPosition.{AreCutPositions}
-use Rattle.gj_json.specs.Internal.SpelledPositions.{gap_of}
+use Rattle.gj_json.specs.Internal.SpelledPositions.{gap_of, HasHead}
 use Rattle.gj_json.proofs.Readers.CallsInTurn.{piece_left}
 use Rattle.gj_json.proofs.Pieces.PieceRests.{rest_of, left_within, left_is}
 use Rattle.gj_json.proofs.Pieces.FlatsInTurn.{depth_left, room_left}
@@ -168,5 +168,13 @@ loop-taken-preserved g c =
         some = omega (arith, ap length (rest_of rest n), length-drop n rest);
         bracket = ap (λ xs. get_or xs 0 0) (rest_of rest n) ∙ get_or-drop n rest 0 0 ∙ ap (λ m. get_or rest m 0) (omega arith) ∙ e.bracket;
       };
+      head = λ full.
+          let s = c.args.separators.now in
+          let many = c.read_positions-found.ensures.few in
+          let all_told : length told ≤ k = omega (arith, length-take c.read_positions-found.result all) in
+          let end = ap (λ ps. place_after_all gap ps old.offset) (sym (take_all k told all_told)) ∙ e.end in
+          let G : ℕ → Type 0 = λ g. HasHead s (drop (place_after_all g told old.offset - old.offset) rest) in
+          let H : ℕ → Type 0 = λ m. HasHead s (drop (m - old.offset) rest) in
+          subst (HasHead s) (sym (rest_of rest n)) (subst H end (subst G (sym c.gap.ensures) c.read_positions-found.ensures.next));
       levels = c.skip.ensures.passed.levels ∙ i.levels;
     }

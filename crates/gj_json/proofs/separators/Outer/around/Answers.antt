@@ -13,8 +13,8 @@ end_of piece from mid to low high =
     sym (ap (λ n. drop (mid - from) (take n (drop from piece))) k ∙ drop-take (mid - from) (to - mid) (drop from piece)
     ∙ ap (take (to - mid)) (drop-drop (mid - from) from piece ∙ ap (λ n. drop n piece) {x = from + (mid - from)} {y = mid} (omega arith)))
 
-pub returns : goal.returns
-returns c =
+pub returns-clause-outer : goal.returns-clause-outer
+returns-clause-outer c =
     let piece = c.args.piece.now in
     let last = c.before_white-last.result in
     let close = c.after_white-close.result in
@@ -23,15 +23,15 @@ returns c =
     let negative = c.has_byte-negative.result in
     let end = number + bool_byte negative in
     let sep = c.in_ok-separator.separator.bytes.now in
-    let head = c.in_ok-head.head.bytes.now in
+    let head = cut piece open_at end in
     let a = c.after_white-close.ensures.on in
     let b = c.after_white-open.ensures.on in
     let d = c.after_white-number.ensures.on in
     let within = c.in_ok-separator.ensures.within in
     let order = c.in_ok-separator.ensures.order in
-    let head_order = c.in_ok-head.ensures.order in
+    let head_order : open_at ≤ end = omega arith in
     let is = c.in_ok-separator.ensures.bytes in
-    let head_is = c.in_ok-head.ensures.bytes in
+    let head_is : head ≡ cut piece open_at end = refl in
     let size = size_of piece sep last end is order within in
     let head_size = size_of piece head open_at end head_is head_order within in
     let W : List ℕ → Type 0 = λ xs. AllByRecursion IsWhite xs in
@@ -46,7 +46,7 @@ returns c =
           (omega arith) (omega arith))) c.after_white-open.ensures.white;
       head = head_is ∙ end_of piece last open_at end (omega arith) head_order ∙ ap (drop (open_at - last)) (sym is);
       room = omega arith;
-      opens = byte_of piece head open_at end head_is head_order within open_at 0 (omega arith) (omega arith) ∙ c.has_byte-2.ensures.there c.if-not-has_byte-3.false;
+      opens = byte_of piece head open_at end head_is head_order within open_at 0 (omega arith) (omega arith) ∙ c.has_byte-else-open-next.ensures.there c.if-not-has_byte-3.false;
       white = subst W (sym (cut_of piece head open_at end head_is head_order within (open_at + 1) number 1 (length head - bool_byte negative) (omega arith) d
           (omega arith) (omega arith) (omega arith))) c.after_white-number.ensures.white;
       sign = λ minus. byte_of piece head open_at end head_is head_order within number (length head - 1)
