@@ -2,7 +2,7 @@
 use Rattle.gj_json.proofs.Common.{Array, Bool, Close, Constant, Ending, Event, Exact, FeedsAll, FeedsAny, FeedsWithin, Go, IsNumber, IsString}
 use Rattle.gj_json.proofs.Common.{Lands, Leaves, Level, List, Mode, NameDue, None, Null, Object, Option, Passed, Reader, Skips, Some, ValueDone}
 use Rattle.gj_json.proofs.Common.{What, above, after_move, ap, arith, awaits, closing_of, drop, event_at, false, get_or, inner_of, is_white, length}
-use Rattle.gj_json.proofs.Common.{letters_of, opening_of, outer_of, refl, subst, suc, sym, take-add, take_more, true, value_of, what_of, zero, ℕ, []}
+use Rattle.gj_json.proofs.Common.{letters_of, opened, opening_of, outer_of, refl, subst, suc, sym, take-add, take_more, true, value_of, what_of, zero, ℕ, []}
 use Rattle.gj_json.proofs.Common.{◌++◌, ◌+◌, ◌-◌, ◌<◌, ◌∙◌, ◌∷◌, ◌≡◌, ◌≤◌}
 use Rattle.std.proofs.Common.{take}
 use Rattle.std.proofs.lemmas.List.{drop-drop, length-append, length-drop}
@@ -13,13 +13,14 @@ use Rattle.gj_json.specs.Internal.ByteClasses.{class_of}
 use Rattle.gj_json.specs.Internal.FedReader.{FeedsToken}
 use Rattle.gj_json.specs.Internal.OpenLevels.{levels_in}
 use Rattle.gj_json.specs.Internal.QuietBytes.{Reads}
+use Rattle.gj_json.specs.Internal.WholeTokens.{bracket_of, end_of, may_begin}
 use Rattle.gj_json.proofs.Grammar.ClassOfBytes.{class_is}
 use Rattle.gj_json.proofs.Readers.CallsInTurn.{feeds_nothing, front_skipped, piece_all, rest_all}
 use Rattle.gj_json.proofs.Events.IgnoredEvents.{outer_length, all_by, all_more}
 use Rattle.gj_json.proofs.Machine.ValuePaths.{at}
 use Rattle.gj_json.proofs.Pieces.PieceRests.{rest_of}
 use Rattle.gj_json.proofs.Pieces.QuietModes.{class_white, reads_more}
-use Rattle.gj_json.proofs.Pieces.TakenTokens.{constant_taken, end_goes, end_closes, number_then, number_closed}
+use Rattle.gj_json.proofs.Pieces.TakenTokens.{Closes, constant_taken, empty_taken, end_goes, end_closes, number_then, number_closed}
 
 -- a token completes these events, whoever hears them
 abbrev pub Completes : List Event → Reader → Reader → List ℕ → Type 0
@@ -96,6 +97,23 @@ any_closed old new given es f h fewer done =
     (λ floor w. leaves_one_less (above floor old) (above floor new) es (omega (arith, w)) (omega (arith, l, w)) h) (omega (arith, l))
     (λ m. let x : ValueDone ≡ NameDue = sym done ∙ m in cc)
 
+-- an opening bracket, and the closing one after it
+empty_leaves : (level : Level) (place last k : ℕ) → Leaves (suc k) (event_at place (opening_of level) ∷ event_at last (closing_of level) ∷ []) (suc k)
+empty_leaves Array place last k = leaves_one_less (suc k + 1) (suc k) (event_at last (closing_of Array) ∷ []) (omega arith) refl (close_leaves Array last)
+empty_leaves Object place last k = leaves_one_less (suc k + 1) (suc k) (event_at last (closing_of Object) ∷ []) (omega arith) refl (close_leaves Object last)
+
+pub any_empty : (old mid new : Reader) (piece : List ℕ) (level : Level) → 1 < length piece → get_or piece 0 0 ≡ bracket_of level
+    → get_or piece 1 0 ≡ end_of level → old.fault ≡ None → may_begin old.mode ≡ true → old.offset + length piece ≤ old.limits.bytes
+    → length (levels_in old.levels) < old.limits.depth → Lands 1 (opened level) (level ∷ levels_in old.levels) old mid
+    → Lands 1 ValueDone (outer_of (levels_in mid.levels)) mid new → FeedsAny old new (take 2 piece)
+any_empty old mid new piece level some is ends live due room deep opens p =
+    let first : Event = event_at old.offset (opening_of level) in
+    let last : Event = event_at (mid.offset + 1 - 1) (closing_of level) in
+    any_level old new (take 2 piece) (first ∷ last ∷ [])
+    (empty_taken {before = λ events. events ≡ []} {middle = λ events. events ≡ first ∷ []} {after = λ events. events ≡ first ∷ last ∷ []} old mid new piece
+    level some is ends live due room deep opens p (from_none (first ∷ [])) (λ events e. rw e refl))
+    (empty_leaves level old.offset (mid.offset + 1 - 1)) (p.levels_are ∙ ap outer_of opens.levels_are)
+
 -- a literal name
 pub any_constant : (old new : Reader) (piece : List ℕ) (n : ℕ) (which : Constant) → old.fault ≡ None → awaits old.mode ≡ true
     → old.offset + length piece ≤ old.limits.bytes → n ≤ length piece → Passed n ValueDone old new → take n piece ≡ letters_of which
@@ -124,13 +142,14 @@ module _ (old new : Reader) (piece : List ℕ) (some : 0 < length piece) (live :
       any_level old new (take 1 piece) [] (end_goes {heard = λ events. events ≡ []} old new piece next ending some live done room made p) (λ k. refl)
       (ap levels_in p.levels)
 
-  pub any_closes : (level : Level) → after_move (inner_of (levels_in old.levels)) (class_of (get_or piece 0 0)) ≡ Close level
-      → Lands 1 ValueDone (outer_of (levels_in old.levels)) old new → FeedsAny old new (take 1 piece)
-  any_closes level made p =
-      let es : List Event = event_at (old.offset + 1 - 1) (closing_of level) ∷ [] in
-      any_closed old new (take 1 piece) es
-      (end_closes {before = λ events. events ≡ []} {after = λ events. events ≡ es} old new piece level some live done room made p (from_none es))
-      (close_leaves level (old.offset + 1 - 1)) p.levels_are p.mode_is
+pub any_closes : (old new : Reader) (piece : List ℕ) (level : Level) → 0 < length piece → old.fault ≡ None → old.offset + length piece ≤ old.limits.bytes
+    → Closes old.mode (inner_of (levels_in old.levels)) (get_or piece 0 0) level → Lands 1 ValueDone (outer_of (levels_in old.levels)) old new
+    → FeedsAny old new (take 1 piece)
+any_closes old new piece level some live room closes p =
+    let es : List Event = event_at (old.offset + 1 - 1) (closing_of level) ∷ [] in
+    any_closed old new (take 1 piece) es
+    (end_closes {before = λ events. events ≡ []} {after = λ events. events ≡ es} old new piece level some live room closes p (from_none es))
+    (close_leaves level (old.offset + 1 - 1)) p.levels_are p.mode_is
 
 -- ---- one token after another
 

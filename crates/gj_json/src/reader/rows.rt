@@ -28,6 +28,12 @@ fn numbers_with(count: usize, numbers: u8) -> u8 {
     }
 }
 
+/// Whether an array of so many numbers is not reported at once.
+#[inline(always)]
+fn is_row(numbers: u8) -> bool {
+    numbers < 2 || numbers >= MANY
+}
+
 /// Whether a number stands at the start of the piece, by its first byte.
 #[inline(always)]
 fn begins_number(piece: &[u8]) -> bool {
@@ -80,7 +86,7 @@ impl Reader {
             if end == b']' {
                 return Row {
                     count: at + self.take_close(Level::Array, count + 1, sink),
-                    goes_on: numbers >= MANY,
+                    goes_on: is_row(numbers),
                 };
             }
             at += self.skip(count + 1, Mode::ValueDue);
@@ -102,10 +108,10 @@ impl Reader {
         ensures feeds { FeedsAll (S.heard sink.old) (S.heard sink.new) self.old self.new (take result.count piece.now) }
     {
         let opened = self.take_open(Level::Array, piece, sink);
-        if opened == 0 || !begins_number(&piece[opened..]) {
+        if opened != 1 || !begins_number(&piece[opened..]) {
             return Row {
                 count: opened,
-                goes_on: false,
+                goes_on: opened == 2,
             };
         }
         if self.is_ignored(sink) || self.may_be_missed(sink) {

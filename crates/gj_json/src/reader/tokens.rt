@@ -11,7 +11,7 @@ ghost use Rattle.gj_json.specs.Internal.FlatParts.{awaits};
 ghost use Rattle.gj_json.specs.Internal.OpenLevels.{levels_in, outer_of};
 ghost use Rattle.gj_json.specs.Internal.ReaderStep.{opened};
 ghost use Rattle.gj_json.specs.Internal.ToldEvents.{event_at, closing_of};
-ghost use Rattle.gj_json.specs.Internal.WholeTokens.{bracket_of, may_begin, names};
+ghost use Rattle.gj_json.specs.Internal.WholeTokens.{bracket_of, end_of, may_begin, names};
 ghost use Rattle.gj_json.specs.declared.levels.Level.TheVariants.{Array};
 ghost use Rattle.gj_json.specs.declared.mode.Mode.TheVariants.{ValueDone, ValueDue, ColonDue};
 
@@ -65,10 +65,21 @@ fn is_cut(piece: &[u8]) -> bool {
     true
 }
 
-/// Whether another array begins after the bracket that the piece starts with, or after one space more. No array of numbers begins so.
+/// Whether no number stands after the bracket that the piece starts with, or after one space more: mostly another array does.
 #[inline(always)]
-fn begins_nested(piece: &[u8]) -> bool {
-    piece.len() > 2 && (piece[1] == b'[' || piece[1] == b' ' && piece[2] == b'[')
+fn begins_otherwise(piece: &[u8]) -> bool {
+    piece.len() > 2 && (piece[1] > b'9' || piece[1] == b' ' && piece[2] > b'9')
+}
+
+/// The bracket that closes a level.
+#[inline(always)]
+fn closing_bracket(level: Level) -> u8
+    ensures { result ≡ end_of level }
+{
+    match level {
+        Level::Array => b']',
+        Level::Object => b'}',
+    }
 }
 
 impl Reader {
@@ -254,7 +265,8 @@ impl Reader {
         count + self.take_end(&piece[count..], sink)
     }
 
-    /// Takes the bracket that opens a level: 1, or 0 where it opens one level too many.
+    /// Takes the bracket that opens a level, and the one that closes it where it comes at once: how many bytes, or 0 where it opens
+    /// one level too many.
     #[inline(always)]
     pub(super) fn take_open<S: EventSink>(
         &mut self,
@@ -267,7 +279,7 @@ impl Reader {
         requires takes { IsOpenFor self.old piece.now }
         requires due { may_begin self.old.mode ≡ true }
         ensures within { result ≤ length piece.now }
-        ensures lands { 0 < result → Lands 1 (opened level) (level ∷ levels_in self.old.levels) self.old self.new }
+        ensures lands { result ≡ 1 → Lands 1 (opened level) (level ∷ levels_in self.old.levels) self.old self.new }
         ensures feeds { FeedsAll (S.heard sink.old) (S.heard sink.new) self.old self.new (take result piece.now) }
         ensures any { FeedsAny self.old self.new (take result piece.now) }
     {
@@ -279,7 +291,11 @@ impl Reader {
             what: opening(level),
         });
         self.levels.push(level);
-        self.skip(1, opened_mode(level))
+        let opened = self.skip(1, opened_mode(level));
+        if piece.len() < 2 || piece[1] != closing_bracket(level) {
+            return opened;
+        }
+        opened + self.take_close(level, 1, sink)
     }
 
     /// Takes `count` bytes, of which the last closes the innermost level, which is this.
@@ -438,7 +454,7 @@ impl Reader {
         ensures within { result ≤ length piece.now }
         ensures feeds { FeedsAll (S.heard sink.old) (S.heard sink.new) self.old self.new (take result piece.now) }
     {
-        if begins_nested(piece) {
+        if begins_otherwise(piece) {
             return self.take_open(Level::Array, piece, sink);
         }
         let flats = self.take_flats(piece, sink);
