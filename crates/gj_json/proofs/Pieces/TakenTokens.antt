@@ -5,14 +5,14 @@ use Rattle.gj_json.proofs.Common.{FeedsAll, FitsBroken, FitsName, Go, HasValue, 
 use Rattle.gj_json.proofs.Common.{Level, List, Mode, Move, NameDue, NameOn, None, Null, NumberOn, NumberTurn, Object, Open, Option, Passed, Plain}
 use Rattle.gj_json.proofs.Common.{Reader, Refuse, Skips, Some, StandsAs, StandsWell, StringState, TextDue, Timed, Tree, True, Turns, ValueDone}
 use Rattle.gj_json.proofs.Common.{ValueDue, What, Words, after_move, ap, append_assoc, arith, awaits, begin_value, closing_of, constant, depth}
-use Rattle.gj_json.proofs.Common.{done_members, drop, emitted, ending_event, event_at, events_by, false, get_or, get_or-drop, in_number, inl, inner_of, inr}
+use Rattle.gj_json.proofs.Common.{done_members, drop, emitted, ending_event, event_at, events_by, false, get_or, in_number, inl, inner_of, inr}
 use Rattle.gj_json.proofs.Common.{length, length-take-le, letters_after, letters_of, levels_of, map-append, mark_events, move_of, names, open_brace}
 use Rattle.gj_json.proofs.Common.{open_bracket, opened, opening_of, outer_of, partial_timed, refl, run, run_from, seen, stack_timed, start_after}
 use Rattle.gj_json.proofs.Common.{step, step_leaf, string, subst, sym, take_more, text_state, timed, to, true, under_of, value_of, what_of, ℕ, []}
 use Rattle.gj_json.proofs.Common.{◌++◌, ◌+◌, ◌-◌, ◌<◌, ◌∙◌, ◌∷◌, ◌≡◌, ◌≤◌}
 use Rattle.std.proofs.Common.{take}
 use Rattle.std.proofs.Common.{append-nil}
-use Rattle.std.proofs.lemmas.List.{length-append, length-drop}
+use Rattle.std.proofs.lemmas.List.{length-append}
 use Rattle.gj_json.specs.Bytes.{quote as quote_byte, close_bracket, close_brace}
 use Rattle.gj_json.specs.Internal.ByteClasses.{class_of}
 use Rattle.gj_json.specs.declared.class.Class.TheVariants.{White as white, OpenArray as open_array, OpenObject as open_object, Comma as comma, Quote as quote}
@@ -127,18 +127,6 @@ lands_feeds {before} {after} old new given mode levels es live p free moved hear
 
 pub passed_lands : (count : ℕ) (mode : Mode) (old new : Reader) → Passed count mode old new → Lands count mode (levels_in old.levels) old new
 passed_lands count mode old new p = record { limits = p.limits; fault = p.fault; offset = p.offset; mode_is = p.mode_is; levels_are = ap levels_in p.levels }
-
--- where the level was opened before
-pub opened_lands : (level : Level) (old inside new : Reader) (mode : Mode) → Passed 1 mode inside new → inside.limits ≡ old.limits
-    → inside.fault ≡ old.fault → inside.offset ≡ old.offset → levels_in inside.levels ≡ level ∷ levels_in old.levels → mode ≡ opened level
-    → Lands 1 (opened level) (level ∷ levels_in old.levels) old new
-opened_lands level old inside new mode p l f o ls m = record {
-  limits = p.limits ∙ l;
-  fault = p.fault ∙ f;
-  offset = rw (← o) p.offset;
-  mode_is = p.mode_is ∙ m;
-  levels_are = ap levels_in p.levels ∙ ls;
-}
 
 -- ---- one byte
 
@@ -517,20 +505,6 @@ open_taken {before} {after} old new piece level some is live due room deep p hea
     (event_at old.offset (opening_of level) ∷ []) live p (opened_free level)
     (λ bytes k. open_well old.limits (levels_in old.levels) old.start old.mode old.offset bytes k due level (omega (arith, room, some)) (omega (arith, deep)))
     heard)
-
--- with the bracket that closes the level at once
-pub empty_taken : {before middle after : List Event → Type 0} (old mid new : Reader) (piece : List ℕ) (level : Level) → 1 < length piece
-    → get_or piece 0 0 ≡ bracket_of level → get_or piece 1 0 ≡ end_of level → old.fault ≡ None → may_begin old.mode ≡ true
-    → old.offset + length piece ≤ old.limits.bytes → length (levels_in old.levels) < old.limits.depth
-    → Lands 1 (opened level) (level ∷ levels_in old.levels) old mid → Lands 1 ValueDone (outer_of (levels_in mid.levels)) mid new
-    → ((events : List Event) → before events → middle (events ++ event_at old.offset (opening_of level) ∷ []))
-    → ((events : List Event) → middle events → after (events ++ event_at (mid.offset + 1 - 1) (closing_of level) ∷ []))
-    → FeedsAll before after old new (take 2 piece)
-empty_taken {before} {middle} {after} old mid new piece level some is ends live due room deep opens p heard more =
-    piece_all old mid new piece 1 1 (open_taken old mid piece level (omega (arith, some)) is live due room deep opens heard)
-    (end_closes {before = middle} {after = after} mid new (drop 1 piece) level (omega (arith, some, length-drop 1 piece)) (opens.fault ∙ live)
-    (omega (arith, room, some, opens.offset, ap (λ l. l.bytes) opens.limits, length-drop 1 piece))
-    (closes_empty mid.mode (inner_of (levels_in mid.levels)) (get_or (drop 1 piece) 0 0) level opens.mode_is (get_or-drop 1 piece 0 0 ∙ ends)) p more)
 
 -- ---- a number, and the byte after it
 

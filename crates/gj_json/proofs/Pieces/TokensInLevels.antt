@@ -1,7 +1,7 @@
 -- Tokens within levels that are open: of the events that one completes, the last alone may close a level.
 use Rattle.gj_json.proofs.Common.{Array, Bool, Close, Constant, Ending, Event, Exact, FeedsAll, FeedsAny, FeedsWithin, Go, IsNumber, IsString}
 use Rattle.gj_json.proofs.Common.{Lands, Leaves, Level, List, Mode, NameDue, None, Null, Object, Option, Passed, Reader, Skips, Some, ValueDone}
-use Rattle.gj_json.proofs.Common.{What, above, after_move, ap, arith, awaits, closing_of, drop, event_at, false, get_or, inner_of, is_white, length}
+use Rattle.gj_json.proofs.Common.{What, above, after_move, ap, arith, awaits, closing_of, drop, event_at, false, get_or, get_or-drop, inner_of, is_white, length}
 use Rattle.gj_json.proofs.Common.{letters_of, opened, opening_of, outer_of, refl, subst, suc, sym, take-add, take_more, true, value_of, what_of, zero, ℕ, []}
 use Rattle.gj_json.proofs.Common.{◌++◌, ◌+◌, ◌-◌, ◌<◌, ◌∙◌, ◌∷◌, ◌≡◌, ◌≤◌}
 use Rattle.std.proofs.Common.{take}
@@ -13,14 +13,14 @@ use Rattle.gj_json.specs.Internal.ByteClasses.{class_of}
 use Rattle.gj_json.specs.Internal.FedReader.{FeedsToken}
 use Rattle.gj_json.specs.Internal.OpenLevels.{levels_in}
 use Rattle.gj_json.specs.Internal.QuietBytes.{Reads}
-use Rattle.gj_json.specs.Internal.WholeTokens.{bracket_of, end_of, may_begin}
+use Rattle.gj_json.specs.Internal.WholeTokens.{end_of}
 use Rattle.gj_json.proofs.Grammar.ClassOfBytes.{class_is}
 use Rattle.gj_json.proofs.Readers.CallsInTurn.{feeds_nothing, front_skipped, piece_all, rest_all}
 use Rattle.gj_json.proofs.Events.IgnoredEvents.{outer_length, all_by, all_more}
 use Rattle.gj_json.proofs.Machine.ValuePaths.{at}
 use Rattle.gj_json.proofs.Pieces.PieceRests.{rest_of}
 use Rattle.gj_json.proofs.Pieces.QuietModes.{class_white, reads_more}
-use Rattle.gj_json.proofs.Pieces.TakenTokens.{Closes, constant_taken, empty_taken, end_goes, end_closes, number_then, number_closed}
+use Rattle.gj_json.proofs.Pieces.TakenTokens.{Closes, closes_empty, constant_taken, end_goes, end_closes, number_then, number_closed}
 
 -- a token completes these events, whoever hears them
 abbrev pub Completes : List Event → Reader → Reader → List ℕ → Type 0
@@ -96,23 +96,6 @@ any_closed old new given es f h fewer done =
     any_by old new given es f
     (λ floor w. leaves_one_less (above floor old) (above floor new) es (omega (arith, w)) (omega (arith, l, w)) h) (omega (arith, l))
     (λ m. let x : ValueDone ≡ NameDue = sym done ∙ m in cc)
-
--- an opening bracket, and the closing one after it
-empty_leaves : (level : Level) (place last k : ℕ) → Leaves (suc k) (event_at place (opening_of level) ∷ event_at last (closing_of level) ∷ []) (suc k)
-empty_leaves Array place last k = leaves_one_less (suc k + 1) (suc k) (event_at last (closing_of Array) ∷ []) (omega arith) refl (close_leaves Array last)
-empty_leaves Object place last k = leaves_one_less (suc k + 1) (suc k) (event_at last (closing_of Object) ∷ []) (omega arith) refl (close_leaves Object last)
-
-pub any_empty : (old mid new : Reader) (piece : List ℕ) (level : Level) → 1 < length piece → get_or piece 0 0 ≡ bracket_of level
-    → get_or piece 1 0 ≡ end_of level → old.fault ≡ None → may_begin old.mode ≡ true → old.offset + length piece ≤ old.limits.bytes
-    → length (levels_in old.levels) < old.limits.depth → Lands 1 (opened level) (level ∷ levels_in old.levels) old mid
-    → Lands 1 ValueDone (outer_of (levels_in mid.levels)) mid new → FeedsAny old new (take 2 piece)
-any_empty old mid new piece level some is ends live due room deep opens p =
-    let first : Event = event_at old.offset (opening_of level) in
-    let last : Event = event_at (mid.offset + 1 - 1) (closing_of level) in
-    any_level old new (take 2 piece) (first ∷ last ∷ [])
-    (empty_taken {before = λ events. events ≡ []} {middle = λ events. events ≡ first ∷ []} {after = λ events. events ≡ first ∷ last ∷ []} old mid new piece
-    level some is ends live due room deep opens p (from_none (first ∷ [])) (λ events e. rw e refl))
-    (empty_leaves level old.offset (mid.offset + 1 - 1)) (p.levels_are ∙ ap outer_of opens.levels_are)
 
 -- a literal name
 pub any_constant : (old new : Reader) (piece : List ℕ) (n : ℕ) (which : Constant) → old.fault ≡ None → awaits old.mode ≡ true
@@ -206,6 +189,44 @@ pub token_then : (hears : Bool) (before middle after : List Event → Type 0) (f
     → FeedsToken hears before after first last (take (at + n) piece)
 token_then true before middle after first next last piece at n w f g = piece_all first next last piece at n f (rest_all next last piece at n g)
 token_then false before middle after first next last piece at n w f g = any_then first next last piece at n w f g
+
+-- an opening bracket, the closing one, and the byte after it
+module _ (hears : Bool) (before middle after : List Event → Type 0) (old mid new : Reader) (piece : List ℕ) (level : Level) (at n : ℕ) (one : at ≡ 1)
+    (same : n ≡ 1) (some : 1 < length piece) (ends : get_or piece 1 0 ≡ end_of level) (live : old.fault ≡ None)
+    (room : old.offset + length piece ≤ old.limits.bytes) (opens : Lands 1 (opened level) (level ∷ levels_in old.levels) old mid)
+    (closes : Lands 1 ValueDone (outer_of (levels_in mid.levels)) mid new)
+    (heard : (events : List Event) → middle events → after (events ++ event_at (mid.offset + 1 - 1) (closing_of level) ∷ [])) where
+  abbrev rest : List ℕ
+  rest = take (length piece - at) (drop at piece)
+
+  long : length rest ≡ length piece - at
+  long = ap length (rest_of piece at) ∙ length-drop at piece
+
+  closing : Closes mid.mode (inner_of (levels_in mid.levels)) (get_or rest 0 0) level
+  closing =
+      let z : at + 0 ≡ 1 = omega (arith, one) in
+      closes_empty mid.mode (inner_of (levels_in mid.levels)) (get_or rest 0 0) level opens.mode_is
+      (ap (λ xs. get_or xs 0 0) (rest_of piece at) ∙ get_or-drop at piece 0 0 ∙ ap (λ i. get_or piece i 0) z ∙ ends)
+
+  left : mid.offset + length rest ≤ mid.limits.bytes
+  left = omega (arith, room, some, one, long, opens.offset, ap (λ l. l.bytes) opens.limits)
+
+  empty_token : FeedsToken hears before middle old mid (take at piece) → FeedsToken hears before after old new (take (at + n) piece)
+  empty_token f =
+      let l : length (levels_in mid.levels) ≡ length (levels_in old.levels) + 1 = ap length opens.levels_are ∙ omega arith in
+      let w : 0 < length rest = omega (arith, some, one, long) in
+      rw same
+      (token_then hears before middle after old mid new piece at 1 (omega (arith, l)) f
+      (token_of hears {before = middle} {after = after} mid new (take 1 rest)
+      (λ h. end_closes {before = middle} {after = after} mid new rest level w (opens.fault ∙ live) left closing closes heard)
+      (λ h. any_closes mid new rest level w (opens.fault ∙ live) left closing closes)))
+
+  pub container_token : (finally : List Event → Type 0) (last : Reader) (m : ℕ) → FeedsToken hears before middle old mid (take at piece)
+      → FeedsToken hears after finally new last (take m (take (length piece - (at + n)) (drop (at + n) piece)))
+      → FeedsToken hears before finally old last (take (at + n + m) piece)
+  container_token finally last m f g =
+      token_then hears before after finally old new last piece (at + n) m
+      (omega (arith, ap length (closes.levels_are ∙ ap outer_of opens.levels_are))) (empty_token f) g
 
 -- ---- a number, and the byte after it
 

@@ -8,7 +8,7 @@ ghost use Rattle.gj_json.specs.declared.levels.Level.TheVariants.{Array};
 
 use super::Reader;
 use super::flats::{begins_array, is_due};
-use super::tokens::LONG;
+use super::tokens::{LONG, begins_otherwise};
 use crate::event::{Event, What};
 use crate::levels::Level;
 use crate::mode::Mode;
@@ -108,10 +108,10 @@ impl Reader {
         ensures feeds { FeedsAll (S.heard sink.old) (S.heard sink.new) self.old self.new (take result.count piece.now) }
     {
         let opened = self.take_open(Level::Array, piece, sink);
-        if opened != 1 || !begins_number(&piece[opened..]) {
+        if opened == 0 || !begins_number(&piece[opened..]) {
             return Row {
                 count: opened,
-                goes_on: opened == 2,
+                goes_on: false,
             };
         }
         if self.is_ignored(sink) || self.may_be_missed(sink) {
@@ -127,30 +127,14 @@ impl Reader {
         }
     }
 
-    /// Takes the byte after a value, where the piece begins with it: 1, or 0.
-    #[inline(always)]
-    fn take_next_end<S: EventSink>(&mut self, piece: &[u8], sink: &mut S) -> usize
-        requires takes { IsOpenFor self.old piece.now }
-        ensures within { result ≤ length piece.now }
-        ensures feeds { FeedsAll (S.heard sink.old) (S.heard sink.new) self.old self.new (take result piece.now) }
-    {
-        if piece.is_empty() {
-            return 0;
-        }
-        match self.mode {
-            Mode::ValueDone => self.take_end(piece, sink),
-            _ => 0,
-        }
-    }
-
-    /// Whether an array begins here.
+    /// Whether an array begins here, and a number may stand in it first.
     #[inline(always)]
     fn begins_row(&self, piece: &[u8]) -> bool
         ensures some { IsTrue result → 0 < length piece.now }
         ensures begins { IsTrue result → get_or piece.now 0 0 ≡ open_bracket }
         ensures due { IsTrue result → awaits self.now.mode ≡ true }
     {
-        begins_array(piece) && is_due(self.mode)
+        begins_array(piece) && !begins_otherwise(piece) && is_due(self.mode)
     }
 
     /// Takes an array of numbers: how many bytes. Where it is not such as is reported at once, the arrays after it are taken

@@ -67,7 +67,7 @@ fn is_cut(piece: &[u8]) -> bool {
 
 /// Whether no number stands after the bracket that the piece starts with, or after one space more: mostly another array does.
 #[inline(always)]
-fn begins_otherwise(piece: &[u8]) -> bool {
+pub(super) fn begins_otherwise(piece: &[u8]) -> bool {
     piece.len() > 2 && (piece[1] > b'9' || piece[1] == b' ' && piece[2] > b'9')
 }
 
@@ -259,14 +259,10 @@ impl Reader {
             what: what_of(which),
         });
         self.skip(count, Mode::ValueDone);
-        if count == piece.len() {
-            return count;
-        }
-        count + self.take_end(&piece[count..], sink)
+        count + self.take_next_end(&piece[count..], sink)
     }
 
-    /// Takes the bracket that opens a level, and the one that closes it where it comes at once: how many bytes, or 0 where it opens
-    /// one level too many.
+    /// Takes the bracket that opens a level: 1, or 0 where it opens one level too many.
     #[inline(always)]
     pub(super) fn take_open<S: EventSink>(
         &mut self,
@@ -279,7 +275,7 @@ impl Reader {
         requires takes { IsOpenFor self.old piece.now }
         requires due { may_begin self.old.mode ≡ true }
         ensures within { result ≤ length piece.now }
-        ensures lands { result ≡ 1 → Lands 1 (opened level) (level ∷ levels_in self.old.levels) self.old self.new }
+        ensures lands { 0 < result → Lands 1 (opened level) (level ∷ levels_in self.old.levels) self.old self.new }
         ensures feeds { FeedsAll (S.heard sink.old) (S.heard sink.new) self.old self.new (take result piece.now) }
         ensures any { FeedsAny self.old self.new (take result piece.now) }
     {
@@ -291,11 +287,31 @@ impl Reader {
             what: opening(level),
         });
         self.levels.push(level);
-        let opened = self.skip(1, opened_mode(level));
-        if piece.len() < 2 || piece[1] != closing_bracket(level) {
+        self.skip(1, opened_mode(level))
+    }
+
+    /// As `take_open`, with the bracket that closes the level where it comes at once, and the byte after that: how many bytes, or 0.
+    #[inline(always)]
+    pub(super) fn take_container<S: EventSink>(
+        &mut self,
+        level: Level,
+        piece: &[u8],
+        sink: &mut S,
+    ) -> usize
+        requires some { 0 < length piece.now }
+        requires begins { get_or piece.now 0 0 ≡ bracket_of level }
+        requires takes { IsOpenFor self.old piece.now }
+        requires due { may_begin self.old.mode ≡ true }
+        ensures within { result ≤ length piece.now }
+        ensures feeds { FeedsAll (S.heard sink.old) (S.heard sink.new) self.old self.new (take result piece.now) }
+        ensures any { FeedsAny self.old self.new (take result piece.now) }
+    {
+        let opened = self.take_open(level, piece, sink);
+        if opened == 0 || piece.len() < 2 || piece[1] != closing_bracket(level) {
             return opened;
         }
-        opened + self.take_close(level, 1, sink)
+        let closed = self.take_close(level, 1, sink);
+        opened + closed + self.take_next_end(&piece[opened + closed..], sink)
     }
 
     /// Takes `count` bytes, of which the last closes the innermost level, which is this.
@@ -444,6 +460,23 @@ impl Reader {
         }
     }
 
+    /// Takes the byte after a value as `take_end`, where the piece begins with it: how many bytes, or 0.
+    #[inline(always)]
+    pub(super) fn take_next_end<S: EventSink>(&mut self, piece: &[u8], sink: &mut S) -> usize
+        requires takes { IsOpenFor self.old piece.now }
+        ensures within { result ≤ length piece.now }
+        ensures feeds { FeedsAll (S.heard sink.old) (S.heard sink.new) self.old self.new (take result piece.now) }
+        ensures any { FeedsAny self.old self.new (take result piece.now) }
+    {
+        if piece.is_empty() {
+            return 0;
+        }
+        match self.mode {
+            Mode::ValueDone => self.take_end(piece, sink),
+            _ => 0,
+        }
+    }
+
     /// Takes an array of numbers, or the bracket that opens an array: how many bytes, or 0.
     #[inline(always)]
     fn take_array<S: EventSink>(&mut self, piece: &[u8], sink: &mut S) -> usize
@@ -455,7 +488,7 @@ impl Reader {
         ensures feeds { FeedsAll (S.heard sink.old) (S.heard sink.new) self.old self.new (take result piece.now) }
     {
         if begins_otherwise(piece) {
-            return self.take_open(Level::Array, piece, sink);
+            return self.take_container(Level::Array, piece, sink);
         }
         let flats = self.take_flats(piece, sink);
         if flats > 0 || !self.may_open() {
@@ -489,14 +522,14 @@ impl Reader {
                 if HEARS {
                     self.take_object(piece, sink)
                 } else {
-                    self.take_open(Level::Object, piece, sink)
+                    self.take_container(Level::Object, piece, sink)
                 }
             }
             b'[' => {
                 if HEARS {
                     self.take_array(piece, sink)
                 } else {
-                    self.take_open(Level::Array, piece, sink)
+                    self.take_container(Level::Array, piece, sink)
                 }
             }
             b'n' => self.take_constant(Constant::Null, piece, sink),
@@ -519,10 +552,7 @@ impl Reader {
         if piece.len() > 1 {
             return self.skip_white(piece);
         }
-        match self.mode {
-            Mode::ValueDone => self.take_end(piece, sink),
-            _ => 0,
-        }
+        self.take_next_end(piece, sink)
     }
 
     /// Takes a token that is whole at the start of the piece, or the white space there: how many bytes, or 0 where there is
