@@ -35,6 +35,9 @@ pub fn read_decimal(piece: &[u8], value: &mut Decimal) -> usize
         *value = number.decimal();
         return count;
     }
+    if piece[0] > b'9' {
+        return 0;
+    }
     let count = long_number(piece, negative, value);
     if count > 0 {
         return count;

@@ -19,7 +19,7 @@ use Rattle.gj_json.proofs.Pieces.PieceRests.{rest_of}
 use Rattle.gj_json.proofs.Pieces.QuietModes.{quiet_white}
 use Rattle.gj_json.proofs.Pieces.SkippedRuns.{leads_skips}
 use Rattle.gj_json.proofs.Pieces.TakenFlats.{mid_of, to_mid, from_mid}
-use Rattle.gj_json.proofs.Pieces.TakenTokens.{named_taken, text_taken}
+use Rattle.gj_json.proofs.Pieces.TakenTokens.{closes_value, named_taken, text_taken}
 use Rattle.gj_json.proofs.Pieces.TokensInLevels.{from_none, first_byte, any_level, any_constant, any_goes, any_closes, any_then, any_skipped, number_token}
 use Rattle.gj_json.proofs.Pieces.TokensInLevels.{ended_token}
 
@@ -175,7 +175,8 @@ module _ (old new : Reader) (piece : List ℕ) (n : ℕ) (live : old.fault ≡ N
 
     closes : FeedsAny old mid (take n piece) → FeedsAny old new (take (n + 1) piece)
     closes f =
-        any_then old mid new piece n 1 (omega arith) f (any_closes mid new last last_some live refl last_room level (same_move ∙ made) from_done)
+        any_then old mid new piece n 1 (omega arith) f (any_closes mid new last level last_some live last_room
+        (closes_value mid.mode (inner_of (levels_in mid.levels)) (get_or last 0 0) level refl (same_move ∙ made)) from_done)
 
     pub scalar_closes : FeedsAny old new (take (n + 1) piece)
     scalar_closes = elim scalar [

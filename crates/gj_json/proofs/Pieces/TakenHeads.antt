@@ -2,7 +2,7 @@
 use Rattle.gj_json.proofs.Common.{AllByRecursion, Allowed, Array, ColonDue, Coordinates, Ending, Event, FeedsAll, Flat, Geometry, IsQuiet, IsQuoted}
 use Rattle.gj_json.proofs.Common.{IsText, IsTyped, IsWhite, Lands, Level, List, Mode, NameDue, None, Object, Reader, StandsWell, TypeName, ValueDone}
 use Rattle.gj_json.proofs.Common.{ValueDue, What, Word, ap, append_assoc, arith, awaits, close_brace, codes, cut, drop, event_at, events_by}
-use Rattle.gj_json.proofs.Common.{flat_events, get_or, length, length-take-le, names, open_brace, opened, refl, string, subst, sym, take-add}
+use Rattle.gj_json.proofs.Common.{flat_events, get_or, inner_of, length, length-take-le, names, open_brace, opened, refl, string, subst, sym, take-add}
 use Rattle.gj_json.proofs.Common.{take_more, true, ℕ, [], ◌++◌, ◌+◌, ◌-◌, ◌<◌, ◌∙◌, ◌∷◌, ◌≡◌, ◌≤◌}
 use Rattle.std.proofs.Common.{take}
 use Rattle.std.proofs.lemmas.List.{length-append}
@@ -25,7 +25,7 @@ use Rattle.gj_json.proofs.Pieces.QuietModes.{quiet_leads}
 use Rattle.gj_json.proofs.Pieces.QuietRuns.{quiet_run}
 use Rattle.gj_json.proofs.Pieces.PieceCuts.{cut_length, cut_byte, cut_joins}
 use Rattle.gj_json.proofs.Pieces.TakenFlats.{all_quiet, value_well, flat_well}
-use Rattle.gj_json.proofs.Pieces.TakenTokens.{Moved, lands_feeds, done_go, done_close, as_string, string_leads, name_well, may_begin_due, open_well}
+use Rattle.gj_json.proofs.Pieces.TakenTokens.{Moved, lands_feeds, done_go, close_well, closes_value, as_string, string_leads, name_well, may_begin_due, open_well}
 
 -- ---- bytes that lead from one mode to another, wherever they stand, and what is complete behind them
 
@@ -200,8 +200,8 @@ module _ (limits : Allowed) where
       → Carries limits ValueDone (Object ∷ levels) ValueDone levels (close_brace ∷ []) (λ n. event_at n What.CloseObject ∷ [])
   close_carries levels = record {
     moved = λ start offset bytes k room.
-        done_close limits (Object ∷ levels) start offset bytes close_brace k (omega (arith, room)) Object
-        (rw (class_is close_class close_brace refl (λ e. cc)) refl);
+        close_well limits (Object ∷ levels) start offset bytes close_brace ValueDone k (omega (arith, room)) Object
+        (closes_value ValueDone (inner_of (Object ∷ levels)) close_brace Object refl (rw (class_is close_class close_brace refl (λ e. cc)) refl));
   }
 
   white_done : (gap : List ℕ) → AllByRecursion IsWhite gap → AllByRecursion (IsQuiet ValueDone) gap

@@ -13,10 +13,11 @@ use Rattle.gj_json.proofs.Common.{◌++◌, ◌+◌, ◌-◌, ◌<◌, ◌∙◌
 use Rattle.std.proofs.Common.{take}
 use Rattle.std.proofs.Common.{append-nil}
 use Rattle.std.proofs.lemmas.List.{length-append}
-use Rattle.gj_json.specs.Bytes.{quote as quote_byte}
+use Rattle.gj_json.specs.Bytes.{quote as quote_byte, close_bracket, close_brace}
 use Rattle.gj_json.specs.Internal.ByteClasses.{class_of}
 use Rattle.gj_json.specs.declared.class.Class.TheVariants.{White as white, OpenArray as open_array, OpenObject as open_object, Comma as comma, Quote as quote}
 use Rattle.gj_json.specs.declared.class.Class.TheVariants.{NumberStart as number_start, Letter as letter, Other as other_class}
+use Rattle.gj_json.specs.declared.class.Class.TheVariants.{CloseArray as close_array, CloseObject as close_object}
 use Rattle.gj_json.specs.declared.mode.Mode.TheVariants.{ArrayOpened, StringOn}
 use Rattle.gj_json.proofs.Readers.StepsAlike.{no_number}
 use Rattle.gj_json.specs.Events.{value_events}
@@ -29,7 +30,7 @@ use Rattle.gj_number.proofs.Grammar.DecidedNumbers.{number as decided_number}
 use Rattle.gj_json.specs.Broken.{BeginsNumber as NumberBegun}
 use Rattle.gj_json.specs.Internal.QuietBytes.{Leads as LeadsOn, Reads}
 use Rattle.gj_json.specs.Internal.ToldEvents.{is_on}
-use Rattle.gj_json.specs.Internal.WholeTokens.{may_begin, bracket_of}
+use Rattle.gj_json.specs.Internal.WholeTokens.{may_begin, bracket_of, end_of}
 use Rattle.gj_json.specs.Internal.UnderWay.{number}
 use Rattle.gj_json.proofs.Grammar.CharacterPrefixes.{StringTo}
 use Rattle.gj_json.proofs.Grammar.ClassOfBytes.{class_is, starts_number, number_classes}
@@ -190,25 +191,41 @@ after_next inner c next ending e = go inner c (after_move inner c) refl e
     go (Some Array) _ made f e = cc
     go (Some Object) _ made f e = cc
 
-module _ (limits : Allowed) (levels : List Level) (start offset : ℕ) (bytes : List ℕ) (b : ℕ) (k : StandsWell limits ValueDone levels start offset bytes)
-    (room : offset < limits.bytes) where
-  pub done_go : (next : Mode) (ending : Ending) → after_move (inner_of levels) (class_of b) ≡ Go next ending
-      → Moved limits next levels offset (offset + 1) bytes (b ∷ []) []
-  done_go next ending e =
+-- a byte closes a level: after a value, or at once after the bracket that opened it
+pub record Closes (mode : Mode) (inner : Option Level) (b : ℕ) (level : Level) : Type 0 where
+  pub free : in_number mode ≡ false
+  pub made : (turn : NumberTurn) (words : Words) → move_of mode turn inner words b ≡ Close level
+
+pub closes_value : (mode : Mode) (inner : Option Level) (b : ℕ) (level : Level) → mode ≡ ValueDone → after_move inner (class_of b) ≡ Close level
+    → Closes mode inner b level
+closes_value mode inner b level m e = rw m (record { free = refl; made = λ turn words. e })
+
+pub closes_empty : (mode : Mode) (inner : Option Level) (b : ℕ) (level : Level) → mode ≡ opened level → b ≡ end_of level → Closes mode inner b level
+closes_empty mode inner b Array m e =
+    rw (m, e) (record { free = refl; made = λ turn words. rw (class_is close_array close_bracket refl (λ e. cc)) refl })
+closes_empty mode inner b Object m e =
+    rw (m, e) (record { free = refl; made = λ turn words. rw (class_is close_object close_brace refl (λ e. cc)) refl })
+
+module _ (limits : Allowed) (levels : List Level) (start offset : ℕ) (bytes : List ℕ) (b : ℕ) where
+  pub done_go : StandsWell limits ValueDone levels start offset bytes → offset < limits.bytes → (next : Mode) (ending : Ending)
+      → after_move (inner_of levels) (class_of b) ≡ Go next ending → Moved limits next levels offset (offset + 1) bytes (b ∷ []) []
+  done_go k room next ending e =
       let u = under_of k.state in
       let turn = own_turn u b in
       let f = moves limits.depth k.state ValueDone turn (own_words u) levels (length bytes) b k.kept (own_turns u b) k.fits in
       byte_moved limits levels start ValueDone next levels offset bytes b k turn (own_value u) [] (own_turns u b) (own_has u turn) room (rw e at f)
       (rw (e, (after_next (inner_of levels) (class_of b) next ending e).nothing start) refl)
 
-  pub done_close : (level : Level) → after_move (inner_of levels) (class_of b) ≡ Close level
+  pub close_well : (mode : Mode) → StandsWell limits mode levels start offset bytes → offset < limits.bytes → (level : Level)
+      → Closes mode (inner_of levels) b level
       → Moved limits ValueDone (outer_of levels) offset (offset + 1) bytes (b ∷ []) (event_at offset (closing_of level) ∷ [])
-  done_close level e =
+  close_well mode k room level closes =
       let u = under_of k.state in
       let turn = own_turn u b in
-      let f = moves limits.depth k.state ValueDone turn (own_words u) levels (length bytes) b k.kept (own_turns u b) k.fits in
-      byte_moved limits levels start ValueDone ValueDone (outer_of levels) offset bytes b k turn (own_value u) (event_at offset (closing_of level) ∷ [])
-      (own_turns u b) (own_has u turn) room (rw e at f) (rw e refl)
+      let e = closes.made turn (own_words u) in
+      let f = moves limits.depth k.state mode turn (own_words u) levels (length bytes) b k.kept (own_turns u b) k.fits in
+      byte_moved limits levels start mode ValueDone (outer_of levels) offset bytes b k turn (own_value u) (event_at offset (closing_of level) ∷ [])
+      (own_turns u b) (own_has u turn) room (rw e at f) (rw (e, no_number mode turn (own_value u) start closes.free) refl)
 
 one_byte : (piece : List ℕ) → 0 < length piece → take 1 piece ≡ get_or piece 0 0 ∷ []
 one_byte piece w = take_more piece 0 0 w
@@ -230,18 +247,16 @@ end_goes {heard} old new piece next ending some live done room e p =
     (λ events h. rw append-nil h))
 
 pub end_closes : {before after : List Event → Type 0} (old new : Reader) (piece : List ℕ) (level : Level) → 0 < length piece → old.fault ≡ None
-    → old.mode ≡ ValueDone → old.offset + length piece ≤ old.limits.bytes
-    → after_move (inner_of (levels_in old.levels)) (class_of (get_or piece 0 0)) ≡ Close level
+    → old.offset + length piece ≤ old.limits.bytes → Closes old.mode (inner_of (levels_in old.levels)) (get_or piece 0 0) level
     → Lands 1 ValueDone (outer_of (levels_in old.levels)) old new
     → ((events : List Event) → before events → after (events ++ event_at (old.offset + 1 - 1) (closing_of level) ∷ []))
     → FeedsAll before after old new (take 1 piece)
-end_closes {before} {after} old new piece level some live done room e p heard =
+end_closes {before} {after} old new piece level some live room closes p heard =
     let z : old.offset + 1 - 1 ≡ old.offset = omega arith in
     rw (one_byte piece some)
     (lands_feeds {before = before} {after = after} old new (get_or piece 0 0 ∷ []) ValueDone (outer_of (levels_in old.levels))
     (event_at old.offset (closing_of level) ∷ []) live p refl
-    (λ bytes k. done_close old.limits (levels_in old.levels) old.start old.offset bytes (get_or piece 0 0)
-    (well_in old.limits old.mode ValueDone (levels_in old.levels) old.start old.offset bytes done k) (omega (arith, room, some)) level e)
+    (λ bytes k. close_well old.limits (levels_in old.levels) old.start old.offset bytes (get_or piece 0 0) old.mode k (omega (arith, room, some)) level closes)
     (λ events h. let g = heard events h in rw z at g))
 
 -- ---- a string, a name, a literal name

@@ -1,8 +1,8 @@
 -- Tokens within levels that are open: of the events that one completes, the last alone may close a level.
 use Rattle.gj_json.proofs.Common.{Array, Bool, Close, Constant, Ending, Event, Exact, FeedsAll, FeedsAny, FeedsWithin, Go, IsNumber, IsString}
 use Rattle.gj_json.proofs.Common.{Lands, Leaves, Level, List, Mode, NameDue, None, Null, Object, Option, Passed, Reader, Skips, Some, ValueDone}
-use Rattle.gj_json.proofs.Common.{What, above, after_move, ap, arith, awaits, closing_of, drop, event_at, false, get_or, inner_of, is_white, length}
-use Rattle.gj_json.proofs.Common.{letters_of, opening_of, outer_of, refl, subst, suc, sym, take-add, take_more, true, value_of, what_of, zero, ℕ, []}
+use Rattle.gj_json.proofs.Common.{What, above, after_move, ap, arith, awaits, closing_of, drop, event_at, false, get_or, get_or-drop, inner_of, is_white, length}
+use Rattle.gj_json.proofs.Common.{letters_of, opened, opening_of, outer_of, refl, subst, suc, sym, take-add, take_more, true, value_of, what_of, zero, ℕ, []}
 use Rattle.gj_json.proofs.Common.{◌++◌, ◌+◌, ◌-◌, ◌<◌, ◌∙◌, ◌∷◌, ◌≡◌, ◌≤◌}
 use Rattle.std.proofs.Common.{take}
 use Rattle.std.proofs.lemmas.List.{drop-drop, length-append, length-drop}
@@ -13,13 +13,14 @@ use Rattle.gj_json.specs.Internal.ByteClasses.{class_of}
 use Rattle.gj_json.specs.Internal.FedReader.{FeedsToken}
 use Rattle.gj_json.specs.Internal.OpenLevels.{levels_in}
 use Rattle.gj_json.specs.Internal.QuietBytes.{Reads}
+use Rattle.gj_json.specs.Internal.WholeTokens.{end_of}
 use Rattle.gj_json.proofs.Grammar.ClassOfBytes.{class_is}
 use Rattle.gj_json.proofs.Readers.CallsInTurn.{feeds_nothing, front_skipped, piece_all, rest_all}
 use Rattle.gj_json.proofs.Events.IgnoredEvents.{outer_length, all_by, all_more}
 use Rattle.gj_json.proofs.Machine.ValuePaths.{at}
 use Rattle.gj_json.proofs.Pieces.PieceRests.{rest_of}
 use Rattle.gj_json.proofs.Pieces.QuietModes.{class_white, reads_more}
-use Rattle.gj_json.proofs.Pieces.TakenTokens.{constant_taken, end_goes, end_closes, number_then, number_closed}
+use Rattle.gj_json.proofs.Pieces.TakenTokens.{Closes, closes_empty, constant_taken, end_goes, end_closes, number_then, number_closed}
 
 -- a token completes these events, whoever hears them
 abbrev pub Completes : List Event → Reader → Reader → List ℕ → Type 0
@@ -124,13 +125,14 @@ module _ (old new : Reader) (piece : List ℕ) (some : 0 < length piece) (live :
       any_level old new (take 1 piece) [] (end_goes {heard = λ events. events ≡ []} old new piece next ending some live done room made p) (λ k. refl)
       (ap levels_in p.levels)
 
-  pub any_closes : (level : Level) → after_move (inner_of (levels_in old.levels)) (class_of (get_or piece 0 0)) ≡ Close level
-      → Lands 1 ValueDone (outer_of (levels_in old.levels)) old new → FeedsAny old new (take 1 piece)
-  any_closes level made p =
-      let es : List Event = event_at (old.offset + 1 - 1) (closing_of level) ∷ [] in
-      any_closed old new (take 1 piece) es
-      (end_closes {before = λ events. events ≡ []} {after = λ events. events ≡ es} old new piece level some live done room made p (from_none es))
-      (close_leaves level (old.offset + 1 - 1)) p.levels_are p.mode_is
+pub any_closes : (old new : Reader) (piece : List ℕ) (level : Level) → 0 < length piece → old.fault ≡ None → old.offset + length piece ≤ old.limits.bytes
+    → Closes old.mode (inner_of (levels_in old.levels)) (get_or piece 0 0) level → Lands 1 ValueDone (outer_of (levels_in old.levels)) old new
+    → FeedsAny old new (take 1 piece)
+any_closes old new piece level some live room closes p =
+    let es : List Event = event_at (old.offset + 1 - 1) (closing_of level) ∷ [] in
+    any_closed old new (take 1 piece) es
+    (end_closes {before = λ events. events ≡ []} {after = λ events. events ≡ es} old new piece level some live room closes p (from_none es))
+    (close_leaves level (old.offset + 1 - 1)) p.levels_are p.mode_is
 
 -- ---- one token after another
 
@@ -187,6 +189,44 @@ pub token_then : (hears : Bool) (before middle after : List Event → Type 0) (f
     → FeedsToken hears before after first last (take (at + n) piece)
 token_then true before middle after first next last piece at n w f g = piece_all first next last piece at n f (rest_all next last piece at n g)
 token_then false before middle after first next last piece at n w f g = any_then first next last piece at n w f g
+
+-- an opening bracket, the closing one, and the byte after it
+module _ (hears : Bool) (before middle after : List Event → Type 0) (old mid new : Reader) (piece : List ℕ) (level : Level) (at n : ℕ) (one : at ≡ 1)
+    (same : n ≡ 1) (some : 1 < length piece) (ends : get_or piece 1 0 ≡ end_of level) (live : old.fault ≡ None)
+    (room : old.offset + length piece ≤ old.limits.bytes) (opens : Lands 1 (opened level) (level ∷ levels_in old.levels) old mid)
+    (closes : Lands 1 ValueDone (outer_of (levels_in mid.levels)) mid new)
+    (heard : (events : List Event) → middle events → after (events ++ event_at (mid.offset + 1 - 1) (closing_of level) ∷ [])) where
+  abbrev rest : List ℕ
+  rest = take (length piece - at) (drop at piece)
+
+  long : length rest ≡ length piece - at
+  long = ap length (rest_of piece at) ∙ length-drop at piece
+
+  closing : Closes mid.mode (inner_of (levels_in mid.levels)) (get_or rest 0 0) level
+  closing =
+      let z : at + 0 ≡ 1 = omega (arith, one) in
+      closes_empty mid.mode (inner_of (levels_in mid.levels)) (get_or rest 0 0) level opens.mode_is
+      (ap (λ xs. get_or xs 0 0) (rest_of piece at) ∙ get_or-drop at piece 0 0 ∙ ap (λ i. get_or piece i 0) z ∙ ends)
+
+  left : mid.offset + length rest ≤ mid.limits.bytes
+  left = omega (arith, room, some, one, long, opens.offset, ap (λ l. l.bytes) opens.limits)
+
+  empty_token : FeedsToken hears before middle old mid (take at piece) → FeedsToken hears before after old new (take (at + n) piece)
+  empty_token f =
+      let l : length (levels_in mid.levels) ≡ length (levels_in old.levels) + 1 = ap length opens.levels_are ∙ omega arith in
+      let w : 0 < length rest = omega (arith, some, one, long) in
+      rw same
+      (token_then hears before middle after old mid new piece at 1 (omega (arith, l)) f
+      (token_of hears {before = middle} {after = after} mid new (take 1 rest)
+      (λ h. end_closes {before = middle} {after = after} mid new rest level w (opens.fault ∙ live) left closing closes heard)
+      (λ h. any_closes mid new rest level w (opens.fault ∙ live) left closing closes)))
+
+  pub container_token : (finally : List Event → Type 0) (last : Reader) (m : ℕ) → FeedsToken hears before middle old mid (take at piece)
+      → FeedsToken hears after finally new last (take m (take (length piece - (at + n)) (drop (at + n) piece)))
+      → FeedsToken hears before finally old last (take (at + n + m) piece)
+  container_token finally last m f g =
+      token_then hears before after finally old new last piece (at + n) m
+      (omega (arith, ap length (closes.levels_are ∙ ap outer_of opens.levels_are))) (empty_token f) g
 
 -- ---- a number, and the byte after it
 

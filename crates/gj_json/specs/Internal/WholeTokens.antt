@@ -1,6 +1,6 @@
 -- Whole tokens, as they are read, and what one leaves of a reader.
 use Rattle.std.specs.Prelude.{◌≡◌, ℕ, ◌+◌, ◌-◌, Bool, true, false, List, [], ◌∷◌, ◌++◌, get_or, take}
-use Rattle.gj_json.specs.Bytes.{quote, open_bracket, open_brace, colon as colon_byte}
+use Rattle.gj_json.specs.Bytes.{quote, open_bracket, open_brace, close_bracket, close_brace, colon as colon_byte}
 use Rattle.gj_json.specs.Characters.{SpellsCharacter}
 use Rattle.gj_json.specs.declared.levels.Level.{Level}
 use Rattle.gj_json.specs.declared.levels.Level.TheVariants.{Array, Object}
@@ -61,6 +61,10 @@ may_begin _ = false
 abbrev pub bracket_of : Level → ℕ
 bracket_of Array = open_bracket
 bracket_of Object = open_brace
+
+abbrev pub end_of : Level → ℕ
+end_of Array = close_bracket
+end_of Object = close_brace
 
 -- so many bytes were taken, and these are the mode and the levels after them
 pub record Lands (count : ℕ) (mode : Mode) (levels : List Level) (old new : Reader) : Type 0 where

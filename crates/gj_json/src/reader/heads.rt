@@ -124,7 +124,7 @@ impl Reader {
         if may_be_typed(piece) {
             return self.take_typed(piece, sink);
         }
-        self.take_open(Level::Object, piece, sink)
+        self.take_container(Level::Object, piece, sink)
     }
 
     /// Takes the byte after a value, and where it closes the last member of a feature also the end of the feature, the comma and

@@ -8,7 +8,7 @@ ghost use Rattle.gj_json.specs.declared.levels.Level.TheVariants.{Array};
 
 use super::Reader;
 use super::flats::{begins_array, is_due};
-use super::tokens::LONG;
+use super::tokens::{LONG, begins_otherwise};
 use crate::event::{Event, What};
 use crate::levels::Level;
 use crate::mode::Mode;
@@ -26,6 +26,12 @@ fn numbers_with(count: usize, numbers: u8) -> u8 {
     } else {
         numbers + 1
     }
+}
+
+/// Whether an array of so many numbers is not reported at once.
+#[inline(always)]
+fn is_row(numbers: u8) -> bool {
+    numbers < 2 || numbers >= MANY
 }
 
 /// Whether a number stands at the start of the piece, by its first byte.
@@ -80,7 +86,7 @@ impl Reader {
             if end == b']' {
                 return Row {
                     count: at + self.take_close(Level::Array, count + 1, sink),
-                    goes_on: numbers >= MANY,
+                    goes_on: is_row(numbers),
                 };
             }
             at += self.skip(count + 1, Mode::ValueDue);
@@ -121,30 +127,14 @@ impl Reader {
         }
     }
 
-    /// Takes the byte after a value, where the piece begins with it: 1, or 0.
-    #[inline(always)]
-    fn take_next_end<S: EventSink>(&mut self, piece: &[u8], sink: &mut S) -> usize
-        requires takes { IsOpenFor self.old piece.now }
-        ensures within { result ≤ length piece.now }
-        ensures feeds { FeedsAll (S.heard sink.old) (S.heard sink.new) self.old self.new (take result piece.now) }
-    {
-        if piece.is_empty() {
-            return 0;
-        }
-        match self.mode {
-            Mode::ValueDone => self.take_end(piece, sink),
-            _ => 0,
-        }
-    }
-
-    /// Whether an array begins here.
+    /// Whether an array begins here, and a number may stand in it first.
     #[inline(always)]
     fn begins_row(&self, piece: &[u8]) -> bool
         ensures some { IsTrue result → 0 < length piece.now }
         ensures begins { IsTrue result → get_or piece.now 0 0 ≡ open_bracket }
         ensures due { IsTrue result → awaits self.now.mode ≡ true }
     {
-        begins_array(piece) && is_due(self.mode)
+        begins_array(piece) && !begins_otherwise(piece) && is_due(self.mode)
     }
 
     /// Takes an array of numbers: how many bytes. Where it is not such as is reported at once, the arrays after it are taken

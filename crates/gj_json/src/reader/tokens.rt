@@ -11,7 +11,7 @@ ghost use Rattle.gj_json.specs.Internal.FlatParts.{awaits};
 ghost use Rattle.gj_json.specs.Internal.OpenLevels.{levels_in, outer_of};
 ghost use Rattle.gj_json.specs.Internal.ReaderStep.{opened};
 ghost use Rattle.gj_json.specs.Internal.ToldEvents.{event_at, closing_of};
-ghost use Rattle.gj_json.specs.Internal.WholeTokens.{bracket_of, may_begin, names};
+ghost use Rattle.gj_json.specs.Internal.WholeTokens.{bracket_of, end_of, may_begin, names};
 ghost use Rattle.gj_json.specs.declared.levels.Level.TheVariants.{Array};
 ghost use Rattle.gj_json.specs.declared.mode.Mode.TheVariants.{ValueDone, ValueDue, ColonDue};
 
@@ -65,10 +65,21 @@ fn is_cut(piece: &[u8]) -> bool {
     true
 }
 
-/// Whether another array begins after the bracket that the piece starts with, or after one space more. No array of numbers begins so.
+/// Whether no number stands after the bracket that the piece starts with, or after one space more: mostly another array does.
 #[inline(always)]
-fn begins_nested(piece: &[u8]) -> bool {
-    piece.len() > 2 && (piece[1] == b'[' || piece[1] == b' ' && piece[2] == b'[')
+pub(super) fn begins_otherwise(piece: &[u8]) -> bool {
+    piece.len() > 2 && (piece[1] > b'9' || piece[1] == b' ' && piece[2] > b'9')
+}
+
+/// The bracket that closes a level.
+#[inline(always)]
+fn closing_bracket(level: Level) -> u8
+    ensures { result ≡ end_of level }
+{
+    match level {
+        Level::Array => b']',
+        Level::Object => b'}',
+    }
 }
 
 impl Reader {
@@ -248,10 +259,7 @@ impl Reader {
             what: what_of(which),
         });
         self.skip(count, Mode::ValueDone);
-        if count == piece.len() {
-            return count;
-        }
-        count + self.take_end(&piece[count..], sink)
+        count + self.take_next_end(&piece[count..], sink)
     }
 
     /// Takes the bracket that opens a level: 1, or 0 where it opens one level too many.
@@ -280,6 +288,30 @@ impl Reader {
         });
         self.levels.push(level);
         self.skip(1, opened_mode(level))
+    }
+
+    /// As `take_open`, with the bracket that closes the level where it comes at once, and the byte after that: how many bytes, or 0.
+    #[inline(always)]
+    pub(super) fn take_container<S: EventSink>(
+        &mut self,
+        level: Level,
+        piece: &[u8],
+        sink: &mut S,
+    ) -> usize
+        requires some { 0 < length piece.now }
+        requires begins { get_or piece.now 0 0 ≡ bracket_of level }
+        requires takes { IsOpenFor self.old piece.now }
+        requires due { may_begin self.old.mode ≡ true }
+        ensures within { result ≤ length piece.now }
+        ensures feeds { FeedsAll (S.heard sink.old) (S.heard sink.new) self.old self.new (take result piece.now) }
+        ensures any { FeedsAny self.old self.new (take result piece.now) }
+    {
+        let opened = self.take_open(level, piece, sink);
+        if opened == 0 || piece.len() < 2 || piece[1] != closing_bracket(level) {
+            return opened;
+        }
+        let closed = self.take_close(level, 1, sink);
+        opened + closed + self.take_next_end(&piece[opened + closed..], sink)
     }
 
     /// Takes `count` bytes, of which the last closes the innermost level, which is this.
@@ -428,6 +460,23 @@ impl Reader {
         }
     }
 
+    /// Takes the byte after a value as `take_end`, where the piece begins with it: how many bytes, or 0.
+    #[inline(always)]
+    pub(super) fn take_next_end<S: EventSink>(&mut self, piece: &[u8], sink: &mut S) -> usize
+        requires takes { IsOpenFor self.old piece.now }
+        ensures within { result ≤ length piece.now }
+        ensures feeds { FeedsAll (S.heard sink.old) (S.heard sink.new) self.old self.new (take result piece.now) }
+        ensures any { FeedsAny self.old self.new (take result piece.now) }
+    {
+        if piece.is_empty() {
+            return 0;
+        }
+        match self.mode {
+            Mode::ValueDone => self.take_end(piece, sink),
+            _ => 0,
+        }
+    }
+
     /// Takes an array of numbers, or the bracket that opens an array: how many bytes, or 0.
     #[inline(always)]
     fn take_array<S: EventSink>(&mut self, piece: &[u8], sink: &mut S) -> usize
@@ -438,8 +487,8 @@ impl Reader {
         ensures within { result ≤ length piece.now }
         ensures feeds { FeedsAll (S.heard sink.old) (S.heard sink.new) self.old self.new (take result piece.now) }
     {
-        if begins_nested(piece) {
-            return self.take_open(Level::Array, piece, sink);
+        if begins_otherwise(piece) {
+            return self.take_container(Level::Array, piece, sink);
         }
         let flats = self.take_flats(piece, sink);
         if flats > 0 || !self.may_open() {
@@ -473,14 +522,14 @@ impl Reader {
                 if HEARS {
                     self.take_object(piece, sink)
                 } else {
-                    self.take_open(Level::Object, piece, sink)
+                    self.take_container(Level::Object, piece, sink)
                 }
             }
             b'[' => {
                 if HEARS {
                     self.take_array(piece, sink)
                 } else {
-                    self.take_open(Level::Array, piece, sink)
+                    self.take_container(Level::Array, piece, sink)
                 }
             }
             b'n' => self.take_constant(Constant::Null, piece, sink),
@@ -503,10 +552,7 @@ impl Reader {
         if piece.len() > 1 {
             return self.skip_white(piece);
         }
-        match self.mode {
-            Mode::ValueDone => self.take_end(piece, sink),
-            _ => 0,
-        }
+        self.take_next_end(piece, sink)
     }
 
     /// Takes a token that is whole at the start of the piece, or the white space there: how many bytes, or 0 where there is

@@ -5,6 +5,7 @@ use Rattle.std.proofs.Common.{take, length-drop}
 use Rattle.gj_json.specs.Internal.OpenLevels.{levels_in}
 use Rattle.gj_json.proofs.Pieces.PassedMembers.{name_to, named_goes, named_closes, brace_closes, before_space, to_space, space_any}
 use Rattle.gj_json.proofs.Pieces.PieceRests.{rest_of}
+use Rattle.gj_json.proofs.Pieces.TakenTokens.{closes_value}
 use Rattle.gj_json.proofs.Pieces.TokensInLevels.{any_closes, any_then, comma_ends, white_goes}
 use Rattle.gj_json.proofs.reader.Reader.pass_named.Goals as goal
 
@@ -70,9 +71,10 @@ returns-then-piece-end-eq125-2-clause-feeds c =
     (any_then c.args.self.now mid close.new.self piece (at + 1) 1 (omega (arith, ap (λ ls. length (levels_in ls)) passed.levels))
     (named_goes c.args.self.now mid piece c.args.name c.args.value q.result r.takes.0 r.due r.takes.1 r.quoted r.colon r.between (omega arith)
     (q.ensures.scalar (omega arith)) ValueDone Nothing (white_goes (inner_of (levels_in c.args.self.now.levels)) (get_or piece at 0) white) passed)
-    (any_closes mid close.new.self rest (omega arith) (passed.fault ∙ r.takes.0) passed.mode_is
+    (any_closes mid close.new.self rest Object (omega arith) (passed.fault ∙ r.takes.0)
     (omega (arith, long, passed.offset, ap (λ l. l.bytes) passed.limits))
-    Object (brace_closes (inner_of (levels_in mid.levels)) (get_or rest 0 0) inner first) close.ensures.lands))
+    (closes_value mid.mode (inner_of (levels_in mid.levels)) (get_or rest 0 0) Object passed.mode_is
+    (brace_closes (inner_of (levels_in mid.levels)) (get_or rest 0 0) inner first)) close.ensures.lands))
 
 pub returns-clause-feeds : goal.returns-clause-feeds
 returns-clause-feeds c =

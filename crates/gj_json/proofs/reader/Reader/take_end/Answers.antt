@@ -3,7 +3,7 @@ use Rattle.gj_json.proofs.Common.{Array, Close, Go, Item, Level, NameDue, Object
 use Rattle.gj_json.proofs.Common.{◌∙◌, ◌≡◌}
 use Rattle.gj_json.specs.Internal.ByteClasses.{class_of}
 use Rattle.gj_json.specs.Internal.OpenLevels.{levels_in}
-use Rattle.gj_json.proofs.Pieces.TakenTokens.{end_goes, end_closes}
+use Rattle.gj_json.proofs.Pieces.TakenTokens.{closes_value, end_goes, end_closes}
 use Rattle.gj_json.proofs.Pieces.TokensInLevels.{comma_ends, any_goes, any_closes, then_skipped, any_skipped}
 use Rattle.gj_json.proofs.reader.Reader.take_end.Goals as goal
 
@@ -71,16 +71,20 @@ returns-in-Go-clause-any g c =
 
 pub returns-in-Close-clause-feeds : goal.returns-in-Close-clause-feeds
 returns-in-Close-clause-feeds g c =
-    let made : after_move (inner_of (levels_in c.args.self.now.levels)) (class_of (get_or c.args.piece.now 0 0)) ≡ Close c.in-Close.level =
-    ap (λ i. after_move i (class_of (get_or c.args.piece.now 0 0))) (sym c.inner-2.ensures) ∙ sym c.after_value.ensures.value ∙ c.in-Close.is in
+    let inner = inner_of (levels_in c.args.self.now.levels) in
+    let b = get_or c.args.piece.now 0 0 in
+    let made : after_move inner (class_of b) ≡ Close c.in-Close.level =
+    ap (λ i. after_move i (class_of b)) (sym c.inner-2.ensures) ∙ sym c.after_value.ensures.value ∙ c.in-Close.is in
     rw (c.take_close.ensures.count)
-    (end_closes c.args.self.now c.take_close.new.self c.args.piece.now c.in-Close.level c.requires.some c.requires.takes.0 c.requires.done c.requires.takes.1 made
-    c.take_close.ensures.lands (λ events h. c.take_close.ensures.heard events h))
+    (end_closes c.args.self.now c.take_close.new.self c.args.piece.now c.in-Close.level c.requires.some c.requires.takes.0 c.requires.takes.1
+    (closes_value c.args.self.now.mode inner b c.in-Close.level c.requires.done made) c.take_close.ensures.lands (λ events h. c.take_close.ensures.heard events h))
 
 pub returns-in-Close-clause-any : goal.returns-in-Close-clause-any
 returns-in-Close-clause-any g c =
-    let made : after_move (inner_of (levels_in c.args.self.now.levels)) (class_of (get_or c.args.piece.now 0 0)) ≡ Close c.in-Close.level =
-    ap (λ i. after_move i (class_of (get_or c.args.piece.now 0 0))) (sym c.inner-2.ensures) ∙ sym c.after_value.ensures.value ∙ c.in-Close.is in
+    let inner = inner_of (levels_in c.args.self.now.levels) in
+    let b = get_or c.args.piece.now 0 0 in
+    let made : after_move inner (class_of b) ≡ Close c.in-Close.level =
+    ap (λ i. after_move i (class_of b)) (sym c.inner-2.ensures) ∙ sym c.after_value.ensures.value ∙ c.in-Close.is in
     rw (c.take_close.ensures.count)
-    (any_closes c.args.self.now c.take_close.new.self c.args.piece.now c.requires.some c.requires.takes.0 c.requires.done c.requires.takes.1 c.in-Close.level made
-    c.take_close.ensures.lands)
+    (any_closes c.args.self.now c.take_close.new.self c.args.piece.now c.in-Close.level c.requires.some c.requires.takes.0 c.requires.takes.1
+    (closes_value c.args.self.now.mode inner b c.in-Close.level c.requires.done made) c.take_close.ensures.lands)

@@ -4,7 +4,7 @@ use Rattle.gj_json.specs.declared.class.Class.TheVariants.{CloseObject as close_
 use Rattle.gj_json.specs.Internal.ByteClasses.{class_of}
 use Rattle.gj_json.specs.Internal.OpenLevels.{levels_in}
 use Rattle.gj_json.proofs.Grammar.ClassOfBytes.{class_is}
-use Rattle.gj_json.proofs.Pieces.TakenTokens.{end_closes}
+use Rattle.gj_json.proofs.Pieces.TakenTokens.{closes_value, end_closes}
 use Rattle.gj_json.proofs.Readers.CallsInTurn.{piece_all, rest_all}
 use Rattle.gj_json.proofs.reader.Reader.take_next_feature.Goals as goal
 
@@ -19,6 +19,7 @@ returns-clause-feeds g c =
     let made : after_move (inner_of (levels_in reader.levels)) (class_of (get_or piece 0 0)) ≡ Close Object = rw (inside, closes) refl in
     piece_all reader mid last.new.self piece c.take_close-taken.result last.result
     (rw (c.take_close-taken.ensures.count)
-    (end_closes reader mid piece Object c.requires.some c.requires.takes.0 c.requires.done c.requires.takes.1 made c.take_close-taken.ensures.lands
+    (end_closes reader mid piece Object c.requires.some c.requires.takes.0 c.requires.takes.1
+    (closes_value reader.mode (inner_of (levels_in reader.levels)) (get_or piece 0 0) Object c.requires.done made) c.take_close-taken.ensures.lands
     (λ events h. c.take_close-taken.ensures.heard events h)))
     (rest_all mid last.new.self piece c.take_close-taken.result last.result last.ensures.feeds)
