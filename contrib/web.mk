@@ -32,7 +32,7 @@ $(WEB_BUILD)/geolint_64.wasm: $(WEB_BUILD)/libgeolint_c.a
 	$(KIT)/bin/rattle-link --target wasm64-unknown-unknown --toolchain $(KIT)/toolchain -o $@ $<
 
 # The calls of geolint.h that no script makes. They are left out of the module, of which geolint_check alone is a seventh.
-web_unused := check|levels|offset|features_offset|records_offset|features_begin_again|records_begin_again|hint_around|lines_begin
+web_unused := check|offset|features_offset|records_offset|features_begin_again|records_begin_again|hint_text|lines_begin
 # Not every browser has memories with 64-bit addresses, so they are lowered to 32 bits.
 # LLVM has put into their callers the functions that are worth it. More of it by binaryen makes the page 2 kB larger, and not faster.
 # `-s 1` makes the module half a kilobyte smaller as the page holds it.

@@ -29,10 +29,10 @@ MOST, WAIT = 300_000, 2
 POINT = b'{"type":"Point","coordinates":[1,2]}'
 
 
-def curl(*words, given=b"", accept="application/json"):
+def curl(*words, given=b"", accept="application/json", query=""):
     """The status and the text of the answer."""
     done = subprocess.run(
-        ["curl", "-sS", "--max-time", "60", "-H", f"Accept: {accept}", "-w", "\n%{http_code}", *words, url],
+        ["curl", "-sS", "--max-time", "60", "-H", f"Accept: {accept}", "-w", "\n%{http_code}", *words, url + query],
         input=given, stdout=subprocess.PIPE, check=False,
     )
     text, _, status = done.stdout.decode().rpartition("\n")
@@ -53,16 +53,17 @@ def expected(text):
     found = geolint.features(text)
     broken = [it for it in found if not it]
     verdict = found.verdict
+    told = {"verdict": verdict.name, "strict": False, "hint": geolint.report(text).hint}
     if verdict:
-        return {"verdict": "valid", "warnings": [{"code": f"W{w.kind}", "text": w.text, "count": w.count, "first": w.first} for w in verdict.warnings]}
+        return {**told, "warnings": [{"code": f"W{w.kind}", "text": w.text, "count": w.count, "first": w.first} for w in verdict.warnings]}
 
     def fault(it):
         place = geolint.locate(text, [it.place])[0]
         path = place.path if it.rule else None
         return {"code": it.code, "text": it.text, "offset": it.place, "line": place.line, "column": place.column, "path": path}
 
-    told = [{"feature": it.number, "id": id_of(text, it.id), **fault(it.verdict)} for it in broken]
-    return {"verdict": verdict.name, **fault(verdict), "features": told, "more": 0}
+    features = [{"feature": it.number, "id": id_of(text, it.id), **fault(it.verdict)} for it in broken]
+    return {**told, **fault(verdict), "features": features, "more": 0}
 
 
 def id_of(text, place):
@@ -96,9 +97,16 @@ def pages():
     """What a person gets."""
     html = "text/html,application/xhtml+xml,*/*;q=0.8"
     status, text = curl(accept=html)
-    wants("the form", (status, 'type="file"' in text, "<textarea" in text), (200, True, True))
+    wants("the form", (status, 'type="file"' in text, "<textarea" in text, "This is an example" in text), (200, True, True, True))
     status, text = curl("--data-binary", '{"type":"<b>"}', "-H", "Content-Type: text/plain", accept=html)
     wants("a page", (status, "It is not GeoJSON" in text, "line 1, column 9" in text, "<b>" in text), (422, True, True, False))
+    wants("a hint", "'hint'>the text is inside a string: jq" in curl("--data-binary", '"{}"', accept=html)[1], True)
+    far = ["--data-binary", '{"type":"Point","coordinates":[52.5,113.4]}']
+    status, text = curl(*far, accept=html, query="?strict")
+    wants("a page under ?strict", (status, "not stored, for its warnings" in text, "look swapped" in text, stored()), (422, True, True, []))
+    told = json.loads(curl(*far, query="?strict")[1])
+    wants("under ?strict", (told["verdict"], told["strict"], told["stored"], told["hint"][:22]), ("valid", True, None, "latitude and longitude"))
+    wants("a text without warnings, under ?strict", (curl("--data-binary", POINT.decode(), query="?strict")[0], stored()), (200, [POINT]))
     wants("JSON is preferred", curl("--data-binary", "[7]", accept="text/html;q=0.5, application/json")[1][0], "{")
     wants("a page is preferred", curl("--data-binary", "[7]", accept="text/html, application/json;q=0.5")[1][0], "<")
 
@@ -197,7 +205,7 @@ def turns():
             piece = pieces.pop(0)
             return {"type": "http.request", "body": piece, "more_body": bool(pieces)}
 
-        coming = asyncio.ensure_future(upload({"content-type": kind}, Body({}, receive), folder))
+        coming = asyncio.ensure_future(upload({"content-type": kind}, Body({}, receive), folder, False))
         most, before = 0, time.thread_time()
         while not coming.done():
             await asyncio.sleep(0)

@@ -10,7 +10,7 @@ import { valueOf } from "./names.js";
 import { sourceOf } from "./source.js";
 import { Sequence } from "./split.js";
 
-/** A path is sought for places that are no further than this from the start, since it takes a second reading up to the place. */
+/** What takes a second reading up to a place, as its path, is sought for places that are no further than this from the start. */
 export const PATH_REACH = 64 << 20;
 /** The text of a feature is given where it is no longer than this. */
 export const FEATURE_REACH = 1 << 20;
@@ -56,8 +56,9 @@ export class Geolint {
         onProgress?.({ read: linter.taken, size: source.size, isDoomed });
         if (isQuick && isDoomed) break;
       }
+      const levels = linter.levels();
       const found = linter.finish();
-      return isQuick && found.verdict !== "valid" ? notValid(linter.taken) : located(found, { linter, source });
+      return isQuick && found.verdict !== "valid" ? notValid(linter.taken) : located(found, { linter, source, levelsAt: () => levels });
     });
   }
 
@@ -113,6 +114,7 @@ export class Geolint {
     const isText = Kind === FeatureLinter;
     const lend = () => Promise.all([Kind, Locator, ...(isText && options.onProgress ? [Linter] : [])].map((it) => this.#lend(it)));
     const giveBack = (those) => those.forEach((it) => this.#giveBack(it));
+    const levelsAt = (place) => (isText ? this.#levelsAt(place, source) : 1);
     return new Findings(async function* (found) {
       const [linter, locator, early] = await lend();
       isText ? linter.begin(maxBytes, maxDepth) : linter.begin(framing, maxBytes, maxDepth);
@@ -122,8 +124,21 @@ export class Geolint {
       if (!isText) yield* search.rest();
       const whole = isText ? linter.finish() : search.whole;
       found.counts = search.counts;
-      found.verdict = await located(whole, { linter, source, known: search.known, isText, hasPaths });
+      found.verdict = await located(whole, { linter, source, levelsAt, known: search.known, isText, hasPaths });
       giveBack([linter, locator, early].filter(Boolean));
+    });
+  }
+
+  /** How many arrays and objects are open before a place of a text, which is read again up to there; 1 where it is too far or gone. */
+  #levelsAt(place, source) {
+    return this.#with([Linter], async ([linter]) => {
+      linter.begin();
+      for (let at = 0; at < place; at += STRIDE) {
+        const bytes = place > PATH_REACH ? null : await source.read(at, Math.min(at + STRIDE, place));
+        if (!bytes) return 1;
+        linter.feed(bytes);
+      }
+      return linter.levels();
     });
   }
 
@@ -152,7 +167,7 @@ function notValid(read) {
 
 /** Adds the hint, and line, column, excerpt, path and feature of each place of a verdict; null for what cannot be found. `known` has the
  *  places whose path is known. Without `hasPaths` no path and no feature is sought. */
-async function located(found, { linter, source, known = new Map(), isText = true, hasPaths = true }) {
+async function located(found, { linter, source, levelsAt, known = new Map(), isText = true, hasPaths = true }) {
   const read = (from, to) => source.read(from, to);
   const { lines, taken } = linter;
   lines.pass(taken);
@@ -164,7 +179,7 @@ async function located(found, { linter, source, known = new Map(), isText = true
     const spot = await lines.find(it.offset, read, (mark, bytes) => linter.counted(mark, bytes));
     placed.push({ ...it, ...spot, path, feature, excerpt: await excerptAt(it.offset, read) });
   }
-  const hint = await hintFor(found, read, isText ? (place) => linter.isWholeBefore(place, read) : undefined);
+  const hint = await hintFor(found, linter, levelsAt, read);
   const none = { line: null, column: null, path: null, feature: null, excerpt: null };
   const first = found.verdict === "valid" ? { ...found, ...none, warnings: placed } : placed[0];
   return { record: null, records: null, ...first, hint, read: taken };

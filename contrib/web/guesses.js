@@ -1,6 +1,6 @@
 // What the page says beyond the hints of the native program: what else a file may be, and what else may be wrong at a place.
 
-import { cluesAt, symptomOf } from "./hints.js";
+import { cluesOf } from "./hints.js";
 
 /** The names of hints that say what the file is, and not what is wrong at a place. */
 const OTHER_KINDS = ["gzip", "zip", "shapefile", "sqlite", "flatgeobuf", "parquet", "pdf", "kml", "gml", "html", "xml", "utf16", "sequence"];
@@ -24,18 +24,20 @@ const PLACES = [
   ["unquoted", /[{,:]\s*$/, /^[A-Za-z_]/],
 ];
 
+/** Bytes as characters, each one byte. */
+const latin = (bytes) => Array.from(bytes, (byte) => String.fromCharCode(byte)).join("");
+
 /** What the page says of a verdict: { name, offset, isOtherKind }, or null. */
 export async function guessFor(verdict, read) {
-  const { hint } = verdict;
-  const symptom = symptomOf(verdict);
-  const clues = symptom && (await cluesAt(symptom.offset, read));
+  const { hint, rule } = verdict;
+  const { offset, clues } = await cluesOf(verdict, read);
   if (!clues) return null;
-  const { rule, offset } = symptom;
-  const kind = rule === "J1" && offset <= clues.head.length && (!hint || ["xml", "latin1"].includes(hint.name)) ? BEGINNINGS.find(([, form]) => form.test(clues.head)) : null;
+  const [head, before, after] = clues.map(latin);
+  const kind = rule === "J1" && offset <= head.length && (!hint || ["xml", "latin1"].includes(hint.name)) ? BEGINNINGS.find(([, form]) => form.test(head)) : null;
   if (kind) return { name: kind[0], offset, isOtherKind: true };
   if (hint) return { name: hint.name, offset, isOtherKind: OTHER_KINDS.includes(hint.name) };
-  if (rule === "J2") return clues.head === "" ? { name: "empty", offset, isOtherKind: false } : null;
+  if (rule === "J2") return head === "" ? { name: "empty", offset, isOtherKind: false } : null;
   if (rule !== "J1") return null;
-  const place = PLACES.find(([, ending, beginning]) => ending.test(clues.before) && beginning.test(clues.after));
+  const place = PLACES.find(([, ending, beginning]) => ending.test(before) && beginning.test(after));
   return place ? { name: place[0], offset, isOtherKind: false } : null;
 }

@@ -5,6 +5,7 @@
 // no more after it, so the views of it stay good. Addresses and lengths are BigInt at the boundary, in the 64-bit module and in
 // the one that is lowered to a 32-bit memory.
 
+import { HEAD } from "./hints.js";
 import { Lines, STRIDE } from "./lines.js";
 
 const PAGE = 65536;
@@ -44,19 +45,17 @@ class Handle {
   constructor(calls, size, piece) {
     this.calls = calls;
     this.piece = piece;
-    this.size = Number(size);
     // The module's data and its stack end at __heap_base; what follows is free.
-    this.handle = roundUp(Number(calls.__heap_base.value), Number(calls.geolint_alignment()));
-    this.report = roundUp(this.handle + this.size, 16);
+    const handle = roundUp(Number(calls.__heap_base.value), Number(calls.geolint_alignment()));
+    this.report = roundUp(handle + Number(size), 16);
     this.text = roundUp(this.report + FINDING_HEAD + REPORT_SIZE, 16);
-    this.copy = roundUp(this.text + 32, 64);
-    this.room = roundUp(this.copy + this.size, 64);
+    this.room = roundUp(this.text + 32, 64);
     const lacking = Math.ceil((this.room + piece - calls.memory.buffer.byteLength) / PAGE);
     if (lacking > 0) grow(calls.memory, lacking);
     this.bytes = new Uint8Array(calls.memory.buffer);
     this.view = new DataView(calls.memory.buffer);
     this.words = new Uint32Array(calls.memory.buffer, this.report, (FINDING_HEAD + REPORT_SIZE) / 4);
-    this.address = BigInt(this.handle);
+    this.address = BigInt(handle);
     // A struct comes back through a pointer, which is the first argument.
     this.answer = BigInt(this.report);
     this.spot = BigInt(this.text);
@@ -86,23 +85,33 @@ class Handle {
     return found;
   }
 
+  /** The same of an input that has ended, which is kept for its hint. */
+  whole() {
+    this.last = this.bytes.slice(this.report, this.report + REPORT_SIZE);
+    return this.reportAt(0);
+  }
+
+  /** The hint for the input that ended last, or an empty text: by its first bytes, those before the place and those from it on, at most
+   *  HEAD of each. So many `levels` of arrays and objects are open there. What is in the room is gone after it. */
+  hint(levels, clues) {
+    this.bytes.set(this.last, this.report);
+    const places = clues.map((_, i) => this.room + HEAD * i);
+    clues.forEach((it, i) => this.bytes.set(it, places[i]));
+    return this.#readText(this.calls.geolint_hint_around, [this.answer, levels, ...clues.flatMap((it, i) => [BigInt(places[i]), BigInt(it.length)])]);
+  }
+
   /** What a handle begins with, which is allowed or not. */
   begun(status) {
     if (status === LIMITS) throw new RangeError("maxBytes is from 1 to 2^60, and maxDepth from 1 to 256");
-    /** How many bytes were put, where the piece begins that is in the room, and where the handle was kept. */
+    /** How many bytes were put, and where the piece begins that is in the room. */
     this.taken = 0;
     this.start = 0;
-    this.kept = 0;
     this.lines = new Lines((spot, from, to) => this.#counted(spot, this.room + from - this.start, to - from));
   }
 
-  /** Puts the next piece into the room. The handle is kept from time to time, as it is before the piece. */
+  /** Puts the next piece into the room. */
   put(piece) {
     this.lines.pass(this.taken);
-    if (this.taken - this.kept >= STRIDE) {
-      this.bytes.copyWithin(this.copy, this.handle, this.handle + this.size);
-      this.kept = this.taken;
-    }
     this.bytes.set(piece, this.room);
     this.start = this.taken;
     this.taken += piece.length;
@@ -130,17 +139,6 @@ class Handle {
       found = this.#counted(found, this.room, part.length);
     }
     return found;
-  }
-
-  /** Whether the bytes before a place are a whole text. It is asked once the linter has ended; `read(from, to)` gives the bytes there. */
-  async isWholeBefore(place, read) {
-    const { kept } = this;
-    const bytes = place < kept ? null : await read(kept, place);
-    if (!bytes) return false;
-    this.begin(...this.limits);
-    if (kept > 0) this.bytes.copyWithin(this.handle, this.copy, this.copy + this.size);
-    this.feed(bytes, () => {});
-    return this.finish().verdict !== "not JSON";
   }
 
   ruleText(rule) {
@@ -188,7 +186,6 @@ export class Linter extends Handle {
 
   /** Begins anew. `maxBytes` and `maxDepth` are the limits; 0 stands for the most of either. */
   begin(maxBytes = 0, maxDepth = 0) {
-    this.limits = [maxBytes, maxDepth];
     const begin = this.isBegun ? this.calls.geolint_begin_again : this.calls.geolint_begin;
     this.begun(begin(this.address, maxDepth, BigInt(maxBytes)));
     this.isBegun = true;
@@ -210,10 +207,15 @@ export class Linter extends Handle {
     return this.calls.geolint_doomed(this.address) === 1;
   }
 
+  /** How many arrays and objects are open after the bytes taken. */
+  levels() {
+    return this.calls.geolint_levels(this.address);
+  }
+
   /** The verdict of all bytes since `begin`, and the end of the linter. */
   finish() {
     this.calls.geolint_finish(this.answer, this.address);
-    return this.reportAt(0);
+    return this.whole();
   }
 }
 
@@ -294,14 +296,13 @@ export class FeatureLinter extends Puller {
   }
 
   begin(maxBytes = 0, maxDepth = 0) {
-    this.limits = [maxBytes, maxDepth];
     this.begun(this.calls.geolint_features_begin(this.address, maxDepth, BigInt(maxBytes)));
   }
 
   /** The verdict, and the end. */
   finish() {
     this.calls.geolint_features_finish(this.answer, this.address);
-    return this.reportAt(0);
+    return this.whole();
   }
 }
 
@@ -323,7 +324,7 @@ export class RecordLinter extends Puller {
    *  after the last record, where there is one. */
   finish(each) {
     this.calls.geolint_records_finish(this.answer, this.address);
-    const found = this.reportAt(0);
+    const found = this.whole();
     const number = this.longAt(REPORT_SIZE);
     this.pull(each);
     const isValid = found.verdict === "valid";

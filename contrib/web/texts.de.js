@@ -93,7 +93,7 @@ export const GERMAN = {
   minutes: "{minutes} min {seconds} s",
   aboutTitle: "Was hinter dem Urteil steht",
   about:
-    "Der Prüfer ist ein WebAssembly-Modul aus Quelltext, dessen Verträge bewiesen sind: dass das Urteil das ist, welches die Definitionen der Standards für den ganzen Text geben, wie immer er in Stücken gelesen wird, und dass Zeile und Spalte die nach den gezählten Bytes sind. Nicht bewiesen sind der Übersetzer, der Binder und die Werkzeuge, die das Modul gebaut haben, das JavaScript dieser Seite, das ihm die Bytes reicht, die Pfade der Stellen außerhalb von Features findet, Hinweise gibt, Features speichert und zeichnet, was Sie sehen, und Ihr Browser. Sie werden gegen das eigenständige Programm getestet.",
+    "Der Prüfer ist ein WebAssembly-Modul aus Quelltext, dessen Verträge bewiesen sind: dass das Urteil das ist, welches die Definitionen der Standards für den ganzen Text geben, wie immer er in Stücken gelesen wird, und dass Zeile und Spalte die nach den gezählten Bytes sind. Nicht bewiesen sind der Übersetzer, der Binder und die Werkzeuge, die das Modul gebaut haben, das JavaScript dieser Seite, das ihm die Bytes reicht, die Pfade der Stellen außerhalb von Features findet, eigene Hinweise ergänzt, Features speichert und zeichnet, was Sie sehen, und Ihr Browser. Sie werden gegen das eigenständige Programm getestet.",
   privacyTitle: "Wohin Ihre Dateien gehen",
   privacy: "Nirgendwohin. Die Seite ist eine einzige Datei, lädt nichts nach und verbietet sich selbst jede Verbindung. Sie können sie speichern und ohne Netz benutzen.",
   rulesTitle: "Alle Regeln und Warnungen",

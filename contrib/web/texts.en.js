@@ -94,7 +94,7 @@ export const ENGLISH = {
   minutes: "{minutes} min {seconds} s",
   aboutTitle: "How the verdict is reached",
   about:
-    "The checker is a WebAssembly module built from source whose contracts are proved: that the verdict is the one that the standards' definitions give for the whole text, however it is read in pieces, and that a line and a column are those after the bytes counted. Not proved are the compiler, the linker and the tools that made the module, the JavaScript of this page, which passes it the bytes, finds the paths of places outside of features, gives hints, saves features and draws what you see, and your browser. These are tested against the native program.",
+    "The checker is a WebAssembly module built from source whose contracts are proved: that the verdict is the one that the standards' definitions give for the whole text, however it is read in pieces, and that a line and a column are those after the bytes counted. Not proved are the compiler, the linker and the tools that made the module, the JavaScript of this page, which passes it the bytes, finds the paths of places outside of features, adds hints of its own, saves features and draws what you see, and your browser. These are tested against the native program.",
   privacyTitle: "Where your files go",
   privacy: "Nowhere. The page is one file, loads nothing and has a policy that forbids any connection. You can save it and use it without a network.",
   rulesTitle: "All rules and warnings",

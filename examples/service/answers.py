@@ -13,11 +13,13 @@ _HEAD = """<!DOCTYPE html>
 table {{ border-collapse: collapse }} td, th {{ border: 1px solid #999; padding: .2em .6em; text-align: left }}
 code {{ font-size: .95em }} textarea {{ width: 100% }}</style></head><body>
 """
-_FORM = """<h1>Is it GeoJSON?</h1>
+_BUTTONS = """<button>Check and store it</button> <button formaction="?strict">Check and store it, if it has no warnings</button>"""
+_FORM = f"""<h1>Is it GeoJSON?</h1>
+<p>This is an example of a service, which comes with geolint.</p>
 <form method="post" enctype="multipart/form-data">
-<p><label>A GeoJSON file: <input type="file" name="file" required></label> <button>Check and store it</button></p></form>
+<p><label>A GeoJSON file: <input type="file" name="file" required></label> {_BUTTONS}</p></form>
 <form method="post"><p><label>Or its text:<br><textarea name="text" rows="12" required></textarea></label><br>
-<button>Check and store it</button></p></form></body></html>
+{_BUTTONS}</p></form></body></html>
 """
 
 
@@ -44,7 +46,7 @@ def _fault(verdict: Any, outcome: "Outcome") -> Dict[str, Any]:
 
 def _told(outcome: "Outcome") -> Dict[str, Any]:
     verdict = outcome.verdict
-    told: Dict[str, Any] = {"verdict": verdict.name, "stored": outcome.stored}
+    told: Dict[str, Any] = {"verdict": verdict.name, "strict": outcome.is_strict, "stored": outcome.stored, "hint": outcome.hint}
     if verdict:
         told["warnings"] = [{"code": f"W{w.kind}", "text": w.text, "count": w.count, "first": w.first} for w in verdict.warnings]
         return told
@@ -81,10 +83,12 @@ def as_html(outcome: "Outcome") -> str:
     title = "It is GeoJSON" if outcome.verdict else "It is not GeoJSON"
     page = [_HEAD.format(title=title), f"<h1>{title}</h1>\n"]
     if outcome.verdict:
-        page.append(f"<p>It is stored as <code>{escape(told['stored'])}</code>.</p>\n")
+        page.append(f"<p>It is stored as <code>{escape(told['stored'])}</code>.</p>\n" if outcome else "<p>It is not stored, for its warnings.</p>\n")
         page += [f"<p>Warning: {escape(w['text'])} ({w['code']}, {w['count']} times)</p>\n" for w in told["warnings"]]
     else:
         page.append(f"<p id='fault'>{escape(told['verdict'])}: {escape(told['text'])} ({told['code']}), at {_where(told)}.</p>\n")
+    if told["hint"]:
+        page.append(f"<p id='hint'>{escape(told['hint'])}</p>\n")
     if told.get("features"):
         page.append("<table>" + _row(["feature", "id", "rule", "what is wrong", "line", "column", "path"], "th"))
         for it in told["features"]:

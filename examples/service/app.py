@@ -54,14 +54,21 @@ class Refused(Exception):
 
 @dataclass
 class Outcome:
-    """What an upload is: the verdict, the broken features that are listed, how many there are, and where it is stored if it is valid."""
+    """What an upload is: the verdict, whether warnings refuse it, the broken features that are listed, how many there are, a hint, and where
+    it is stored if it passes."""
 
     verdict: geolint.Verdict
+    is_strict: bool
     broken: List[geolint.Finding] = field(default_factory=list)
     broken_count: int = 0
     places: Dict[int, geolint.Place] = field(default_factory=dict)
     ids: Dict[int, Any] = field(default_factory=dict)
+    hint: Optional[str] = None
     stored: Optional[str] = None
+
+    def __bool__(self) -> bool:
+        """Whether it passes."""
+        return bool(self.verdict) and not (self.is_strict and self.verdict.warnings)
 
 
 class Body:
@@ -115,8 +122,8 @@ async def written(pieces: AsyncIterator[bytes], file: Any) -> AsyncIterator[byte
         yield piece
 
 
-async def check_and_store(pieces: AsyncIterator[bytes], folder: str) -> Outcome:
-    """What the pieces are. They are stored while they are checked, and stay where they are valid."""
+async def check_and_store(pieces: AsyncIterator[bytes], folder: str, is_strict: bool) -> Outcome:
+    """What the pieces are. They are stored while they are checked, and stay where they pass."""
     store = tempfile.NamedTemporaryFile(dir=folder, suffix=".part", delete=False)
     outcome: Optional[Outcome] = None
     try:
@@ -129,14 +136,14 @@ async def check_and_store(pieces: AsyncIterator[bytes], folder: str) -> Outcome:
                 if not finding and len(broken) < MOST_TOLD:
                     broken.append(finding)
             assert found.verdict is not None
-            outcome = Outcome(found.verdict, broken, count)
-        if outcome.verdict:
+            outcome = Outcome(found.verdict, is_strict, broken, count)
+        if not outcome.verdict or outcome.verdict.warnings:
+            # A long text is read again for a while: on another thread, so that the others go on.
+            await asyncio.get_running_loop().run_in_executor(READERS, read_again, outcome, store.name)
+        if outcome:
             name = os.path.basename(store.name)[: -len(".part")] + ".geojson"
             os.replace(store.name, os.path.join(folder, name))
             outcome.stored = name
-        else:
-            # A long text is read again for a while: on another thread, so that the others go on.
-            await asyncio.get_running_loop().run_in_executor(READERS, find_places, outcome, store.name)
         return outcome
     finally:
         # A disk may have no room for the last bytes of a valid text: then it is not stored.
@@ -144,10 +151,12 @@ async def check_and_store(pieces: AsyncIterator[bytes], folder: str) -> Outcome:
             os.unlink(store.name)
 
 
-def find_places(outcome: Outcome, path: str) -> None:
-    """The lines, the columns and the paths of what is broken, and the `id`s of the features."""
+def read_again(outcome: Outcome, path: str) -> None:
+    """The hint, the lines, the columns and the paths of what is broken, and the `id`s of the features."""
     verdicts = [outcome.verdict, *(finding.verdict for finding in outcome.broken)]
     with open(path, "rb") as file:
+        outcome.hint = geolint.report(file).hint
+        file.seek(0)
         places = geolint.locate(file, [verdict.place for verdict in verdicts if verdict.place is not None])
         outcome.places = {place.offset: place for place in places}
         for finding in outcome.broken:
@@ -162,10 +171,10 @@ def written_value(start: bytes) -> str:
     return found.group().decode("utf-8", "replace")[:40] if found else ""
 
 
-async def upload(headers: Dict[str, str], body: Body, folder: str) -> Outcome:
+async def upload(headers: Dict[str, str], body: Body, folder: str, is_strict: bool) -> Outcome:
     """The file of a form, the field `text` of a form, or the body itself."""
     try:
-        return await check_and_store(file_of(headers.get("content-type", ""), body.__aiter__()), folder)
+        return await check_and_store(file_of(headers.get("content-type", ""), body.__aiter__()), folder, is_strict)
     except FormError as error:
         raise Refused(400, str(error)) from None
 
@@ -187,8 +196,8 @@ class Service:
                 status, content, is_html = 200, form_page(), True
             elif scope["method"] == "POST":
                 body = Body(headers, receive)
-                outcome = await self.take(headers, body)
-                status = 200 if outcome.verdict else 422
+                outcome = await self.take(headers, body, b"strict" in scope["query_string"].split(b"&"))
+                status = 200 if outcome else 422
                 content = as_html(outcome) if is_html else as_json(outcome)
             else:
                 raise Refused(405, "a text is sent by POST", Allow="GET, HEAD, POST")
@@ -204,12 +213,12 @@ class Service:
         kind = "text/html" if is_html and status in (200, 422) else "text/plain" if is_html else "application/json"
         await answer(send, status, kind, content.encode(), scope["method"] == "HEAD", body, more)
 
-    async def take(self, headers: Dict[str, str], body: Body) -> Outcome:
+    async def take(self, headers: Dict[str, str], body: Body, is_strict: bool) -> Outcome:
         if self.at_once >= MOST_AT_ONCE:
             raise Refused(503, "too many uploads at once", **{"Retry-After": "5"})
         self.at_once += 1
         try:
-            return await upload(headers, body, self.folder)
+            return await upload(headers, body, self.folder, is_strict)
         finally:
             self.at_once -= 1
 
