@@ -1,10 +1,10 @@
 -- The notes on the records of one part more.
 use Rattle.part_lines.proofs.Common.{arith, ◌≡◌, ◌+◌, ◌<◌, ◌≤◌, ℕ, refl, ap, sym, subst, ◌∙◌, Bool, true, false, List, [], ◌∷◌, ◌++◌, length, map, take}
-use Rattle.part_lines.proofs.Common.{Some, get_or, flat_map, Syntax, Kind, Warnings, kinds, Framing, Note, CheckedPart}
-use Rattle.std.proofs.Common.{◌-◌, ◌^◌, suc, zero, inl, inr, drop, None, append_assoc, length-append, vec_len}
+use Rattle.part_lines.proofs.Common.{Some, flat_map, Syntax, Kind, Warnings, kinds, Framing, Note, CheckedPart}
+use Rattle.std.proofs.Common.{◌-◌, ◌^◌, suc, zero, inl, inr, drop, None, length-append, vec_len}
 use Rattle.std.specs.Prelude.{◌⊎◌, Option, cond, count_by, sum_by}
 use Rattle.std.specs.Io.Iter.{u64_saturate}
-use Rattle.std.proofs.lemmas.List.{length-map, length-take, map-append, take-map, take-take, take_all, take_more}
+use Rattle.std.proofs.lemmas.List.{length-map, length-take, take-map, take-take, take_all}
 use Rattle.std.proofs.lemmas.List.Sums.{sum_by-cons, sum_by-append, sum_by_push}
 use Rattle.gj_json.specs.Limits.{Allowed}
 use Rattle.gj_rules.specs.RecordFindings.{AreAllFindings}
@@ -22,7 +22,6 @@ use Rattle.geolint_report.specs.declared.every.listing.Asked.{Asked}
 use Rattle.geolint_report.specs.declared.every.listing.Item.{Item}
 use Rattle.geolint_report.specs.declared.every.tally.Tally.{Tally}
 use Rattle.geolint_report.specs.declared.report.Told.{Told}
-use Rattle.geolint_report.proofs.ElementsInTurn.{take-full}
 use Rattle.sequence_parts.proofs.NotesOfWholes.{goes-on}
 use Rattle.sequence_parts.specs.Checked.{IsPartOf, AreNotesOfPart}
 use Rattle.sequence_parts.specs.Cuts.{bytes_between}
@@ -42,21 +41,6 @@ take-both (suc n) many (x ∷ xs) ys le = ap (λ l. x ∷ l) (take-both n many x
 take-alike : {A : Type 0} (room : ℕ) (xs ys : List A) → (0 < room → xs ≡ ys) → take room xs ≡ take room ys
 take-alike zero xs ys same = refl
 take-alike (suc n) xs ys same = ap (take (suc n)) (same (omega arith))
-
--- there is room for one more
-pub take-longer : {A : Type 0} (room : ℕ) (all : List A) (x : A) → length (take room all) < room → take room (all ++ x ∷ []) ≡ take room all ++ x ∷ []
-take-longer {A = A} room all x some =
-    let few : length all < room = omega (arith, some, length-take room all) in
-    let longer : length (all ++ x ∷ []) ≡ length all + 1 = length-append all (x ∷ []) in
-    take_all room (all ++ x ∷ []) (omega (arith, few, longer)) ∙ ap (λ (ys : List A). ys ++ x ∷ []) (sym (take_all room all (omega (arith, few))))
-
--- one more of those that were moved
-all-longer : (old more : List Note) (i : ℕ) (m : Note → Note) (d : Note) → i < length more
-    → old ++ map m (take (i + 1) more) ≡ (old ++ map m (take i more)) ++ m (get_or more i d) ∷ []
-all-longer old more i m d within =
-    ap (λ (l : List Note). old ++ map m l) (take_more more i d within)
-    ∙ (ap (λ (l : List Note). old ++ l) (map-append m (take i more) (get_or more i d ∷ []))
-    ∙ sym (append_assoc old (map m (take i more)) (m (get_or more i d) ∷ [])))
 
 -- ---- what is counted
 
@@ -282,30 +266,3 @@ all-notes framing limits asked text all ends are = (
   subst (λ (l : List ℕ). AreAllFindings framing limits l are.found) (take_all all.end text (omega (arith, ends))) are.are_found,
   are.are_notes,
 )
-
--- ---- one note more, as far as there is room
-
-pub one-longer : (room i : ℕ) (old now new more : List Note) (m : Note → Note) (d : Note) → i < length more → now ≡ take room (old ++ map m (take i more))
-    → length now < room
-    → new ≡ now ++ m (get_or more i d) ∷ []
-    → new ≡ take room (old ++ map m (take (i + 1) more))
-one-longer room i old now new more m d within before some pushed =
-    let done = old ++ map m (take i more) in
-    let note = m (get_or more i d) in
-    let few : length (take room done) < room = subst (λ (l : List Note). length l < room) before some in
-    pushed
-    ∙ (ap (λ (l : List Note). l ++ note ∷ []) before
-    ∙ (sym (take-longer room done note few) ∙ ap (λ (l : List Note). take room l) (sym (all-longer old more i m d within))))
-
-some-note : (more : List Note) (i : ℕ) → i < length more → Note
-some-note [] i within = absurd (omega (arith, within))
-some-note (note ∷ more) i within = note
-
-pub none-longer : (room i : ℕ) (old now more : List Note) (m : Note → Note) → i < length more → now ≡ take room (old ++ map m (take i more))
-    → room ≤ length now
-    → now ≡ take room (old ++ map m (take (i + 1) more))
-none-longer room i old now more m within before none =
-    let done = old ++ map m (take i more) in
-    let d = some-note more i within in
-    let many : room ≤ length (take room done) = subst (λ (l : List Note). room ≤ length l) before none in
-    before ∙ (sym (take-full room done (m (get_or more i d)) many) ∙ ap (λ (l : List Note). take room l) (sym (all-longer old more i m d within)))

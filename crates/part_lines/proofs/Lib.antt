@@ -1,7 +1,6 @@
 mod Common
 mod LinesOfParts
 mod DoubledWarnings
-mod SameSettings
 mod JoinedNotes
 mod WrittenItems
 mod NamesRead

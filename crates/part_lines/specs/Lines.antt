@@ -1,17 +1,19 @@
 -- Lines that say what was found of the parts of a file.
-use Rattle.std.specs.Prelude.{◌≡◌, ℕ, List, length, codes, Bool, true, false, Option, Some, IfSome}
-use Rattle.std.specs.List.{All, Contains}
+use Rattle.std.specs.Prelude.{◌≡◌, ℕ, ◌<◌, ◌≤◌, List, length, get_or, map, codes, Bool, true, false, Some}
+use Rattle.std.specs.List.{All}
 use Rattle.std.specs.String.{string_bytes}
 use Rattle.gj_json.specs.Limits.{Allowed}
 use Rattle.gj_rules.specs.declared.records.framing.Framing.{Framing}
 use Rattle.gj_rules.specs.declared.records.framing.Framing.TheVariants.{Sequence, Lines}
 use Rattle.sequence_parts.specs.Checked.{IsPartOf, AreNotesOfPart}
-use Rattle.sequence_parts.specs.declared.checked.CheckedPart.{CheckedPart}
+use Rattle.sequence_parts.specs.Ranges.{ArePart}
+use Rattle.part_lines.specs.declared.joining.Refusal.{Refusal}
+use Rattle.part_lines.specs.declared.joining.Refusal.TheVariants.{Memory, TooMany}
 use Rattle.part_lines.specs.declared.line.Listed.{Listed}
 use Rattle.part_lines.specs.declared.line.PartLine.{PartLine}
 
-abbrev pub checked_in : PartLine → CheckedPart
-checked_in line = line.checked
+abbrev pub part_number : PartLine → ℕ
+part_number line = line.share.number
 
 -- the line of a true part of the text, of the length that the line says
 pub record IsLineOf (framing : Framing) (limits : Allowed) (text : List ℕ) (line : PartLine) : Type 0 where
@@ -29,11 +31,34 @@ pub record IsLike (first line : PartLine) : Type 0 where
   pub path : string_bytes line.file.path ≡ string_bytes first.file.path
   pub size : line.file.size ≡ first.file.size
   pub modified : string_bytes line.file.modified ≡ string_bytes first.file.modified
-  pub bytes : line.settings.limits.bytes ≡ first.settings.limits.bytes
-  pub strict : line.settings.strict ≡ first.settings.strict
-  pub allowed : line.settings.allowed ≡ first.settings.allowed
-  pub framing : line.settings.framing ≡ first.settings.framing
+  pub settings : line.settings ≡ first.settings
   pub parts : line.share.parts ≡ first.share.parts
+
+-- ---- the lines of all parts
+
+-- each number from 1 to how many there are is there once
+pub record AreAllNumbers (numbers : List ℕ) : Type 0 where
+  pub there : (number : ℕ) → 0 < number → number ≤ length numbers → (i : ℕ) × (i < length numbers) × (get_or numbers i 0 ≡ number)
+  pub once : (i j : ℕ) → i < j → j < length numbers → get_or numbers i 0 ≡ get_or numbers j 0 → ⊥
+
+-- of so many parts of the text, with the bytes of the part of its number
+pub record HasBytesOf (framing : Framing) (limits : Allowed) (text : List ℕ) (parts : ℕ) (line : PartLine) : Type 0 where
+  pub size : length text ≡ line.file.size
+  pub parts_are : line.share.parts ≡ parts
+  pub bytes : ArePart framing limits text line.share.number parts line.checked.begin line.checked.end
+
+-- one of each part, in any order, all made in the same way
+pub record AreAllLines (framing : Framing) (limits : Allowed) (text : List ℕ) (lines : List PartLine) : Type 0 where
+  pub some : 0 < length lines
+  pub alike : (none : PartLine) → All (IsLike (get_or lines 0 none)) lines
+  pub numbers : AreAllNumbers (map part_number lines)
+  pub each : All (HasBytesOf framing limits text (length lines)) lines
+
+-- a number is too great, or there is no memory
+abbrev pub IsLack : Refusal → Type 0
+IsLack TooMany = Unit {0}
+IsLack Memory = Unit {0}
+IsLack _ = ⊥
 
 -- ---- words of a line
 
@@ -46,11 +71,3 @@ framing_word Lines = codes "ndjson"
 abbrev pub every_word : Bool → List ℕ
 every_word false = codes "faults"
 every_word true = codes "warnings"
-
--- ---- what is known of parts that are put in order
-
-abbrev pub AreAmong : List CheckedPart → List CheckedPart → Type 0
-AreAmong known parts = All (Contains known) parts
-
-abbrev pub ArePlacedFrom : List CheckedPart → List (Option CheckedPart) → Type 0
-ArePlacedFrom known places = All (λ place. IfSome place (Contains known)) places

@@ -1,13 +1,14 @@
 //! The verdict of a file from the lines of all its parts.
 
-ghost use Rattle.std.specs.Prelude.{ℕ, List, IfOk, OnOk, get_or, map};
-ghost use Rattle.std.specs.List.{All, Contains};
+ghost use Rattle.std.specs.Prelude.{◌≡◌, ◌≢◌, ◌+◌, ◌*◌, ◌^◌, ◌<◌, ℕ, List, Err, IfErr, IfOk, IsOk, OnOk, get_or, length, map};
+ghost use Rattle.std.specs.List.{All};
 ghost use Rattle.gj_json.specs.Limits.{Allowed};
 ghost use Rattle.gj_join.specs.Joined.{IsVerdictOf};
 ghost use Rattle.gj_rules.specs.declared.records.framing.Framing.{Framing};
-ghost use Rattle.sequence_parts.specs.declared.checked.CheckedPart.{CheckedPart};
+ghost use Rattle.sequence_parts.specs.Checked.{HasAtMost};
 ghost use Rattle.part_lines.specs.declared.line.PartLine.{PartLine};
-ghost use Rattle.part_lines.specs.Lines.{checked_in, IsLineOf, IsLike, AreAmong, ArePlacedFrom};
+ghost use Rattle.part_lines.specs.Internal.Places.{ArePartsTo, ArePlaced};
+ghost use Rattle.part_lines.specs.Lines.{AreAllLines, AreAllNumbers, IsLack, IsLike, IsLineOf, part_number};
 
 use crate::line::PartLine;
 use gj_rules::SeqVerdict;
@@ -43,6 +44,11 @@ pub enum Refusal {
 }
 
 impl From<AllocError> for Refusal {
+    ghost use Rattle.std.specs.Prelude.{◌≡◌};
+    ghost use Rattle.part_lines.specs.declared.joining.Refusal.TheVariants.{Memory};
+
+    ghost from_gives = { λ _ error. error ≡ Memory };
+
     fn from(_error: AllocError) -> Refusal {
         Refusal::Memory
     }
@@ -53,12 +59,15 @@ pub fn join_lines(alloc: Global, lines: &[PartLine]) -> Result<SeqVerdict, Refus
     ensures whole { IfOk result (λ whole. (framing : Framing) (limits : Allowed) (text : List ℕ) → All (IsLineOf framing limits text) lines.now
         → IsVerdictOf framing limits text whole) }
     ensures alike { IfOk result (λ whole. (none : PartLine) → All (IsLike (get_or lines.now 0 none)) lines.now) }
+    ensures complete { (framing : Framing) (limits : Allowed) (text : List ℕ) → AreAllLines framing limits text lines.now → IfErr result IsLack }
+    ensures few { (most : ℕ) → length lines.now * most < 2 ^ 64 → All (λ line. HasAtMost most line.checked) lines.now → result ≡ Err Refusal.TooMany → ⊥ }
 {
     let Some(first) = lines.first() else {
         return Err(Refusal::None);
     };
     check_lines(first, lines)?;
-    let parts = in_order(alloc, lines)?;
+    let order = order_of(alloc, lines)?;
+    let parts = parts_in(alloc, lines, order.as_slice())?;
     let missing = parts.len() as u64 + 1;
     if missing <= first.share.parts {
         return Err(Refusal::Missing(missing));
@@ -72,7 +81,9 @@ pub fn join_lines(alloc: Global, lines: &[PartLine]) -> Result<SeqVerdict, Refus
 
 /// Whether the lines are of the same file as the first one, and were made in the same way.
 fn check_lines(first: &PartLine, lines: &[PartLine]) -> Result<(), Refusal>
-    ensures { OnOk result (All (IsLike first.now) lines.now) }
+    ensures alike { OnOk result (All (IsLike first.now) lines.now) }
+    ensures complete { All (IsLike first.now) lines.now → IsOk result }
+    ensures few { result ≢ Err Refusal.TooMany }
 {
     for index in 0..lines.len() {
         check_line(first, &lines[index], index)?;
@@ -82,21 +93,15 @@ fn check_lines(first: &PartLine, lines: &[PartLine]) -> Result<(), Refusal>
 
 /// Whether a line is.
 fn check_line(first: &PartLine, line: &PartLine, index: usize) -> Result<(), Refusal>
-    ensures { OnOk result (IsLike first.now line.now) }
+    ensures alike { OnOk result (IsLike first.now line.now) }
+    ensures complete { IsLike first.now line.now → IsOk result }
+    ensures few { result ≢ Err Refusal.TooMany }
 {
     if line.file.path != first.file.path {
         Err(Refusal::OtherFile(index))
-    } else if line.file.size != first.file.size {
+    } else if line.file != first.file {
         Err(Refusal::Changed(index))
-    } else if line.file.modified != first.file.modified {
-        Err(Refusal::Changed(index))
-    } else if line.settings.limits.bytes() != first.settings.limits.bytes() {
-        Err(Refusal::OtherOptions(index))
-    } else if line.settings.strict != first.settings.strict {
-        Err(Refusal::OtherOptions(index))
-    } else if line.settings.allowed != first.settings.allowed {
-        Err(Refusal::OtherOptions(index))
-    } else if line.settings.framing != first.settings.framing {
+    } else if line.settings != first.settings {
         Err(Refusal::OtherOptions(index))
     } else if line.share.parts != first.share.parts {
         Err(Refusal::OtherCount(index))
@@ -105,50 +110,56 @@ fn check_line(first: &PartLine, line: &PartLine, index: usize) -> Result<(), Ref
     }
 }
 
-/// The parts of these lines by their numbers, from 1 on.
-fn in_order(alloc: Global, lines: &[PartLine]) -> Result<Vec<CheckedPart>, Refusal>
-    ensures { IfOk result (λ parts. AreAmong (map checked_in lines.now) parts.items) }
+/// The index of the line of each part, in the order of the parts. It is the number of lines where there is none.
+pub fn order_of(alloc: Global, lines: &[PartLine]) -> Result<Vec<usize>, Refusal>
+    ensures placed { IfOk result (λ order. ArePlaced (map part_number lines.now) (length lines.now) order.items) }
+    ensures complete { AreAllNumbers (map part_number lines.now) → IfErr result IsLack }
+    ensures few { result ≢ Err Refusal.TooMany }
 {
-    let mut places: Vec<Option<CheckedPart>> = Vec::new(alloc);
-    places.resize(lines.len(), None)?;
-    for line in lines {
-        place_part(places.as_mut_slice(), line.share.number, line.checked)?;
+    let mut order = Vec::new(alloc);
+    order.resize(lines.len(), lines.len())?;
+    for index in 0..lines.len() {
+        place_line(&mut order, lines[index].share.number, index)?;
     }
-    parts_in(alloc, places.as_slice())
+    Ok(order)
 }
 
-/// Puts a part at its number, where there is room for it.
-fn place_part(
-    places: &mut [Option<CheckedPart>],
-    number: u64,
-    part: CheckedPart,
-) -> Result<(), Refusal>
-    ensures { OnOk result ((known : List CheckedPart) → ArePlacedFrom known places.old → Contains known part → ArePlacedFrom known places.new) }
+/// Puts the index of a line at the number of its part, where there is room for it.
+fn place_line(order: &mut Vec<usize>, number: u64, index: usize) -> Result<(), Refusal>
+    requires some { 0 < number }
+    ensures placed { OnOk result ((numbers : List ℕ) → index < length numbers → get_or numbers index 0 ≡ number
+        → ArePlaced numbers index order.old.items → ArePlaced numbers (index + 1) order.new.items) }
+    ensures complete { (numbers : List ℕ) → index < length numbers → get_or numbers index 0 ≡ number
+        → ArePlaced numbers index order.old.items → AreAllNumbers numbers → IsOk result }
+    ensures few { result ≢ Err Refusal.TooMany }
 {
-    let index = number.saturating_sub(1);
-    if index >= places.len() as u64 {
+    let count = order.len();
+    if number > count as u64 {
         return Ok(());
     }
-    let index = index as usize;
-    if places[index].is_some() {
+    let before = (number - 1) as usize;
+    if order[before] < count {
         return Err(Refusal::Twice(number));
     }
-    places[index] = Some(part);
+    order[before] = index;
     Ok(())
 }
 
-/// The parts where each place has one.
-fn parts_in(alloc: Global, places: &[Option<CheckedPart>]) -> Result<Vec<CheckedPart>, Refusal>
-    ensures { IfOk result (λ parts. (known : List CheckedPart) → ArePlacedFrom known places.now → AreAmong known parts.items) }
+/// The parts of lines in this order, where there are all.
+fn parts_in(alloc: Global, lines: &[PartLine], order: &[usize]) -> Result<Vec<CheckedPart>, Refusal>
+    requires placed { ArePlaced (map part_number lines.now) (length lines.now) order.now }
+    ensures parts { IfOk result (λ parts. ArePartsTo lines.now (length lines.now) parts.items) }
+    ensures complete { AreAllNumbers (map part_number lines.now) → IfErr result IsLack }
+    ensures few { result ≢ Err Refusal.TooMany }
 {
     let mut parts = Vec::new(alloc);
-    for place in places {
-        match place {
-            Some(part) => match parts.push(*part) {
-                Ok(()) => {}
-                Err(failed) => return Err(AllocError::from(failed).into()),
-            },
-            None => return Err(Refusal::Missing(parts.len() as u64 + 1)),
+    for index in order {
+        let Some(line) = lines.get(*index) else {
+            return Err(Refusal::Missing(parts.len() as u64 + 1));
+        };
+        match parts.push(line.checked) {
+            Ok(()) => {}
+            Err(failed) => return Err(AllocError::from(failed).into()),
         }
     }
     Ok(parts)

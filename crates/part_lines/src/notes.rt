@@ -9,7 +9,7 @@ ghost use Rattle.sequence_parts.specs.JoinedNotes.{moved_item, moved_note};
 ghost use Rattle.part_lines.specs.Lines.{IsListedLineOf};
 ghost use Rattle.part_lines.specs.Internal.NotesSoFar.{ListsWhatIsAsked, numbered_among, records_noted};
 
-use crate::joining::Refusal;
+use crate::joining::{Refusal, order_of};
 use crate::line::{Listed, PartLine};
 use geolint_report::every::listing::{Asked, Item, Note, Notes};
 use geolint_report::every::tally::Tally;
@@ -42,19 +42,6 @@ pub fn join_notes(alloc: Global, lines: &[PartLine], asked: Asked) -> Result<Not
     } else {
         Err(Refusal::NotInOrder)
     }
-}
-
-/// The indices of lines, in the order of their parts.
-fn order_of(alloc: Global, lines: &[PartLine]) -> Result<Vec<usize>, AllocError> {
-    let mut order = Vec::new(alloc);
-    order.resize(lines.len(), 0)?;
-    for (index, line) in lines.iter().enumerate() {
-        let before = line.share.number.saturating_sub(1);
-        if before < order.len() as u64 {
-            order[before as usize] = index;
-        }
-    }
-    Ok(order)
 }
 
 /// What a line lists, where it is what is asked for.
@@ -182,37 +169,41 @@ fn add_notes(
         → all.new.items ≡ take room (all.old.items ++ map (moved_note records begin) more.now)) }
     ensures room { vec_len all.old ≤ room → vec_len all.new ≤ room }
 {
-    for note in more {
-        if (all.len() as u64) < room {
-            let Some(note) = moved(note, begin, records) else {
-                return Err(Refusal::TooMany);
-            };
-            match all.push(note) {
-                Ok(()) => {}
-                Err(failed) => return Err(AllocError::from(failed).into()),
-            }
+    let fitting = first_of(more, room.saturating_sub(all.len() as u64));
+    for note in fitting {
+        let Some(note) = moved(note, begin, records) else {
+            return Err(Refusal::TooMany);
+        };
+        match all.push(note) {
+            Ok(()) => {}
+            Err(failed) => return Err(AllocError::from(failed).into()),
         }
     }
     Ok(())
+}
+
+/// So many of the notes at most.
+fn first_of(notes: &[Note], most: u64) -> &[Note]
+    ensures { result.now ≡ take most notes.now }
+{
+    if most < notes.len() as u64 {
+        &notes[..most as usize]
+    } else {
+        notes
+    }
 }
 
 /// A note of a part that begins at the byte offset `begin`, after `records` records. `None` where a number goes past 64 bits.
 fn moved(note: &Note, begin: u64, records: u64) -> Option<Note>
     ensures { IfSome result (λ new. new ≡ moved_note records begin note.now) }
 {
-    match (
-        moved_item(note.item, records),
-        note.told.place.checked_add(begin),
-    ) {
-        (Some(item), Some(place)) => Some(Note {
-            item,
-            told: Told {
-                code: note.told.code,
-                place,
-            },
-        }),
-        _ => None,
-    }
+    Some(Note {
+        item: moved_item(note.item, records)?,
+        told: Told {
+            code: note.told.code,
+            place: note.told.place.checked_add(begin)?,
+        },
+    })
 }
 
 /// A record after `records` others.
@@ -221,9 +212,6 @@ fn moved_item(item: Item, records: u64) -> Option<Item>
 {
     match item {
         Item::Feature { .. } => Some(item),
-        Item::Record(number) => match number.checked_add(records) {
-            Some(number) => Some(Item::Record(number)),
-            None => None,
-        },
+        Item::Record(number) => Some(Item::Record(number.checked_add(records)?)),
     }
 }

@@ -1,26 +1,61 @@
-use denote.Enum.Bare.{same_true}
-use Rattle.std.proofs.Common.{◌≡◌, ◌∙◌, sym, ap, List, Bool, refl, rules}
+use denote.Enum.Bare.{same_true, true_same, sameb}
+use Rattle.part_lines.proofs.Common.{◌≡◌, ◌∙◌, ℕ, Bool, List, Framing, ap, refl, sym}
+use Rattle.std.proofs.Common.{◌&&◌, rules}
+use Rattle.std.proofs.Math.Bool.{beq}
+use Rattle.std.proofs.Math.Dec.{eqb}
+use Rattle.std.specs.Bool.{Decides}
 use Rattle.std.specs.Cmp.{booleans_Decides}
-use Rattle.std.proofs.lemmas.Bool.{not-false}
-use Rattle.std.proofs.lemmas.Slice.Eq.{slice_eq-Decides}
+use Rattle.std.specs.Cmp.Lexicographic.{pointwise}
+use Rattle.std.proofs.lemmas.Bool.{not-false, not-true}
+use Rattle.std.proofs.lemmas.Bool.Decides.{Decides-and, Decides-eqb}
+use Rattle.std.proofs.lemmas.Slice.Eq.{bytes_eq-Decides, slice_eq-Decides}
 use Rattle.gj_rules.specs.contracts.records.framing.Framing.{the_type}
-use Rattle.part_lines.proofs.SameSettings.{same_text}
+use Rattle.part_lines.specs.declared.line.Settings.{Settings}
 use Rattle.part_lines.proofs.joining.check_line.Goals as goal
 
-pub returns-else-line-first-3 : goal.returns-else-line-first-3
-returns-else-line-first-3 c =
-    let one = c.args.line.now.settings in
-    let other = c.args.first.now.settings in
-    let contained : one.allowed.contained ≡ other.allowed.contained = (slice_eq-Decides booleans_Decides one.allowed.contained other.allowed.contained _ refl).0
-    (not-false _ (sym c.ne-else-line-first-2.ensures ∙ c.if-ne-3.false)) in
-    let allowed : one.allowed ≡ other.allowed = ap (λ (l : List Bool). record { contained = l }) contained in
+abbrev made : Framing → ℕ → ℕ → Bool → List Bool → Settings
+made framing bytes depth strict contained =
+    record { framing = framing; limits = record { bytes = bytes; depth = depth }; strict = strict; allowed = record { contained = contained } }
+
+same : (f g : Framing) (a b c d : ℕ) (s t : Bool) (k l : List Bool) → f ≡ g → a ≡ b → c ≡ d → s ≡ t → k ≡ l → made f a c s k ≡ made g b d t l
+same f g a b c d s t k l p q r u v = rw (p, q, r, u, v)
+
+-- `==` of two settings
+abbrev tested : Settings → Settings → Bool
+tested one other = sameb the_type one.framing other.framing
+    && ((eqb one.limits.bytes other.limits.bytes && eqb one.limits.depth other.limits.depth)
+    && (beq one.strict other.strict && pointwise beq one.allowed.contained other.allowed.contained))
+
+settings_Decides : (one other : Settings) → Decides (tested one other) (one ≡ other)
+settings_Decides one other =
+    let parts = Decides-and _ _ (same_true the_type (search rules) one.framing other.framing, true_same the_type one.framing other.framing)
+    (Decides-and _ _ (Decides-and _ _ (Decides-eqb one.limits.bytes other.limits.bytes) (Decides-eqb one.limits.depth other.limits.depth))
+    (Decides-and _ _ (booleans_Decides one.strict other.strict)
+    (slice_eq-Decides booleans_Decides one.allowed.contained other.allowed.contained _ refl))) in (
+      λ t. let (f, (l, (s, a))) = parts.0 t in same _ _ _ _ _ _ _ _ _ _ f l.0 l.1 s a,
+      λ e. parts.1 (
+        ap (λ (o : Settings). o.framing) e,
+        (
+          (ap (λ (o : Settings). o.limits.bytes) e, ap (λ (o : Settings). o.limits.depth) e),
+          (ap (λ (o : Settings). o.strict) e, ap (λ (o : Settings). o.allowed.contained) e),
+        ),
+      ),
+    )
+
+pub returns-then-ne-3-clause-complete : goal.returns-then-ne-3-clause-complete
+returns-then-ne-3-clause-complete c = λ like.
+    sym (not-true _ (sym c.ne-else-ne-2.ensures ∙ c.if-ne-3.true)) ∙ (settings_Decides c.args.line.now.settings c.args.first.now.settings).1 like.settings
+
+pub returns-else-line-first-clause-alike : goal.returns-else-line-first-clause-alike
+returns-else-line-first-clause-alike c =
+    let one = c.args.line.now in
+    let first = c.args.first.now in
+    let file = (Decides-and _ _ (bytes_eq-Decides _ _) (Decides-and _ _ (Decides-eqb one.file.size first.file.size) (bytes_eq-Decides _ _))).0
+    (not-false _ (sym c.ne-else-ne.ensures ∙ c.if-ne-2.false)) in
     record {
-      path = same_text _ _ c.ne.result c.if-ne.false c.ne.ensures;
-      size = c.if-line-first.false;
-      modified = same_text _ _ c.ne-else-line-first.result c.if-ne-2.false c.ne-else-line-first.ensures;
-      bytes = sym c.bytes.ensures.value ∙ (c.if-bytes.false ∙ c.bytes-else-ne-2.ensures.value);
-      strict = (booleans_Decides one.strict other.strict).0 (not-false _ c.if-line-first-2.false);
-      allowed = allowed;
-      framing = same_true the_type (search rules) _ _ (not-false _ (sym c.ne-else-ne-3.ensures ∙ c.if-ne-4.false));
-      parts = c.if-line-first-3.false;
+      path = file.0;
+      size = file.1.0;
+      modified = file.1.1;
+      settings = (settings_Decides one.settings first.settings).0 (not-false _ (sym c.ne-else-ne-2.ensures ∙ c.if-ne-3.false));
+      parts = c.if-line-first.false;
     }

@@ -1,5 +1,6 @@
-use Rattle.part_lines.proofs.Common.{ℕ, ◌<◌, get_or, PartLine}
+use Rattle.std.specs.Prelude.{ℕ, ◌<◌, get_or}
 use Rattle.part_lines.specs.Lines.{IsLike}
+use Rattle.part_lines.specs.declared.line.PartLine.{PartLine}
 use Rattle.part_lines.proofs.joining.check_lines.Given as goal
 
 abbrev pub invariant-loop-index : goal.invariant-loop-index

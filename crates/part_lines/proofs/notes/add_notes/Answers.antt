@@ -1,24 +1,20 @@
-use Rattle.part_lines.proofs.Common.{arith, ◌∙◌, ◌++◌, ◌∷◌, [], ap, Note}
-use Rattle.std.specs.Prelude.{Vec}
-use Rattle.std.specs.declared.alloc.Global.{Global}
+use Rattle.part_lines.proofs.Common.{arith, ◌≡◌, ◌+◌, ◌∙◌, ◌++◌, List, ℕ, ap, sym, length, map, take, Note}
+use Rattle.std.proofs.Common.{◌-◌}
+use Rattle.std.proofs.lemmas.List.{take-map, take_all}
+use Rattle.std.proofs.Math.Seq.{take-append-add}
 use Rattle.sequence_parts.specs.JoinedNotes.{moved_note}
-use Rattle.part_lines.proofs.JoinedNotes.{one-longer, none-longer}
 use Rattle.part_lines.proofs.notes.add_notes.Goals as goal
-use Rattle.part_lines.proofs.notes.add_notes.Goals.{then-len-room+in-Some+in-Ok, else-len-room}
 
-pub loop-note-preserved : goal.loop-note-preserved
-loop-note-preserved c = λ few.
-    let room = c.args.room in
-    let i = c.loop-note.note-index in
+pub returns-clause-notes : goal.returns-clause-notes
+returns-clause-notes c = λ few.
+    let old = c.args.all.now.items in
     let more = c.args.more.now in
     let m = moved_note c.args.records c.args.begin in
-    let before = c.loop-note.invariant few in
-    elim c.if-len-room.branch [
-      | then-len-room+in-Some+in-Ok w ↦ ap (λ (v : Vec Note Global). v.items) w.all-is
-          ∙ one-longer room i c.args.all.now.items c.loop-note.all.items _ more m _ c.loop-note-test.true before
-          (omega (arith, c.len.ensures, w.if-len-room.true))
-          (w.in-Ok.ensures.items ∙ ap (λ (note : Note). c.loop-note.all.items ++ note ∷ []) w.in-Some.ensures)
-      | else-len-room w ↦ ap (λ (v : Vec Note Global). v.items) w.all-is
-          ∙ none-longer room i c.args.all.now.items c.loop-note.all.items more m c.loop-note-test.true before
-          (omega (arith, c.len.ensures, w.if-len-room.false))
-    ]
+    let left = c.args.room - length old in
+    let fits : c.first_of-fitting.result.now ≡ take left more = c.first_of-fitting.ensures
+    ∙ ap (λ (n : ℕ). take n more) (omega (arith, c.saturating_sub.ensures, c.len.ensures)) in
+    let both : length old + left ≡ c.args.room = omega (arith, few) in
+    c.loop-note.invariant
+    ∙ (ap (λ (l : List Note). old ++ map m l) (take_all c.loop-note.note-index c.first_of-fitting.result.now c.loop-note-test.false ∙ fits)
+    ∙ (ap (λ (l : List Note). old ++ l) (sym (take-map m left more))
+    ∙ (sym (take-append-add old (map m more) left) ∙ ap (λ (n : ℕ). take n (old ++ map m more)) both)))

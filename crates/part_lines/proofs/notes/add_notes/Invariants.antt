@@ -1,7 +1,6 @@
-use Rattle.std.proofs.Common.{◌≡◌, ◌≤◌, ◌++◌, map, take, vec_len}
+use Rattle.std.proofs.Common.{◌≡◌, ◌++◌, map, take}
 use Rattle.sequence_parts.specs.JoinedNotes.{moved_note}
 use Rattle.part_lines.proofs.notes.add_notes.Given as goal
 
 abbrev pub invariant-loop-note : goal.invariant-loop-note
-invariant-loop-note l =
-    vec_len l.fn.all ≤ l.room → l.all.items ≡ take l.room (l.fn.all.items ++ map (moved_note l.records l.begin) (take l.note-index l.more))
+invariant-loop-note l = l.all.items ≡ l.fn.all.items ++ map (moved_note l.records l.begin) (take l.note-index l.fitting)

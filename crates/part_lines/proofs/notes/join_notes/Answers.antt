@@ -1,6 +1,6 @@
 use Rattle.std.proofs.Common.{◌≤◌, ◌∙◌, sym, subst, vec_len}
 use Rattle.part_lines.proofs.JoinedNotes.{all-notes}
-use Rattle.part_lines.proofs.LinesOfParts.{all_lines, first_size, line_there}
+use Rattle.part_lines.proofs.LinesOfParts.{first_size, line_there}
 use Rattle.part_lines.specs.Internal.NotesSoFar.{AreNotesTo}
 use Rattle.part_lines.specs.Lines.{IsListedLineOf}
 use Rattle.part_lines.specs.declared.notes.SoFar.{SoFar}
@@ -38,5 +38,5 @@ loop-place-preserved c = record {
 pub returns-then-all-first-clause-whole : goal.returns-then-all-first-clause-whole
 returns-then-all-first-clause-whole c = λ framing limits text none all.
     let lines = c.args.lines.now in
-    let long = first_size framing limits text lines c.in-Some.first.now c.in-Some.ensures.value (all_lines framing limits text lines all) in
+    let long = first_size text lines c.in-Some.first.now c.in-Some.ensures.value (λ k none less. (all k none less).line_of.size) in
     all-notes framing limits c.args.asked text c.loop-place.all (long ∙ sym c.if-all-first.true) (c.loop-place.invariant.notes framing limits text none all)
