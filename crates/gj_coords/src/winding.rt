@@ -4,7 +4,7 @@ ghost use Rattle.std.specs.Prelude.{◌≡◌, ◌*◌, ◌^◌, ◌≤◌, ℤ,
 ghost use Rattle.gj_number.specs.Exact.{cut_places};
 ghost use Rattle.std.specs.Int.{int_wrap, w128};
 ghost use Rattle.gj_number.specs.Short.{exact_of};
-ghost use Rattle.gj_coords.specs.Winding.{bounded, bounded_cut, cut_value, most_longitude, both, sign_of};
+ghost use Rattle.gj_coords.specs.Winding.{bounded, bounded_cut, cut_value, both, sign_of};
 
 use gj_number::{Decimal, Short};
 
