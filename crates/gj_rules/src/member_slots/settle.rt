@@ -93,9 +93,13 @@ impl MemberSlots {
     }
 
     /// Where the type is missing or wrong, which is this fault.
+    #[tactic(auto, using(crate::proofs::Objects::MetRules::none_by))]
     fn as_none(&self, fault: Fault) -> Option<Fault>
         ensures { result ≡ as_none fault (slots_in self.now) }
     {
+        if self.meets(Word::Other) {
+            return Some(fault);
+        }
         lesser_fault(
             self.members_fault(MemberRules::of(Word::Other)),
             Some(fault),

@@ -18,7 +18,7 @@ impl MemberSlots {
 
     /// Whether the members are those that a type asks for, and nothing is wrong with any.
     #[inline(always)]
-    fn meets(&self, word: Word) -> bool
+    pub(super) fn meets(&self, word: Word) -> bool
         ensures { result ≡ is_none (members_fault (rules_of word) (slots_in self.now)) }
     {
         let rules = MemberRules::of(word);
