@@ -1,0 +1,6 @@
+mod ElementRuns
+mod ReachedFeatures
+mod FeatureStates
+mod ClosedTexts
+mod EqualPrefixes
+mod RunsRead
