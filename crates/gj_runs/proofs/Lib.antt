@@ -4,3 +4,7 @@ mod FeatureStates
 mod ClosedTexts
 mod EqualPrefixes
 mod RunsRead
+mod OtherRoots
+mod SoundElements
+mod WholeTexts
+mod WholeVerdicts

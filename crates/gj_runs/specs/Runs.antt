@@ -1,9 +1,12 @@
 -- Whole features that follow one another in a text, and what they are apart from it.
-use Rattle.std.specs.Prelude.{◌≡◌, ◌⊎◌, ℕ, ◌-◌, ◌≤◌, List, [], ◌∷◌, ◌++◌, length, IsSome, codes, replicate}
+use Rattle.std.specs.Prelude.{◌≡◌, ◌⊎◌, ℕ, ◌+◌, ◌-◌, ◌≤◌, List, [], ◌∷◌, ◌++◌, length, IsSome, None, codes, replicate}
+use Rattle.std.specs.List.{AllByRecursion}
 use Rattle.gj_json.specs.Bytes.{space}
 use Rattle.gj_json.specs.Text.{IsText, IsViableWithin}
 use Rattle.gj_json.specs.Tree.{Text}
-use Rattle.gj_rules.specs.FeatureFindings.{FeatureFinding, feature_findings}
+use Rattle.gj_coords.specs.WarningsStand.{StandsFor as WarningsStandFor}
+use Rattle.gj_rules.specs.FeatureFindings.{FeatureFinding, feature_findings, warnings_found}
+use Rattle.gj_runs.specs.declared.sum.FeatureSum.{FeatureSum}
 
 -- ---- where a feature has ended
 
@@ -31,3 +34,24 @@ stand_at begin = codes "{\"features\":[" ++ (spaces (begin - 15) ++ codes "{}")
 pub record IsRun (levels begin : ℕ) (run : List ℕ) : Type 0 where
   pub room : 15 ≤ begin
   pub ends : StandsAfterFeature levels (stand_at begin ++ run)
+
+-- what makes a text of the stand and a run
+abbrev pub stand_end : List ℕ
+stand_end = codes "]}"
+
+-- what is found in a run: in the features of that text but for the first, which is the stand's
+pub record AreFindingsOf (begin : ℕ) (run : List ℕ) (found : List FeatureFinding) : Type 0 where
+  pub text : Text
+  pub text_of : IsText text (stand_at begin ++ (run ++ stand_end))
+  pub first : FeatureFinding
+  pub findings : feature_findings text ≡ first ∷ found
+
+-- The sum says what is found in a run that stands at that place, if a feature has ended there. That it has is no part of it.
+pub record IsSumOf (levels : ℕ) (run : List ℕ) (sum : FeatureSum) : Type 0 where
+  pub is_run : IsRun levels sum.begin run
+  pub end : sum.end ≡ sum.begin + length run
+  pub found : List FeatureFinding
+  pub findings : AreFindingsOf sum.begin run found
+  pub features : sum.features ≡ length found
+  pub sound : AllByRecursion (λ finding. finding.fault ≡ None) found
+  pub warnings : WarningsStandFor sum.warnings (warnings_found found)
