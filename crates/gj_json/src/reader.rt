@@ -212,4 +212,5 @@ mod place;
 mod positions;
 mod rows;
 mod runs;
+mod spaces;
 mod tokens;

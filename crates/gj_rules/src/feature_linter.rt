@@ -158,3 +158,5 @@ impl<S: ForgetfulSink> FeatureLinter<S> {
         self.reader.begin_again(limits);
     }
 }
+
+mod spaces;

@@ -23,7 +23,7 @@ rising_from k m (v ∷ vs) l h = (omega (arith, h.0, l), h.1)
 
 -- where what is spelled closes
 mutual
-  elements_end : (es : Tree.Elements) (close n : ℕ) (bytes : List ℕ) → SpellsElements es close n bytes → close + 1 ≡ n + length bytes
+  pub elements_end : (es : Tree.Elements) (close n : ℕ) (bytes : List ℕ) → SpellsElements es close n bytes → close + 1 ≡ n + length bytes
   elements_end end_of_array close n bytes h = closed_at h
   elements_end (element v more) close n bytes h = omega (arith, more_elements_end more close _ _ h.after.after, then_length h, then_length h.after)
 
@@ -34,7 +34,7 @@ mutual
       omega (arith, more_elements_end more close _ _ k.after.after, then_length h, then_length h.after, then_length k, then_length k.after)
 
 mutual
-  members_end : (ms : Members) (close n : ℕ) (bytes : List ℕ) → SpellsMembers ms close n bytes → close + 1 ≡ n + length bytes
+  pub members_end : (ms : Members) (close n : ℕ) (bytes : List ℕ) → SpellsMembers ms close n bytes → close + 1 ≡ n + length bytes
   members_end end_of_object close n bytes h = closed_at h
   members_end (member place name end v more) close n bytes h =
       let k = h.after.after in

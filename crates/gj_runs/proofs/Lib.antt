@@ -1,0 +1,10 @@
+mod ElementRuns
+mod ReachedFeatures
+mod FeatureStates
+mod ClosedTexts
+mod EqualPrefixes
+mod RunsRead
+mod OtherRoots
+mod SoundElements
+mod WholeTexts
+mod WholeVerdicts
