@@ -1,5 +1,5 @@
 -- The choices that are named, one after another.
-use Rattle.std.proofs.Common.{◌≡◌, ℕ, ◌+◌, ◌<◌, Bool, true, false, ◌&&◌, ◌||◌, List, length, drop, get_or, refl, sym, ◌∙◌, add-one, drop-cons}
+use Rattle.std.proofs.Common.{◌≡◌, ℕ, ◌+◌, ◌<◌, Bool, true, false, ◌&&◌, ◌||◌, List, length, drop, get_or, refl, add-one, drop-cons}
 use Rattle.std.proofs.Math.Bool.{beq}
 use Rattle.gj_hints.specs.Choices.{has}
 use Rattle.gj_hints.specs.Expected.{is_named_in}

@@ -1,4 +1,3 @@
-use Rattle.std.proofs.Common.{◌++◌, []}
 use Rattle.std.proofs.lemmas.List.{append-nil}
 use Rattle.gj_hints.specs.Expected.{IsAfter}
 use Rattle.gj_hints.proofs.expected.expected_after.Goals as goal

@@ -1,4 +1,4 @@
-use Rattle.std.proofs.Common.{◌≡◌, ◌<◌, ◌+◌, ◌||◌, ℕ, true, false, List, length, drop, refl, sym, ap, ◌∙◌, arith}
+use Rattle.std.proofs.Common.{◌≡◌, ◌<◌, true, false, length, drop, sym, ◌∙◌, arith}
 use Rattle.gj_hints.specs.Expected.{is_named_in}
 use Rattle.gj_hints.specs.declared.choice.TheConstants.{CHOICES}
 use Rattle.gj_hints.proofs.NamedBytes.{named-next}
