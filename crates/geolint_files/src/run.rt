@@ -678,7 +678,7 @@ impl<'a, W: Write + Drop> Run<'a, W> {
             self.options.limits,
             &mut self.progress,
         );
-        let found = found_at(&finding, &sites, source);
+        let found = found_at(&finding, &sites, reading, source);
         let hint = find_hint(&finding, self.linter, source);
         self.tell_with_hint(name, finding, Some(&sites), found, hint)
     }

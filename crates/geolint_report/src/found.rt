@@ -2,15 +2,18 @@
 
 ghost use Rattle.std.specs.Prelude.{◌≤◌, length};
 
-use crate::judge::Finding;
-use crate::report::Told;
+use crate::judge::{Finding, Reading};
 use crate::sites::Sites;
 use crate::source::Rewind;
 use crate::texts::Code;
 use crate::written::{MOST_BYTES, front, written_length};
 use gj_coords::Rule;
-use gj_json::{Event, EventSink, Known, Limits, Path, PathStep, Reader, What};
+use gj_json::{Cause, Event, EventSink, Known, Limits, Path, PathStep, Reader, What};
 use itoa::Buffer;
+
+mod refusal;
+
+use refusal::{found_byte, found_end};
 
 /// The most bytes of what is reported: two positions, and some words.
 const MOST_FOUND: usize = 2 * MOST_BYTES + 64;
@@ -80,24 +83,31 @@ impl Found {
     }
 }
 
-/// What is at the place of what was found in a source, of which these sites were found.
-pub fn found_at<S: Rewind>(finding: &Finding, sites: &Sites, source: &S) -> Option<Found> {
+/// What is at the place of what was found in a source that is read so, of which these sites were found.
+pub fn found_at<S: Rewind>(
+    finding: &Finding,
+    sites: &Sites,
+    reading: Reading,
+    source: &S,
+) -> Option<Found> {
     let told = finding.fault()?;
     let site = sites.at(told.place)?;
-    find_found(&told, site.path.as_ref(), source)
+    match told.code {
+        Code::Rule(rule) => find_found(rule, told.place, site.path.as_ref(), source),
+        Code::Cause(Cause::Syntax) => found_byte(told.place, reading.framing(), source),
+        Code::Cause(Cause::Truncated) => found_end(told.place, reading.framing(), source),
+        _ => None,
+    }
 }
 
-/// What is at the place of a fault of the text of a source. The path is that of the place.
-fn find_found<S: Rewind>(told: &Told, path: Option<&Path>, source: &S) -> Option<Found> {
-    let Code::Rule(rule) = told.code else {
-        return None;
-    };
+/// What is at the place where a rule is broken. The path is that of the place.
+fn find_found<S: Rewind>(rule: Rule, place: u64, path: Option<&Path>, source: &S) -> Option<Found> {
     match rule {
-        Rule::G3 => found_type(told.place, path, source),
-        Rule::G9 | Rule::G10 | Rule::G16 => found_value(told.place, source),
-        Rule::G11 => found_shape(told.place, path, source),
-        Rule::G12 | Rule::G13 | Rule::G14 => found_elements(rule, told.place, source),
-        Rule::G15 => found_ends(told.place, source),
+        Rule::G3 => found_type(place, path, source),
+        Rule::G9 | Rule::G10 | Rule::G16 => found_value(place, source),
+        Rule::G11 => found_shape(place, path, source),
+        Rule::G12 | Rule::G13 | Rule::G14 => found_elements(rule, place, source),
+        Rule::G15 => found_ends(place, source),
         _ => None,
     }
 }

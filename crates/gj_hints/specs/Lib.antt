@@ -1,4 +1,6 @@
 pub mod Hints
+pub mod Choices
+pub mod Expected
 pub mod Formats
 pub mod Numbers
 pub mod Spellings

@@ -11,6 +11,8 @@ mod checks;
 #[cfg(test)]
 mod coords;
 #[cfg(test)]
+mod expected;
+#[cfg(test)]
 mod hints;
 #[cfg(test)]
 mod json;

@@ -1,0 +1,2 @@
+pub mod NamedBytes
+pub mod NextBytes
