@@ -275,3 +275,6 @@ try {
   process.stderr.write(error instanceof WrongWords ? `geolint-files: ${shown(error.message)}\n\n${USAGE}` : `geolint-files: ${error.message}\n`);
   process.exitCode = 2;
 }
+// Node may wait for ever for its own compiler of the module, so the command does not leave its end to it.
+await write("");
+process.exit();
