@@ -55,6 +55,7 @@ const rows = [
   ['{"spatialReference":{}}', "esri"],
   ['"{\\"type\\":\\"Point\\"}"', "textInString"],
   ['{"type":"Point","coordinates":[52.5,113.4]}', "swapped"],
+  ['{"type":"Point","coordinates":[522000.5,6070000]}', "metres"],
   ['{"type":"Point","coordinates":[ -52.5 , -113.4 , 7 ]}', "swapped"],
   ['{"type":"Point","coordinates":[192.5,13.4]}', null],
   ['{"type":"Point","coordinates":[5e1,113.4]}', null],

@@ -31,6 +31,7 @@ const TEXTS = {
   textInString: "the text is inside a string: jq fromjson IN > OUT.geojson, if that is the whole file",
   swapped:
     "latitude and longitude look swapped; the longitude comes first: jq '(.. | objects | .coordinates? // empty | .. | arrays | select(.[0] | numbers)) |= [.[1], .[0]] + .[2:]' IN > OUT.geojson",
+  metres: "the coordinates look like metres, not degrees: ogr2ogr -t_srs EPSG:4326 OUT.geojson IN, with -s_srs where the file names no reference system",
   manyDigits: "the number has more than 30 digits; 17 are enough for any double, and 7 decimal places are a centimetre",
   largeNumber: "the number is too large, above 10 to the power of 400",
   smallNumber: "the number is nearly zero, below 10 to the power of -400: write 0",

@@ -135,6 +135,7 @@ export const GERMAN = {
     topojson: "die Daten TopoJSON sind. Wandeln Sie sie in GeoJSON um.",
     textInString: "ein Text in Anführungszeichen steht, wo sein Wert stehen muss. Entfernen Sie die Anführungszeichen und die Rückstriche darin.",
     swapped: "Breite und Länge vertauscht sind. Die Länge steht zuerst.",
+    metres: "die Koordinaten in Metern sind. GeoJSON hat Grad. Wandeln Sie sie in WGS 84 (EPSG:4326) um.",
     manyDigits: "die Zahl mehr als 30 Ziffern hat. Sieben Nachkommastellen eines Grads sind ein Zentimeter.",
     largeNumber: "die Zahl zu groß ist: über 10 hoch 400.",
     smallNumber: "die Zahl fast null ist. Schreiben Sie 0.",

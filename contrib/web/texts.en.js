@@ -136,6 +136,7 @@ export const ENGLISH = {
     topojson: "the data are TopoJSON. Convert them to GeoJSON.",
     textInString: "there is a text in quotes instead of the value itself. Remove the quotes, and the backslashes in it.",
     swapped: "latitude and longitude are swapped. The longitude comes first.",
+    metres: "the coordinates are in metres. GeoJSON has degrees: convert them to WGS 84 (EPSG:4326).",
     manyDigits: "the number has more than 30 digits. Seven decimal places of a degree are a centimetre.",
     largeNumber: "the number is too large: it is above 10 to the power of 400.",
     smallNumber: "the number is nearly zero. Write 0.",

@@ -57,6 +57,8 @@ fn text_of(hint: Hint) -> &'static [u8]
             b"the text is inside a string: jq fromjson IN > OUT.geojson, if that is the whole file\0",
         Hint::SwappedAxes => b"latitude and longitude look swapped; the longitude comes first: \
               jq '(.. | objects | .coordinates? // empty | .. | arrays | select(.[0] | numbers)) |= [.[1], .[0]] + .[2:]' IN > OUT.geojson\0",
+        Hint::Metres =>
+            b"the coordinates look like metres, not degrees: ogr2ogr -t_srs EPSG:4326 OUT.geojson IN, with -s_srs where the file names no reference system\0",
         Hint::ManyDigits =>
             b"the number has more than 30 digits; 17 are enough for any double, and 7 decimal places are a centimetre\0",
         Hint::LargeNumber => b"the number is too large, above 10 to the power of 400\0",

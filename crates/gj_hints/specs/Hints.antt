@@ -7,7 +7,7 @@ use Rattle.gj_hints.specs.declared.kind.Hint.{Hint}
 use Rattle.gj_hints.specs.Formats.{begins, holds, or_else, kind_of}
 use Rattle.gj_hints.specs.Numbers.{number_hint}
 use Rattle.gj_hints.specs.Spellings.{spelling}
-use Rattle.gj_hints.specs.Swapped.{is_swapped}
+use Rattle.gj_hints.specs.Swapped.{are_metres, is_swapped}
 
 abbrev pub when : Bool → Hint → Option Hint
 when condition hint = if condition then Some hint else None
@@ -27,6 +27,9 @@ second_text after = when (begins after (codes "{") || begins after (codes "[")) 
 abbrev pub is_esri : List ℕ → Bool
 is_esri head = holds head (codes "\"esriGeometry") || holds head (codes "\"spatialReference\"")
 
+abbrev pub out_of_range : List ℕ → Option Hint
+out_of_range after = if is_swapped after then Some Hint.SwappedAxes else when (are_metres after) Hint.Metres
+
 abbrev pub hint_of : Wrong → Clues → Option Hint
 hint_of Wrong.Refused clues = refused clues
 hint_of Wrong.TextFollows clues = or_else (second_text clues.after.now) (refused clues)
@@ -34,4 +37,4 @@ hint_of Wrong.NoObject clues = when (begins clues.after.now (codes "\"{")) Hint.
 hint_of Wrong.NoType clues = when (is_esri clues.head.now) Hint.EsriJson
 hint_of Wrong.OtherType clues = when (begins clues.after.now (codes "\"Topology\"")) Hint.TopoJson
 hint_of Wrong.BeyondProfile clues = Some (number_hint clues.after.now)
-hint_of Wrong.OutOfRange clues = when (is_swapped clues.after.now) Hint.SwappedAxes
+hint_of Wrong.OutOfRange clues = out_of_range clues.after.now

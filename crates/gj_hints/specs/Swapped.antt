@@ -1,5 +1,5 @@
--- A position whose latitude comes before its longitude.
-use Rattle.std.specs.Prelude.{ℕ, ◌+◌, ◌-◌, ◌*◌, Bool, false, not, ◌||◌, ◌&&◌, List, [], ◌∷◌, take, drop, nat_eq, nat_le, nat_lt, if◌then◌else◌}
+-- A position whose latitude comes before its longitude, or whose numbers are no degrees.
+use Rattle.std.specs.Prelude.{ℕ, ◌+◌, ◌-◌, ◌*◌, Bool, false, not, ◌||◌, ◌&&◌, List, [], ◌∷◌, length, take, drop, nat_eq, nat_le, nat_lt, if◌then◌else◌}
 use Rattle.std.specs.Char.{is_ascii_digit, is_ascii_whitespace}
 use Rattle.std.specs.List.{prefix_len, list_all}
 use Rattle.gj_hints.specs.Formats.{without_white}
@@ -57,3 +57,11 @@ are_swapped first second =
 abbrev pub is_swapped : List ℕ → Bool
 is_swapped [] = false
 is_swapped (first ∷ numbers) = nat_eq first 91 && are_swapped (field numbers) (field (behind_field numbers))
+
+-- it has more digits before its point than any degree
+abbrev pub is_long : List ℕ → Bool
+is_long field = is_plain field && nat_lt 3 (length (digits_of (without_sign (without_white field))))
+
+abbrev pub are_metres : List ℕ → Bool
+are_metres [] = false
+are_metres (first ∷ numbers) = nat_eq first 91 && (is_long (field numbers) || is_long (field (behind_field numbers)))

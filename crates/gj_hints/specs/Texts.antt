@@ -29,6 +29,9 @@ text_of Hint.TextInString = codes "the text is inside a string: jq fromjson IN >
 text_of Hint.SwappedAxes =
     codes "latitude and longitude look swapped; the longitude comes first: "
     ++ codes "jq '(.. | objects | .coordinates? // empty | .. | arrays | select(.[0] | numbers)) |= [.[1], .[0]] + .[2:]' IN > OUT.geojson"
+text_of Hint.Metres =
+    codes "the coordinates look like metres, not degrees: "
+    ++ codes "ogr2ogr -t_srs EPSG:4326 OUT.geojson IN, with -s_srs where the file names no reference system"
 text_of Hint.ManyDigits = codes "the number has more than 30 digits; 17 are enough for any double, and 7 decimal places are a centimetre"
 text_of Hint.LargeNumber = codes "the number is too large, above 10 to the power of 400"
 text_of Hint.SmallNumber = codes "the number is nearly zero, below 10 to the power of -400: write 0"

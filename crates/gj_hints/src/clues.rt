@@ -1,12 +1,12 @@
 //! What a hint goes by.
 ghost use Rattle.std.specs.Prelude.{◌≡◌};
-ghost use Rattle.gj_hints.specs.Hints.{hint_of, refused, second_text, is_esri, when};
+ghost use Rattle.gj_hints.specs.Hints.{out_of_range, hint_of, refused, second_text, is_esri, when};
 
 use crate::formats::{begins, holds, kind_of};
 use crate::kind::Hint;
 use crate::number::number_hint;
 use crate::spelling::spelling;
-use crate::swapped::is_swapped;
+use crate::swapped::{are_metres, is_swapped};
 
 /// The byte that begins a record of a text sequence (RFC 8142).
 const SEPARATOR: [u8; 1] = [0x1E];
@@ -55,7 +55,18 @@ pub fn hint(wrong: Wrong, clues: &Clues<'_>) -> Option<Hint>
         Wrong::NoType => when(is_esri(clues.head), Hint::EsriJson),
         Wrong::OtherType => when(begins(clues.after, b"\"Topology\""), Hint::TopoJson),
         Wrong::BeyondProfile => Some(number_hint(clues.after)),
-        Wrong::OutOfRange => when(is_swapped(clues.after), Hint::SwappedAxes),
+        Wrong::OutOfRange => out_of_range(clues.after),
+    }
+}
+
+/// What a position looks like that is out of range.
+fn out_of_range(after: &[u8]) -> Option<Hint>
+    ensures { result ≡ out_of_range after.now }
+{
+    if is_swapped(after) {
+        Some(Hint::SwappedAxes)
+    } else {
+        when(are_metres(after), Hint::Metres)
     }
 }
 

@@ -32,6 +32,8 @@ pub enum Hint {
     EsriJson,
     TextInString,
     SwappedAxes,
+    /// Numbers far beyond any degree.
+    Metres,
     /// A number has more than 30 digits.
     ManyDigits,
     /// A number is greater than any that is read.
@@ -88,6 +90,8 @@ impl Hint {
                 "the text is inside a string: jq fromjson IN > OUT.geojson, if that is the whole file",
             Hint::SwappedAxes => "latitude and longitude look swapped; the longitude comes first: \
                  jq '(.. | objects | .coordinates? // empty | .. | arrays | select(.[0] | numbers)) |= [.[1], .[0]] + .[2:]' IN > OUT.geojson",
+            Hint::Metres =>
+                "the coordinates look like metres, not degrees: ogr2ogr -t_srs EPSG:4326 OUT.geojson IN, with -s_srs where the file names no reference system",
             Hint::ManyDigits => {
                 "the number has more than 30 digits; 17 are enough for any double, and 7 decimal places are a centimetre"
             }

@@ -1,9 +1,9 @@
-//! A position whose latitude comes before its longitude.
+//! A position whose latitude comes before its longitude, or whose numbers are no degrees.
 ghost use Rattle.std.specs.Prelude.{◌≡◌, ◌≤◌, ◌-◌, length};
 ghost use Rattle.std.specs.Char.{is_ascii_digit};
 ghost use Rattle.std.specs.List.{prefix_len};
 ghost use Rattle.gj_hints.specs.Swapped.{is_inside, field, behind_field, is_plain, is_plain_byte, without_sign, digits_of, whole, degrees, are_swapped};
-ghost use Rattle.gj_hints.specs.Swapped.{is_swapped};
+ghost use Rattle.gj_hints.specs.Swapped.{is_swapped, is_long, are_metres};
 
 use crate::formats::without_white;
 
@@ -16,6 +16,23 @@ pub fn is_swapped(bytes: &[u8]) -> bool
         [b'[', numbers @ ..] => are_swapped(field(numbers), field(behind_field(numbers))),
         _ => false,
     }
+}
+
+/// Whether one of the first two numbers of the position that begins with these bytes is a thousand or more.
+pub fn are_metres(bytes: &[u8]) -> bool
+    ensures { result ≡ are_metres bytes.now }
+{
+    match bytes {
+        [b'[', numbers @ ..] => is_long(field(numbers)) || is_long(field(behind_field(numbers))),
+        _ => false,
+    }
+}
+
+/// Whether a number has more digits before its point than any degree.
+fn is_long(field: &[u8]) -> bool
+    ensures { result ≡ is_long field.now }
+{
+    is_plain(field) && digits(without_sign(without_white(field))).len() > 3
 }
 
 /// Whether the first number may be a latitude, and the second is none and may be a longitude.

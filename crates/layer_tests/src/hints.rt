@@ -220,7 +220,7 @@ fn names_other_formats_in_json(rt: HostRuntime) {
 
 const SWAPPED: Option<Hint> = Some(Hint::SwappedAxes);
 
-static POSITIONS: [(&[u8], Option<Hint>, &str); 14] = [
+static POSITIONS: [(&[u8], Option<Hint>, &str); 16] = [
     (b"[-33.86, 151.21]", SWAPPED, "Sydney"),
     (b"[ 35.68 , 139.69 , 40 ]", SWAPPED, "with a height"),
     (b"[\n  43.7,\n  -92\n]", SWAPPED, "whole degrees, in lines"),
@@ -232,7 +232,9 @@ static POSITIONS: [(&[u8], Option<Hint>, &str); 14] = [
     (b"[90,120]", None, "the first might be no latitude"),
     (b"[12,180]", None, "the second might be no longitude"),
     (b"[5.4e1,120]", None, "an exponent"),
-    (b"[522000,6070000]", None, "metres"),
+    (b"[522000,6070000]", Some(Hint::Metres), "metres"),
+    (b"[12.5,-6070000.25]", Some(Hint::Metres), "one number"),
+    (b"[200,999.5]", None, "no metres"),
     (b"[12]", None, "one number"),
     (b"{\"lat\":12,\"lon\":120}", None, "an object"),
 ];
