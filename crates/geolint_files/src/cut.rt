@@ -132,7 +132,7 @@ fn line_of<S: Rewind + Drop>(
     ensures read { IfOk result (λ line. IfSome (S.text source) (λ text. length text ≡ file.size → IsReadLine framing options.now share text line)) }
 {
     let asked = asked_in(options);
-    let found = check_part(
+    let (found, _source) = check_part(
         alloc,
         source,
         file.size,
@@ -141,7 +141,8 @@ fn line_of<S: Rewind + Drop>(
         options.limits,
         asked,
         meter,
-    )?;
+    );
+    let found = found?;
     Ok(PartLine {
         file,
         settings: Settings {

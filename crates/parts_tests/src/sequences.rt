@@ -145,7 +145,7 @@ fn listed_part_of(
     };
     let mut meter = Meter::new(rt.clone()?);
     let source = Bytes { bytes, place: 0 };
-    check_part(
+    let (found, _) = check_part(
         rt.alloc(),
         source,
         bytes.len() as u64,
@@ -154,7 +154,8 @@ fn listed_part_of(
         limits_of(most),
         asked,
         &mut meter,
-    )
+    );
+    found
 }
 
 /// The verdict of all parts together.
@@ -406,7 +407,7 @@ fn short_sources_have_no_such_part(rt: HostRuntime) -> io::Result<()> {
             bytes: &POINTS[..*given],
             place: 0,
         };
-        let found = check_part(
+        let (found, _) = check_part(
             rt.alloc(),
             source,
             116,

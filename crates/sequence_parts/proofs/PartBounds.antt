@@ -6,7 +6,7 @@ use Rattle.std.specs.Prelude.{◌⊎◌}
 use Rattle.std.specs.Option.{option_map}
 use Rattle.gj_rules.specs.declared.records.framing.Framing.TheVariants.{Sequence, Lines}
 use Rattle.gj_rules.specs.declared.sequence.verdict.SeqVerdict.{SeqVerdict}
-use Rattle.geolint_report.specs.Judged.{JudgesBy, Finds}
+use Rattle.geolint_report.specs.Judged.{Finds}
 use Rattle.geolint_report.specs.declared.judge.Finding.{Finding}
 use Rattle.gj_join.specs.Joined.{IsVerdictOf}
 use Rattle.sequence_parts.specs.Checked.{IsPartOf, reading_of}
@@ -38,30 +38,22 @@ right_bytes framing limits text number parts begin end is has =
 
 -- ---- the verdict
 
-pub judged_bytes : (known now : Option (List ℕ)) (f : List ℕ → List ℕ) (framing : Framing) (limits left : Allowed) (verdict : SeqVerdict) → left ≡ limits
-    → JudgesBy (IsVerdictOf framing) left (option_map f known) now verdict
-    → IfSome known (λ text. IsVerdictOf framing limits (f text) verdict)
-judged_bytes None now f framing limits left verdict same is = tt
-judged_bytes (Some text) None f framing limits left verdict same is = absurd is
-judged_bytes (Some text) (Some rest) f framing limits left verdict same is =
-    subst (λ (l : Allowed). IsVerdictOf framing l (f text) verdict) same is.of_all
-
-pub found_bytes : (known now : Option (List ℕ)) (framing : Framing) (limits : Allowed) (verdict : SeqVerdict)
+pub found_verdict : (known now : Option (List ℕ)) (framing : Framing) (limits : Allowed) (verdict : SeqVerdict)
     → Finds (reading_of framing) limits known now (Finding.Sequence verdict)
-    → JudgesBy (IsVerdictOf framing) limits known now verdict
-found_bytes known now Sequence limits verdict is = is
-found_bytes known now Lines limits verdict is = is
+    → IfSome known (λ text. IsVerdictOf framing limits text verdict)
+found_verdict None now framing limits verdict is = tt
+found_verdict (Some text) None Sequence limits verdict is = absurd is
+found_verdict (Some text) None Lines limits verdict is = absurd is
+found_verdict (Some text) (Some rest) Sequence limits verdict is = is.of_all
+found_verdict (Some text) (Some rest) Lines limits verdict is = is.of_all
 
-pub read_bytes : (known had now : Option (List ℕ)) (f : List ℕ → List ℕ) (framing : Framing) (limits left : Allowed) (finding : Finding)
-    (verdict : SeqVerdict) (begin end : ℕ) → had ≡ option_map f known → finding ≡ Finding.Sequence verdict → left ≡ limits
-    → Finds (reading_of framing) left had now finding
-    → IfSome known (λ text. begin < end → IsVerdictOf framing limits (f text) verdict)
-read_bytes None had now f framing limits left finding verdict begin end same_bytes same_finding same_limits is = tt
-read_bytes (Some text) had now f framing limits left finding verdict begin end same_bytes same_finding same_limits is =
-    let by_bytes = subst (λ (o : Option (List ℕ)). Finds (reading_of framing) left o now finding) same_bytes is in
-    let by_finding = subst (λ (it : Finding). Finds (reading_of framing) left (Some (f text)) now it) same_finding by_bytes in
-    let judged = found_bytes (Some (f text)) now framing left verdict by_finding in
-    λ has. judged_bytes (Some text) now f framing limits left verdict same_limits judged
+-- what is right of the bytes that are read of the source is right of those of the part
+pub in_part : (P : Allowed → List ℕ → Type 0) (known had : Option (List ℕ)) (f : List ℕ → List ℕ) (limits left : Allowed) (begin end : ℕ)
+    → had ≡ option_map f known → left ≡ limits → IfSome had (P left) → IfSome known (λ text. begin < end → P limits (f text))
+in_part P None had f limits left begin end same_bytes same_limits is = tt
+in_part P (Some text) had f limits left begin end same_bytes same_limits is =
+    let by_bytes = subst (λ (o : Option (List ℕ)). IfSome o (P left)) same_bytes is in
+    λ has. subst (λ (l : Allowed). P l (f text)) same_limits by_bytes
 
 part_of : (framing : Framing) (limits : Allowed) (text : List ℕ) (number parts : ℕ) (part : CheckedPart) → part.begin ≤ part.end
     → ArePart framing limits text number parts part.begin part.end

@@ -1,5 +1,9 @@
 -- What was found of the bytes of one part.
-use Rattle.std.specs.Prelude.{◌≡◌, ◌⊎◌, ℕ, suc, ◌≤◌, ◌<◌, List, [], length, get_or, Option, Some, None, IfSome}
+use Rattle.std.specs.Prelude.{◌≡◌, ◌⊎◌, ℕ, suc, ◌+◌, ◌≤◌, ◌<◌, List, [], length, get_or, Option, Some, None, IfSome, IsSome}
+use Rattle.std.specs.Io.Iter.{u64_saturate}
+use Rattle.std.specs.IoError.{error_kind}
+use Rattle.std.below.std_io.specs.declared.io.error.Error.{Error}
+use Rattle.std.below.std_io.specs.declared.io.kind.ErrorKind.TheVariants.{OutOfMemory, UnexpectedEof}
 use Rattle.gj_json.specs.Limits.{Allowed}
 use Rattle.gj_join.specs.Joined.{IsVerdictOf, NumbersFit}
 use Rattle.gj_join.specs.Parts.{limits_after}
@@ -68,3 +72,13 @@ pub record AreNotesOfPart (framing : Framing) (limits : Allowed) (asked : Option
     : Type 0 where
   pub some : part.begin < part.end → AreNotesIf framing (limits_after limits part.begin) asked (bytes_between part.begin part.end text) told
   pub empty : part.begin ≡ part.end → AreNoNotes asked told
+
+-- ---- why a part is not checked
+
+-- the bytes end before this place, as far as the source tells them
+abbrev pub EndsBefore : Option (List ℕ) → (place : ℕ) → Error → Type 0
+EndsBefore known place error = (error_kind error ≡ UnexpectedEof) × IfSome known (λ text. length text < place)
+
+-- given how many reads had failed before: one more failed, or there was no memory for the notes that are asked for
+abbrev pub IsFailure : Option Asked → (old new : ℕ) → Error → Type 0
+IsFailure asked old new error = (new ≡ u64_saturate (old + 1)) ⊎ (IsSome asked × (error_kind error ≡ OutOfMemory))

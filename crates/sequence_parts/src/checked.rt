@@ -1,14 +1,15 @@
 //! What is found of one part of an input of records.
 
-ghost use Rattle.std.specs.Prelude.{◌≡◌, ◌<◌, ◌≤◌, IfOk, IfSome, length};
+ghost use Rattle.std.specs.Prelude.{◌≡◌, ◌⊎◌, ◌<◌, ◌≤◌, ◌+◌, IfErr, IfOk, IfSome, MatchResult, length};
 ghost use Rattle.gj_join.specs.Joined.{IsVerdictOf};
 ghost use Rattle.gj_join.specs.Parts.{limits_after};
-ghost use Rattle.sequence_parts.specs.Checked.{IsPartOf, AreNotesOfPart, AreNotesIf, AreNoNotes, AreNotesBefore, reading_of};
+ghost use Rattle.sequence_parts.specs.Checked.{IsPartOf, AreNotesOfPart, AreNotesIf, AreNoNotes, AreNotesBefore, EndsBefore, IsFailure, reading_of};
 ghost use Rattle.geolint_report.specs.Judged.{Finds};
 ghost use Rattle.sequence_parts.specs.Cuts.{bytes_between};
+ghost use Rattle.sequence_parts.specs.Internal.EarlyEnds.{CountsFailureOrEnds};
 ghost use Rattle.sequence_parts.specs.Ranges.{ArePart, IsEnd};
 
-use crate::cuts::find_cut;
+use crate::cuts::{byte_at, find_cut};
 use crate::joining::nothing;
 use crate::ranges::Share;
 use crate::window::Window;
@@ -52,10 +53,12 @@ struct Bounds {
     ghost ordered: { begin ≤ end },
 }
 
-/// Checks the bytes of a part of a source of `size` bytes, and no others. The limit on the bytes is that of the whole.
+/// Checks the bytes of a part of a source of `size` bytes, and no others. The limit on the bytes is that of the whole. The source is
+/// returned, which has counted the reads that failed.
 ///
-/// An error is returned where a read failed, where the source has changed, or where it gave no byte before the end of the part.
-pub fn check_part<S: Rewind + Drop>(
+/// An error is returned where a read failed, where the source has changed, where it gave no byte before the end of the part, or where
+/// there is no memory for the notes.
+pub fn check_part<S: Rewind>(
     alloc: Global,
     source: S,
     size: u64,
@@ -64,23 +67,31 @@ pub fn check_part<S: Rewind + Drop>(
     limits: Limits,
     asked: Option<Asked>,
     meter: &mut Meter,
-) -> io::Result<ListedPart>
-    ensures bytes { IfOk result (λ found. IfSome (S.text source) (λ text. length text ≡ size
+) -> (io::Result<ListedPart>, S)
+    ensures bytes { IfOk result.0 (λ found. IfSome (S.text source) (λ text. length text ≡ size
         → ArePart framing limits text share.number share.parts found.part.begin found.part.end)) }
-    ensures part { IfOk result (λ found. IfSome (S.text source) (λ text. length text ≡ size → IsPartOf framing limits text found.part)) }
-    ensures notes { IfOk result (λ found. IfSome (S.text source) (λ text. AreNotesOfPart framing limits asked text found.part found.notes)) }
+    ensures part { IfOk result.0 (λ found. IfSome (S.text source) (λ text. length text ≡ size → IsPartOf framing limits text found.part)) }
+    ensures notes { IfOk result.0 (λ found. IfSome (S.text source) (λ text. AreNotesOfPart framing limits asked text found.part found.notes)) }
+    ensures failed { IfErr result.0 (λ error. IsFailure asked (S.failed_reads source) (S.failed_reads result.1) error
+        ⊎ EndsBefore (S.text source) size error) }
 {
     let mut source = source;
-    let bounds = find_bounds(&mut source, size, share, framing, limits)?;
-    let found = check_bytes(alloc, source, bounds, framing, limits, asked, meter)?;
-    Ok(ListedPart {
-        part: CheckedPart {
-            begin: bounds.begin,
-            end: bounds.end,
-            verdict: found.0,
-        },
-        notes: found.1,
-    })
+    let bounds = match find_bounds(&mut source, size, share, framing, limits) {
+        Ok(bounds) => bounds,
+        Err(error) => return (Err(error), source),
+    };
+    let (found, source) = check_bytes(alloc, source, bounds, framing, limits, asked, meter);
+    match found {
+        Ok((verdict, notes)) => {
+            let part = CheckedPart {
+                begin: bounds.begin,
+                end: bounds.end,
+                verdict,
+            };
+            (Ok(ListedPart { part, notes }), source)
+        }
+        Err(error) => (Err(error), source),
+    }
 }
 
 /// Where the part begins and ends: with no cut in its range it has no byte.
@@ -93,7 +104,9 @@ fn find_bounds<S: Rewind>(
 ) -> io::Result<Bounds>
     ensures bytes { IfOk result (λ bounds. IfSome (S.text source.old) (λ text. length text ≡ size
         → ArePart framing limits text share.number share.parts bounds.begin bounds.end)) }
+    ensures within { IfOk result (λ bounds. (bounds.end ≤ size) × (bounds.begin < bounds.end → bounds.begin < limits.bytes)) }
     ensures text { S.text source.new ≡ S.text source.old }
+    ensures failed { CountsFailureOrEnds (S.text source.old) size (S.failed_reads source.old) (S.failed_reads source.new) result }
 {
     let from = share.from(size);
     let until = share.until(size);
@@ -124,8 +137,9 @@ fn find_end<S: Rewind>(
     requires within { until ≤ size }
     requires some { 0 < size → 0 < until }
     ensures end { IfOk result (λ end. IfSome (S.text source.old) (λ text. length text ≡ size → IsEnd framing limits text until end)) }
-    ensures after { IfOk result (λ end. until ≤ end) }
+    ensures after { IfOk result (λ end. (until ≤ end) × (end ≤ size)) }
     ensures text { S.text source.new ≡ S.text source.old }
+    ensures failed { CountsFailureOrEnds (S.text source.old) size (S.failed_reads source.old) (S.failed_reads source.new) result }
 {
     if until == 0 {
         return Ok(size);
@@ -137,7 +151,7 @@ fn find_end<S: Rewind>(
 }
 
 /// The verdict of the bytes of a part by themselves, under what the limit leaves to them, and the notes on their records.
-fn check_bytes<S: Rewind + Drop>(
+fn check_bytes<S: Rewind>(
     alloc: Global,
     source: S,
     bounds: Bounds,
@@ -145,28 +159,46 @@ fn check_bytes<S: Rewind + Drop>(
     limits: Limits,
     asked: Option<Asked>,
     meter: &mut Meter,
-) -> io::Result<(SeqVerdict, Option<Notes>)>
-    ensures verdict { IfOk result (λ found. IfSome (S.text source) (λ text. bounds.begin < bounds.end
+) -> (io::Result<(SeqVerdict, Option<Notes>)>, S)
+    requires { bounds.begin < bounds.end → bounds.begin < limits.bytes }
+    ensures verdict { IfOk result.0 (λ found. IfSome (S.text source) (λ text. bounds.begin < bounds.end
         → IsVerdictOf framing (limits_after limits bounds.begin) (bytes_between bounds.begin bounds.end text) found.0)) }
-    ensures notes { IfOk result (λ found. IfSome (S.text source) (λ text. bounds.begin < bounds.end
+    ensures notes { IfOk result.0 (λ found. IfSome (S.text source) (λ text. bounds.begin < bounds.end
         → AreNotesIf framing (limits_after limits bounds.begin) asked (bytes_between bounds.begin bounds.end text) found.1)) }
-    ensures none { IfOk result (λ found. bounds.begin ≡ bounds.end → AreNoNotes asked found.1) }
+    ensures none { IfOk result.0 (λ found. bounds.begin ≡ bounds.end → AreNoNotes asked found.1) }
+    ensures failed { IfErr result.0 (λ error. IsFailure asked (S.failed_reads source) (S.failed_reads result.1) error
+        ⊎ EndsBefore (S.text source) bounds.end error) }
 {
     if bounds.begin == bounds.end {
-        return Ok((nothing(), no_notes(alloc, asked)));
+        return (Ok((nothing(), no_notes(alloc, asked))), source);
     }
-    // Bytes at the limit or beyond it belong to a part that begins before.
-    let Some(left) = limits_left(limits, bounds.begin) else {
-        return Err(io::Error::from(ErrorKind::InvalidInput));
-    };
+    let left = limits_left(limits, bounds.begin);
     let mut window = Window::new(source, bounds.begin, bounds.end);
-    let found = find(alloc, &mut window, left, framing, asked, meter)?;
+    let found = check_window(alloc, &mut window, bounds.end - 1, left, framing, asked, meter);
+    (found, window.source)
+}
+
+/// Those of the bytes in a window, of which the last one is at the place `last` of the source.
+fn check_window<S: Rewind>(
+    alloc: Global,
+    window: &mut Window<S>,
+    last: u64,
+    limits: Limits,
+    framing: Framing,
+    asked: Option<Asked>,
+    meter: &mut Meter,
+) -> io::Result<(SeqVerdict, Option<Notes>)>
+    ensures verdict { IfOk result (λ found. IfSome (⟦<Window<S> as Source>⟧.remaining window.old) (λ text. IsVerdictOf framing limits text found.0)) }
+    ensures notes { IfOk result (λ found. AreNotesBefore framing limits asked (⟦<Window<S> as Source>⟧.remaining window.old) found.1) }
+    ensures failed { IfErr result (λ error. IsFailure asked (S.failed_reads window.old.source) (S.failed_reads window.new.source) error
+        ⊎ EndsBefore (S.text window.old.source) (last + 1) error) }
+{
+    let found = find(alloc, window, limits, framing, asked, meter)?;
     window.source.expect_unchanged()?;
-    if window.is_short {
-        return Err(io::Error::from(ErrorKind::UnexpectedEof));
-    }
+    byte_at(&mut window.source, last)?;
     match found.0 {
         Finding::Sequence(verdict) => Ok((verdict, found.1)),
+        // Nothing else is found of records.
         _ => Err(io::Error::from(ErrorKind::InvalidData)),
     }
 }
@@ -197,6 +229,8 @@ fn find<S: Source>(
     ensures found { IfOk result (λ found. Finds (reading_of framing) limits (S.remaining reader.old) (S.remaining reader.new) found.0) }
     ensures notes { IfOk result (λ found. AreNotesBefore framing limits asked (S.remaining reader.old) found.1) }
     ensures text { S.text reader.new ≡ S.text reader.old }
+    ensures failed { MatchResult result (λ _. S.failed_reads reader.new ≡ S.failed_reads reader.old)
+        (IsFailure asked (S.failed_reads reader.old) (S.failed_reads reader.new)) }
 {
     let reading = reading_of(framing);
     match asked {
@@ -209,6 +243,7 @@ fn find<S: Source>(
             let found = judge_every(alloc, reader, limits, reading, asked, meter)?;
             match notes_for(found.0, found.1, asked)? {
                 Some(notes) => Ok((found.0, Some(notes))),
+                // Records always have notes.
                 None => Err(io::Error::from(ErrorKind::InvalidData)),
             }
         }
@@ -225,9 +260,10 @@ fn reading_of(framing: Framing) -> Reading
     }
 }
 
-/// What the limit leaves to the bytes from `begin` on. `None` if it leaves none.
-fn limits_left(limits: Limits, begin: u64) -> Option<Limits>
-    ensures { IfSome result (λ left. left ≡ limits_after limits begin) }
+/// What the limit leaves to the bytes from `begin` on.
+fn limits_left(limits: Limits, begin: u64) -> Limits
+    requires { begin < limits.bytes }
+    ensures { result ≡ limits_after limits begin }
 {
-    Limits::new(limits.depth(), limits.bytes().saturating_sub(begin))
+    Limits::new(limits.depth(), limits.bytes() - begin).unwrap_or(limits)
 }

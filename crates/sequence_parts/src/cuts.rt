@@ -1,6 +1,6 @@
 //! Where an input of records may be cut.
 
-ghost use Rattle.std.specs.Prelude.{◌≡◌, ◌<◌, ◌≤◌, max, min, IfOk, IfSome};
+ghost use Rattle.std.specs.Prelude.{◌≡◌, ◌<◌, ◌≤◌, ◌+◌, max, min, IfOk, IfSome, get_or, length};
 ghost use Rattle.std.specs.Option.{SomeIff};
 ghost use Rattle.gj_join.specs.Parts.{may_begin};
 ghost use Rattle.sequence_parts.specs.Cuts.{IsFirstCut};
@@ -26,18 +26,14 @@ pub fn find_cut<S: Rewind>(
 ) -> io::Result<Option<u64>>
     requires { 0 < from }
     ensures cut { IfOk result (λ cut. IfSome (S.text source.old) (λ text. IsFirstCut framing limits text from until cut)) }
-    ensures range { IfOk result (λ cut. IfSome cut (λ place. (from ≤ place) × (place < until))) }
+    ensures range { IfOk result (λ cut. IfSome cut (λ place. (from ≤ place) × (place < min until limits.bytes))) }
     ensures text { S.text source.new ≡ S.text source.old }
     ensures failed { CountsFailureOrEnds (S.text source.old) (max from (min until limits.bytes)) (S.failed_reads source.old)
         (S.failed_reads source.new) result }
 {
     let until = lesser(until, limits.bytes());
     let separator = framing.separator();
-    let mut byte = [0];
-    if source.read_from(from - 1, &mut byte)? == 0 {
-        return Err(io::Error::from(ErrorKind::UnexpectedEof));
-    }
-    let mut follows_separator = byte[0] == separator;
+    let mut follows_separator = byte_at(source, from - 1)? == separator;
     let mut place = from;
     let mut piece = [0; PIECE];
     while place < until {
@@ -53,6 +49,19 @@ pub fn find_cut<S: Rewind>(
         place += count as u64;
     }
     Ok(None)
+}
+
+/// The byte at a place. Where the source gives none there, the error says so.
+pub fn byte_at<S: Rewind>(source: &mut S, place: u64) -> io::Result<u8>
+    ensures byte { IfOk result (λ byte. IfSome (S.text source.old) (λ text. (place < length text) × (byte ≡ get_or text place 0))) }
+    ensures text { S.text source.new ≡ S.text source.old }
+    ensures failed { CountsFailureOrEnds (S.text source.old) (place + 1) (S.failed_reads source.old) (S.failed_reads source.new) result }
+{
+    let mut byte = [0];
+    if source.read_from(place, &mut byte)? == 0 {
+        return Err(io::Error::from(ErrorKind::UnexpectedEof));
+    }
+    Ok(byte[0])
 }
 
 /// The lesser of two numbers.

@@ -1,6 +1,6 @@
 //! The bytes of a source from one place up to another.
 
-ghost use Rattle.std.specs.Prelude.{◌≡◌, ◌≤◌, ◌&&◌, ◌||◌, min, nat_eq, nat_lt};
+ghost use Rattle.std.specs.Prelude.{◌≡◌, ◌≤◌, min};
 ghost use Rattle.std.specs.Option.{option_map};
 ghost use Rattle.sequence_parts.specs.Cuts.{bytes_between};
 
@@ -15,8 +15,6 @@ pub struct Window<S> {
     /// The next byte.
     place: u64,
     end: u64,
-    /// The other source gave no byte before the end.
-    pub is_short: bool,
     ghost ordered: { place ≤ end },
 }
 
@@ -35,7 +33,6 @@ impl<S: Rewind> Window<S> {
             source,
             place: begin,
             end,
-            is_short: false,
         }
     }
 }
@@ -50,7 +47,6 @@ impl<S: Rewind> Source for Window<S> {
     fn read_piece(&mut self, piece: &mut [u8]) -> io::Result<usize> {
         match self.source.read_from(self.place, piece) {
             Ok(count) => {
-                self.is_short = is_short(self.is_short, count, piece.len(), self.end - self.place);
                 let taken = lesser(count, self.end - self.place);
                 self.place += taken as u64;
                 Ok(taken)
@@ -58,13 +54,6 @@ impl<S: Rewind> Source for Window<S> {
             Err(error) => Err(error),
         }
     }
-}
-
-/// Whether a read gave no byte, though there was room and bytes are left in the window, or one before did.
-fn is_short(was: bool, count: usize, room: usize, left: u64) -> bool
-    ensures { result ≡ (was || (nat_eq count 0 && (nat_lt 0 room && nat_lt 0 left))) }
-{
-    was || (count == 0 && 0 < room && 0 < left)
 }
 
 /// How many of the bytes read are in the window.

@@ -9,4 +9,5 @@ pub returns-clause-read : goal.returns-clause-read
 returns-clause-read g c =
     let found = c.in_ok-found.found in
     line-read (g.S.Source.text c.args.source) c.args.framing c.args.options.now c.asked_in-asked.result c.args.share found.part found.notes _
-    c.asked_in-asked.ensures refl c.listed_of.ensures refl c.in_ok-found.ensures.bytes c.in_ok-found.ensures.part c.in_ok-found.ensures.notes
+    c.asked_in-asked.ensures refl c.listed_of.ensures refl (rw c.in_ok-found.was at c.check_part-found.ensures.bytes)
+    (rw c.in_ok-found.was at c.check_part-found.ensures.part) (rw c.in_ok-found.was at c.check_part-found.ensures.notes)

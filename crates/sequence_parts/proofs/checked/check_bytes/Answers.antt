@@ -1,18 +1,26 @@
-use Rattle.sequence_parts.proofs.Common.{arith, limits_after, bytes_between}
+use Rattle.sequence_parts.proofs.Common.{List, ℕ, Allowed, arith, limits_after, bytes_between}
 use Rattle.std.proofs.Common.{rules}
-use Rattle.sequence_parts.proofs.NotesOfParts.{noted_bytes}
-use Rattle.sequence_parts.proofs.PartBounds.{read_bytes}
+use Rattle.std.proofs.lemmas.Result.{IfOk-weaker}
+use Rattle.gj_join.specs.Joined.{IsVerdictOf}
+use Rattle.gj_rules.specs.declared.sequence.verdict.SeqVerdict.{SeqVerdict}
+use Rattle.geolint_report.specs.declared.every.listing.Notes.{Notes}
+use Rattle.std.specs.Prelude.{Option}
+use Rattle.sequence_parts.specs.Checked.{AreNotesIf}
+use Rattle.sequence_parts.proofs.PartBounds.{in_part}
 use Rattle.sequence_parts.proofs.checked.check_bytes.Goals as goal
 
-pub returns-in-Sequence : goal.returns-in-Sequence
-returns-in-Sequence g c =
+pub returns-clause-verdict : goal.returns-clause-verdict
+returns-clause-verdict g c =
     let bounds = c.args.bounds in
-    let text = g.S.Source.text c.args.source in
-    let found = c.in_ok-found.found in
-    record {
-      verdict = read_bytes text _ _ (bytes_between bounds.begin bounds.end) c.args.framing (limits_after c.args.limits bounds.begin) c.in-Some.left
-          found.0 c.in-Sequence.verdict bounds.begin bounds.end c.new-window.ensures.bytes c.in-Sequence.is c.in-Some.ensures c.in_ok-found.ensures.found;
-      notes = noted_bytes text _ (bytes_between bounds.begin bounds.end) c.args.framing (limits_after c.args.limits bounds.begin) c.in-Some.left c.args.asked
-          found.1 bounds.begin bounds.end c.new-window.ensures.bytes c.in-Some.ensures c.in_ok-found.ensures.notes;
-      none = λ same. absurd (search (arith, rules, same));
-    }
+    let left = c.limits_left-left.result in
+    IfOk-weaker c.check_window-found.result _ _ (λ found is. in_part (λ (l : Allowed) (text : List ℕ). IsVerdictOf c.args.framing l text found.0)
+    (g.S.Source.text c.args.source) _ (bytes_between bounds.begin bounds.end) (limits_after c.args.limits bounds.begin) left bounds.begin bounds.end
+    c.new-window.ensures.bytes c.limits_left-left.ensures is) c.check_window-found.ensures.verdict
+
+pub returns-clause-notes : goal.returns-clause-notes
+returns-clause-notes g c =
+    let bounds = c.args.bounds in
+    let left = c.limits_left-left.result in
+    IfOk-weaker c.check_window-found.result _ _ (λ found is. in_part (λ (l : Allowed) (text : List ℕ). AreNotesIf c.args.framing l c.args.asked text found.1)
+    (g.S.Source.text c.args.source) _ (bytes_between bounds.begin bounds.end) (limits_after c.args.limits bounds.begin) left bounds.begin bounds.end
+    c.new-window.ensures.bytes c.limits_left-left.ensures is) c.check_window-found.ensures.notes

@@ -10,7 +10,7 @@ returns-in-Some-clause-cut g c =
     let known = g.S.Source.text c.args.source.now in
     let place = c.loop-place.place in
     let count = c.in_ok-count.count in
-    let piece = c.read_from-in-loop-place.new.piece in
+    let piece = c.read_from.new.piece in
     let at = place + c.in-Some.index in
     let gave = subst (λ (text : Option (List ℕ)). GaveBy text place count piece) c.loop-place.invariant.text c.in_ok-count.ensures.bytes in
     let capped : c.lesser-until.result ≡ min c.args.until c.args.limits.bytes =
@@ -25,12 +25,12 @@ loop-place-preserved g c =
     let known = g.S.Source.text c.args.source.now in
     let place = c.loop-place.place in
     let count = c.in_ok-count.count in
-    let piece = c.read_from-in-loop-place.new.piece in
+    let piece = c.read_from.new.piece in
     let gave = subst (λ (text : Option (List ℕ)). GaveBy text place count piece) c.loop-place.invariant.text c.in_ok-count.ensures.bytes in
     let bound : count ≤ length piece = c.in_ok-count.ensures.bound.0 in
     record {
       from = omega (arith, c.loop-place.invariant.from);
-      text = c.read_from-in-loop-place.ensures.text ∙ c.loop-place.invariant.text;
+      text = c.read_from.ensures.text ∙ c.loop-place.invariant.text;
       unfailed = c.in_ok-count.ensures.failed ∙ c.loop-place.invariant.unfailed;
       searched = search_more known c.args.framing c.args.limits c.args.from place count piece c.loop-place.follows_separator _
           (omega (arith, c.requires, c.loop-place.invariant.from)) gave (omega (arith, c.if-count-eq0.false)) bound c.in_default.ensures
