@@ -174,7 +174,15 @@ fn check_bytes<S: Rewind>(
     }
     let left = limits_left(limits, bounds.begin);
     let mut window = Window::new(source, bounds.begin, bounds.end);
-    let found = check_window(alloc, &mut window, bounds.end - 1, left, framing, asked, meter);
+    let found = check_window(
+        alloc,
+        &mut window,
+        bounds.end - 1,
+        left,
+        framing,
+        asked,
+        meter,
+    );
     (found, window.source)
 }
 
