@@ -5,6 +5,7 @@ pub mod Grammar
 pub mod Text
 pub mod Utf8Bytes
 pub mod Broken
+pub mod BetweenTokens
 pub mod Limits
 pub mod Refusal
 pub mod Longest

@@ -1,12 +1,14 @@
 //! Spaces that are taken at once.
 
-ghost use Rattle.std.specs.Prelude.{◌≡◌, ℕ, ◌++◌, List, replicate, false, IsTrue};
+ghost use Rattle.std.specs.Prelude.{◌≡◌, ◌≤◌, ℕ, ◌+◌, ◌++◌, List, length, replicate, false, IsTrue, None};
 
 use super::FeatureLinter;
 use crate::feature::FeatureSink;
 use gj_json::bytes_taken;
 
 impl<S: FeatureSink> FeatureLinter<S> {
+    ghost use Rattle.gj_json.specs.BetweenTokens.{IsBetweenTokens};
+    ghost use Rattle.gj_json.specs.Broken.{Broken, SpellsBroken};
     ghost use Rattle.gj_json.specs.Bytes.{space};
     ghost use Rattle.gj_rules.specs.FeatureLinter.{StandsFor, limits_of, refusal_of, sink_of};
 
@@ -14,6 +16,8 @@ impl<S: FeatureSink> FeatureLinter<S> {
     /// nothing changes.
     pub fn take_spaces(&mut self, count: u64) -> bool
         ensures stands { (bytes : List ℕ) → IsTrue result → StandsFor S.told self.old bytes → StandsFor S.told self.new (bytes ++ replicate count space) }
+        ensures taken { (bytes : List ℕ) (broken : Broken) → StandsFor S.told self.old bytes → refusal_of self.old ≡ None → SpellsBroken broken bytes
+            → IsBetweenTokens broken → length bytes + count ≤ (limits_of self.old).bytes → IsTrue result }
         ensures same { result ≡ false → self.new ≡ self.old }
         ensures limits { limits_of self.new ≡ limits_of self.old }
         ensures refusal { refusal_of self.new ≡ refusal_of self.old }

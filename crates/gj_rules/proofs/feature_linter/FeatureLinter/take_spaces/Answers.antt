@@ -26,3 +26,7 @@ returns-clause-stands g c = λ bytes taken h.
           (c.take_spaces.ensures.refusal ∙ live) h.1
           (λ events told. ([], rw (append-nil events) told, silent)),
     )
+
+pub returns-clause-taken : goal.returns-clause-taken
+unfolding StandsFor
+returns-clause-taken g c = λ bytes broken h live spelled between room. c.take_spaces.ensures.taken bytes broken h.0 live spelled between room
