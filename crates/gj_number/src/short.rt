@@ -156,34 +156,6 @@ impl Short {
         without_last(self.digits, down) * ten_to(down as usize) != self.digits
     }
 
-    /// [`Short::cut_within`] and [`Short::is_precise`] at once.
-    #[inline(always)]
-    pub fn judged_within(self, most: u8) -> Option<(i32, bool)>
-        requires { most ≤ 200 }
-        ensures cut { option_map (λ judged. judged.0) result ≡ cut_within (most * 10 ^ cut_places) (cut_of (exact_of self)) }
-        ensures precise { IfSome result (λ judged. IsTrue judged.1 ↔ (cut_places < places_of (exact_of self))) }
-    {
-        match self.magnitude_within(most as u64) {
-            Some(magnitude) => Some((
-                small_with_sign(self.negative, magnitude),
-                self.is_more_than(magnitude),
-            )),
-            None => None,
-        }
-    }
-
-    /// Whether digits are left of it where its magnitude is cut to seven places.
-    #[inline(always)]
-    fn is_more_than(self, magnitude: u64) -> bool
-        requires { magnitude ≡ cut_magnitude (exact_of self) }
-        ensures { IsTrue result ↔ (cut_places < places_of (exact_of self)) }
-    {
-        if self.places <= CUT_PLACES {
-            return false;
-        }
-        magnitude * ten_to((self.places - CUT_PLACES) as usize) != self.digits
-    }
-
     /// Whether both are the same number.
     #[inline]
     pub fn same(self, other: Short) -> bool

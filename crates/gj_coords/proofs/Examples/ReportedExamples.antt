@@ -11,10 +11,6 @@ Reported warnings kind count first = (count_of kind warnings ≡ count) × (firs
 none : Reported [] W2 0 None
 none = (refl, refl)
 
--- a byte order mark
-at_the_start : Reported (warning_at 0 W1 ∷ []) W1 1 (Some 0)
-at_the_start = (refl, refl)
-
 -- {"crs":1,"crs":2,"type":"Point","coordinates":[1,2]}
 twice : Reported (warning_at 1 W9 ∷ warning_at 9 W9 ∷ []) W9 2 (Some 1)
 twice = (refl, refl)
@@ -47,8 +43,3 @@ no_warning = refl
 one_by_one : added (added no_warnings W3 50) W3 36 ≡ warnings_of (warning_at 50 W3 ∷ warning_at 36 W3 ∷ [])
 unfolding added no_warnings warnings_of
 one_by_one = refl
-
-both_lists : joined (warnings_of (warning_at 50 W3 ∷ [])) (warnings_of (warning_at 36 W3 ∷ warning_at 1 W9 ∷ [])) ≡ warnings_of
-    (warning_at 50 W3 ∷ warning_at 36 W3 ∷ warning_at 1 W9 ∷ [])
-unfolding joined warnings_of
-both_lists = refl

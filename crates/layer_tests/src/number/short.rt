@@ -177,26 +177,6 @@ fn knows_the_precise(rt: HostRuntime) {
     }
 }
 
-/// A number, and where it is at most 180 its value in units of 10⁻⁷ and whether it has more than seven decimal places.
-static JUDGED: [(&str, Option<(i32, bool)>); 5] = [
-    ("-122.4194155,", Some((-1224194155, false))),
-    ("-122.41941550,", Some((-1224194155, false))),
-    ("-122.41941559,", Some((-1224194155, true))),
-    ("180.00000009,", Some((1800000000, true))),
-    ("180.0000001,", None),
-];
-
-#[test]
-fn judges_within(rt: HostRuntime) {
-    for (text, expected) in JUDGED.iter() {
-        let judged = match found(text) {
-            Some((short, _)) => short.judged_within(180),
-            None => None,
-        };
-        equal(&rt, judged, *expected, text);
-    }
-}
-
 /// Two numbers, and whether they are the same.
 static PAIRS: [(&str, &str, bool); 6] = [
     ("1.5,", "1.50]", true),
