@@ -1,10 +1,9 @@
 -- What is told of the records of a part.
-use Rattle.sequence_parts.proofs.Common.{◌≡◌, ◌<◌, ℕ, subst, List, Option, IfSome, Allowed, limits_after, Framing, bytes_between, CheckedPart}
+use Rattle.sequence_parts.proofs.Common.{◌≡◌, ◌<◌, ℕ, List, Option, IfSome, Allowed, limits_after, Framing, bytes_between, CheckedPart}
 use Rattle.std.proofs.Common.{Some, None}
-use Rattle.std.specs.Option.{option_map}
 use Rattle.geolint_report.specs.declared.every.listing.Asked.{Asked}
 use Rattle.geolint_report.specs.declared.every.listing.Notes.{Notes}
-use Rattle.sequence_parts.specs.Checked.{AreNotesIf, AreNotesBefore, AreNoNotes, AreNotesOfPart}
+use Rattle.sequence_parts.specs.Checked.{AreNotesIf, AreNoNotes, AreNotesOfPart}
 
 -- those of its bytes, and none where it has none
 pub notes-of-part : (known : Option (List ℕ)) (framing : Framing) (limits : Allowed) (asked : Option Asked) (part : CheckedPart) (told : Option Notes)

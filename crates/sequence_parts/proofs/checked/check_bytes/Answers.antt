@@ -1,10 +1,6 @@
-use Rattle.sequence_parts.proofs.Common.{List, ℕ, Allowed, arith, limits_after, bytes_between}
-use Rattle.std.proofs.Common.{rules}
+use Rattle.sequence_parts.proofs.Common.{List, ℕ, Allowed, limits_after, bytes_between}
 use Rattle.std.proofs.lemmas.Result.{IfOk-weaker}
 use Rattle.gj_join.specs.Joined.{IsVerdictOf}
-use Rattle.gj_rules.specs.declared.sequence.verdict.SeqVerdict.{SeqVerdict}
-use Rattle.geolint_report.specs.declared.every.listing.Notes.{Notes}
-use Rattle.std.specs.Prelude.{Option}
 use Rattle.sequence_parts.specs.Checked.{AreNotesIf}
 use Rattle.sequence_parts.proofs.PartBounds.{in_part}
 use Rattle.sequence_parts.proofs.checked.check_bytes.Goals as goal

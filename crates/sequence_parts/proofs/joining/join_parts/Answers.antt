@@ -1,4 +1,4 @@
-use Rattle.std.proofs.Common.{ap, arith, refl, ◌≡◌, ◌<◌, ◌∙◌, ℕ, subst, sym, length}
+use Rattle.std.proofs.Common.{arith, refl, ◌≡◌, ◌<◌, ◌∙◌, ℕ, subst, sym, length}
 use Rattle.sequence_parts.proofs.JoinedVerdicts.{whole_text, same_joined, more_joined, counted_more, few_before, one_more}
 use Rattle.std.specs.Prelude.{IsSome}
 use Rattle.sequence_parts.specs.Internal.Covered.{GoTo}

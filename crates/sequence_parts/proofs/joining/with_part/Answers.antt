@@ -1,8 +1,5 @@
-use Rattle.std.proofs.Common.{ap, arith, subst, sym}
-use Rattle.std.specs.Prelude.{◌+◌, ◌≤◌}
+use Rattle.std.proofs.Common.{arith}
 use Rattle.std.proofs.lemmas.Option.{IfSome_then}
-use Rattle.gj_rules.specs.declared.sequence.verdict.SeqVerdict.{SeqVerdict}
-use Rattle.sequence_parts.specs.Checked.{records_in}
 use Rattle.sequence_parts.proofs.JoinedVerdicts.{both_fit, next_part_if, records_of_both}
 use Rattle.sequence_parts.proofs.joining.with_part.Goals as goal
 
