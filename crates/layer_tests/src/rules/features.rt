@@ -284,3 +284,42 @@ fn features_of_two_sinks(rt: HostRuntime) {
     let is_last = after.count == 1 && after.features[0] == Some(last);
     holds(&rt, is_last, "one after");
 }
+
+/// What comes before three spaces and after them, whether they are taken at once, and where.
+static SPACES: [(&[u8], &[u8], bool, &str); 6] = [
+    (b"{\"features\":[{}", b",7]}", true, "after an element"),
+    (
+        b"{\"features\":[",
+        b"7]}",
+        true,
+        "in an array that has opened",
+    ),
+    (b"{\"a\":", b"7}", true, "before a value"),
+    (
+        b"{\"features\":[7",
+        b"]}",
+        false,
+        "after what may be a part of a number",
+    ),
+    (b"{\"a", b"\":7}", false, "in a name"),
+    (b"{}}", b"", false, "after a refusal"),
+];
+
+/// Spaces that are taken at once are those that are fed.
+#[test]
+fn spaces_at_once(rt: HostRuntime) {
+    for (before, after, taken, row) in SPACES.iter() {
+        let mut at_once = linter();
+        let mut fed = linter();
+        at_once.feed(before);
+        fed.feed(before);
+        holds(&rt, at_once.take_spaces(3) == *taken, row);
+        if *taken {
+            fed.feed(b"   ");
+        }
+        at_once.feed(after);
+        fed.feed(after);
+        holds(&rt, at_once.offset() == fed.offset(), row);
+        holds(&rt, at_once.finish().0 == fed.finish().0, row);
+    }
+}
