@@ -97,6 +97,7 @@ def words_compared(folders):
             ["--every", "--most", "7", "--summary"],
             ["--strict"],
             ["--strict", "--allow", "w5, W9", "--summary"],
+            ["--deny", "w5", "--allow", "W5"],
             ["--quick", "--summary"],
             ["--seq"],
             ["--ndjson", "--summary"],
