@@ -328,9 +328,9 @@ geolint_lines geolint_lines_feed(geolint_lines lines, const void *bytes, size_t 
  * They are those that the functions return, on systems with 64-bit addresses. */
 
 #define GEOLINT_ALIGNMENT 16
-#define GEOLINT_SIZE 199184
-#define GEOLINT_FEATURES_SIZE 246352
-#define GEOLINT_RECORDS_SIZE 199616
+#define GEOLINT_SIZE 199056
+#define GEOLINT_FEATURES_SIZE 246192
+#define GEOLINT_RECORDS_SIZE 199488
 #define GEOLINT_LOCATOR_SIZE 5120
 
 /* ---- texts */
