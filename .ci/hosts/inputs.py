@@ -34,7 +34,7 @@ KINDS = [
     POINT % b"1e999,0", POINT % b"-1E-999,0", b'{"type":"Point"}', POINT[:-1] % b"0,0", b'{"file":"C:\\maps"}', b"", b"{", POINT % b"113.4,52.5" + b"\n" + POINT % b"52.5,113.4",
     600 * b" " + b"[1,]", b"[" + 600 * b"1," + b"]", b"[1," + 256 * b" " + b"]", b"[1," + 255 * b" " + b"]", b'{"a":"' + 600 * b"b" + b"\xc3", b'["' + 600 * b"b" + b'\xc3"]',
 ]
-HINTS = 27
+HINTS = 28
 
 
 def cuts_of(dice, size):
