@@ -7,7 +7,9 @@ ghost use Rattle.report_forms.specs.Forms.Github.{escaped_in_message, escaped_in
 ghost use Rattle.report_forms.specs.Names.{shown_name};
 ghost use Rattle.report_forms.specs.Forms.Github.{github_command, github_warning, github_warnings, github_not_valid, github_rest, github_told, github_unread};
 
-use crate::formats::{hint_on, level, put_and_hint, put_and_path, put_and_record, put_and_times, put_name};
+use crate::formats::{
+    hint_on, level, put_and_hint, put_and_path, put_and_record, put_and_times, put_name,
+};
 use crate::options::Options;
 use geolint_report::found::Found;
 use geolint_report::line::{put, put_all, put_number};

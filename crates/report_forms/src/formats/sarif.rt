@@ -143,7 +143,13 @@ impl Log {
     {
         match warning(kind, warnings) {
             Some((told, count)) => {
-                self.put_result(level(options.strictness.fails(kind)), report, &told, count, line)
+                self.put_result(
+                    level(options.strictness.fails(kind)),
+                    report,
+                    &told,
+                    count,
+                    line,
+                )
             }
             None => Ok(()),
         }

@@ -29,10 +29,13 @@ strictness_Decides : (one other : Strictness) → Decides (alike one other) (one
 strictness_Decides one other =
     let parts = Decides-and _ _ (booleans_Decides one.strict other.strict)
     (Decides-and _ _ (slice_eq-Decides booleans_Decides one.allowed.contained other.allowed.contained _ refl)
-    (slice_eq-Decides booleans_Decides one.denied.contained other.denied.contained _ refl)) in
-    (λ t. let (s, (a, d)) = parts.0 t in same _ _ _ _ _ _ s a d,
-    λ e. parts.1 (ap (λ (o : Strictness). o.strict) e,
-    (ap (λ (o : Strictness). o.allowed.contained) e, ap (λ (o : Strictness). o.denied.contained) e)))
+    (slice_eq-Decides booleans_Decides one.denied.contained other.denied.contained _ refl)) in (
+      λ t. let (s, (a, d)) = parts.0 t in same _ _ _ _ _ _ s a d,
+      λ e. parts.1 (
+        ap (λ (o : Strictness). o.strict) e,
+        (ap (λ (o : Strictness). o.allowed.contained) e, ap (λ (o : Strictness). o.denied.contained) e),
+      ),
+    )
 
 abbrev set : Framing → ℕ → ℕ → Strictness → Settings
 set framing bytes depth strictness = record { framing = framing; limits = record { bytes = bytes; depth = depth }; strictness = strictness }
@@ -48,10 +51,16 @@ settings_Decides : (one other : Settings) → Decides (tested one other) (one �
 settings_Decides one other =
     let parts = Decides-and _ _ (same_true the_type (search rules) one.framing other.framing, true_same the_type one.framing other.framing)
     (Decides-and _ _ (Decides-and _ _ (Decides-eqb one.limits.bytes other.limits.bytes) (Decides-eqb one.limits.depth other.limits.depth))
-    (strictness_Decides one.strictness other.strictness)) in
-    (λ t. let (f, (l, s)) = parts.0 t in same_set _ _ _ _ _ _ _ _ f l.0 l.1 s,
-    λ e. parts.1 (ap (λ (o : Settings). o.framing) e, ((ap (λ (o : Settings). o.limits.bytes) e, ap (λ (o : Settings). o.limits.depth) e),
-    ap (λ (o : Settings). o.strictness) e)))
+    (strictness_Decides one.strictness other.strictness)) in (
+      λ t. let (f, (l, s)) = parts.0 t in same_set _ _ _ _ _ _ _ _ f l.0 l.1 s,
+      λ e. parts.1 (
+        ap (λ (o : Settings). o.framing) e,
+        (
+          (ap (λ (o : Settings). o.limits.bytes) e, ap (λ (o : Settings). o.limits.depth) e),
+          ap (λ (o : Settings). o.strictness) e,
+        ),
+      ),
+    )
 
 pub returns-then-ne-3-clause-complete : goal.returns-then-ne-3-clause-complete
 returns-then-ne-3-clause-complete c = λ like.
