@@ -1,9 +1,9 @@
 -- What is reported of some warnings, by computing.
-use Rattle.gj_coords.proofs.Common.{Kind, W1, W2, W3, W4, W5, W8, Warning, first_of, greatest_count, joined_noted, noted_as, warning_at}
+use Rattle.gj_coords.proofs.Common.{Kind, W2, W3, W4, W5, W8, Warning, first_of, greatest_count, joined_noted, noted_as, warning_at}
 use Rattle.std.proofs.Common.{◌≡◌, ℕ, List, [], ◌∷◌, Option, Some, None, refl}
 use Rattle.gj_coords.specs.declared.kind.Kind.TheVariants.{W9}
 use Rattle.gj_coords.specs.Warnings.{count_of}
-use Rattle.gj_coords.specs.Internal.KeptWarnings.{no_warnings, warnings_of, added, joined}
+use Rattle.gj_coords.specs.Internal.KeptWarnings.{no_warnings, warnings_of, added}
 
 abbrev Reported : List Warning → Kind → ℕ → Option ℕ → Type 0
 Reported warnings kind count first = (count_of kind warnings ≡ count) × (first_of kind warnings ≡ first)
