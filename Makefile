@@ -1,4 +1,4 @@
-# Builds and installs geolint and geolint-files: the programs, their man pages, docs/rules.md and the completions for bash, zsh
+# Builds and installs geolint, geolint-files and geolint-parallel: the programs, their man pages, docs/rules.md and the completions for bash, zsh
 # and fish.
 #
 #     make
@@ -11,18 +11,6 @@ PREFIX ?= /usr/local
 DESTDIR ?=
 
 to := $(DESTDIR)$(PREFIX)
-program := $(to)/bin/geolint
-manual := $(to)/share/man/man1/geolint.1
-bash := $(to)/share/bash-completion/completions/geolint
-zsh := $(to)/share/zsh/site-functions/_geolint
-fish := $(to)/share/fish/vendor_completions.d/geolint.fish
-rules := $(to)/share/doc/geolint/rules.md
-
-program_files := $(to)/bin/geolint-files
-manual_files := $(to)/share/man/man1/geolint-files.1
-bash_files := $(to)/share/bash-completion/completions/geolint-files
-zsh_files := $(to)/share/zsh/site-functions/_geolint-files
-fish_files := $(to)/share/fish/vendor_completions.d/geolint-files.fish
 
 .PHONY: build test install uninstall
 build:
@@ -34,21 +22,15 @@ test:
 	.ci/run $(if $(QUICK),--quick)
 
 install: build
-	install -D -m 755 crates/geolint/out/geolint "$(program)"
-	install -D -m 644 docs/geolint.1 "$(manual)"
-	install -D -m 644 contrib/completions/geolint.bash "$(bash)"
-	install -D -m 644 contrib/completions/_geolint "$(zsh)"
-	install -D -m 644 contrib/completions/geolint.fish "$(fish)"
-	install -D -m 644 docs/rules.md "$(rules)"
-	install -D -m 755 crates/geolint_files/out/geolint_files "$(program_files)"
-	install -D -m 644 docs/geolint-files.1 "$(manual_files)"
-	install -D -m 644 contrib/completions/geolint-files.bash "$(bash_files)"
-	install -D -m 644 contrib/completions/_geolint-files "$(zsh_files)"
-	install -D -m 644 contrib/completions/geolint-files.fish "$(fish_files)"
+	install -D -m 755 crates/geolint/out/geolint "$(to)/bin/geolint"
+	install -D -m 755 crates/geolint_files/out/geolint_files "$(to)/bin/geolint-files"
+	install -D -m 755 contrib/geolint-parallel "$(to)/bin/geolint-parallel"
+	install -D -m 644 docs/rules.md "$(to)/share/doc/geolint/rules.md"
+	contrib/options install "$(to)/share"
 
 uninstall:
-	rm -f "$(program)" "$(manual)" "$(bash)" "$(zsh)" "$(fish)" "$(rules)"
-	rm -f "$(program_files)" "$(manual_files)" "$(bash_files)" "$(zsh_files)" "$(fish_files)"
+	rm -f "$(to)"/bin/geolint "$(to)"/bin/geolint-files "$(to)"/bin/geolint-parallel "$(to)/share/doc/geolint/rules.md"
+	contrib/options uninstall "$(to)/share"
 
 # What each public item promises, from the sources: docs/contracts.md. It needs no rt.
 .PHONY: contracts

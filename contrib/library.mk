@@ -38,8 +38,7 @@ $(LIBRARY_BUILD)/libgeolint.so: $(LIBRARY_BUILD)/libgeolint.a
 	$(CC) -shared -Wl,-soname,libgeolint.so.0 -Wl,--whole-archive $< -Wl,--no-whole-archive -o $@
 
 rust := Cargo.toml build.rs src/lib.rs src/findings.rs src/hints.rs src/places.rs tests/linter.rs tests/findings.rs
-python := __init__.py __main__.py _build.py _demands.py _findings.py _hints.py _known.py _linter.py _native.py _places.py _sources.py _verdict.py dask.py django.py starlette.py py.typed \
-	_command/__init__.py _command/files.py _command/forms.py _command/run.py
+python := __init__.py __main__.py _build.py _demands.py _findings.py _hints.py _known.py _linter.py _native.py _parts.py _places.py _sources.py _verdict.py dask.py django.py starlette.py py.typed
 cmake := geolint-config.cmake geolint-config-version.cmake
 # $(call fill,TEMPLATE,FILE): both without what stands before them here.
 fill = $(GEOLINT_ROOT)/contrib/library/fill $(GEOLINT_ROOT)/contrib/library/$(1) "$(DESTDIR)$(2)" '$(PREFIX)' '$(LIBDIR)' '$(INCLUDEDIR)' $(VERSION)
@@ -53,7 +52,7 @@ install-library: library
 	$(INSTALL) -d "$(DESTDIR)$(RUSTDIR)/src" "$(DESTDIR)$(RUSTDIR)/tests"
 	cd $(GEOLINT_ROOT)/contrib/library/rust && for file in $(rust); do $(INSTALL) -m 644 $$file "$(DESTDIR)$(RUSTDIR)/$$file" || exit; done
 	rm -f "$(DESTDIR)$(PYTHONDIR)/geolint.py"
-	$(INSTALL) -d "$(DESTDIR)$(PYTHONDIR)/geolint/_command"
+	$(INSTALL) -d "$(DESTDIR)$(PYTHONDIR)/geolint"
 	cd $(GEOLINT_ROOT)/contrib/library/python/geolint && \
 		for file in $(python); do $(INSTALL) -m 644 $$file "$(DESTDIR)$(PYTHONDIR)/geolint/$$file" || exit; done
 	$(call fill,python/geolint/_native.py,$(PYTHONDIR)/geolint/_native.py)
@@ -68,7 +67,7 @@ uninstall-library:
 	rm -f "$(DESTDIR)$(LIBDIR)/libgeolint.a" "$(DESTDIR)$(LIBDIR)/libgeolint.so" "$(DESTDIR)$(LIBDIR)/libgeolint.so.0"
 	rm -f "$(DESTDIR)$(LIBDIR)/pkgconfig/geolint.pc" "$(DESTDIR)$(INCLUDEDIR)/geolint.h" "$(DESTDIR)$(INCLUDEDIR)/geolint.hpp"
 	for file in $(python); do rm -f "$(DESTDIR)$(PYTHONDIR)/geolint/$$file"; done
-	rm -rf "$(DESTDIR)$(PYTHONDIR)/geolint/__pycache__" "$(DESTDIR)$(PYTHONDIR)/geolint/_command/__pycache__"
-	rmdir "$(DESTDIR)$(PYTHONDIR)/geolint/_command" "$(DESTDIR)$(PYTHONDIR)/geolint" 2>/dev/null || true
+	rm -rf "$(DESTDIR)$(PYTHONDIR)/geolint/__pycache__"
+	rmdir "$(DESTDIR)$(PYTHONDIR)/geolint" 2>/dev/null || true
 	for file in $(cmake); do rm -f "$(DESTDIR)$(LIBDIR)/cmake/geolint/$$file"; done
 	for file in $(rust); do rm -f "$(DESTDIR)$(RUSTDIR)/$$file"; done

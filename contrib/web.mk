@@ -32,7 +32,7 @@ $(WEB_BUILD)/geolint_64.wasm: $(WEB_BUILD)/libgeolint_c.a
 	$(KIT)/bin/rattle-link --target wasm64-unknown-unknown --toolchain $(KIT)/toolchain -o $@ $<
 
 # The calls of geolint.h that no script makes. They are left out of the module, of which geolint_check alone is a seventh.
-web_unused := check|offset|features_offset|records_offset|features_begin_again|records_begin_again|hint_text|lines_begin
+web_unused := check|offset|features_offset|records_offset|features_begin_again|records_begin_again|hint_text|lines_begin|run_\w+|join_\w+
 # Not every browser has memories with 64-bit addresses, so they are lowered to 32 bits.
 # LLVM has put into their callers the functions that are worth it. More of it by binaryen makes the page 2 kB larger, and not faster.
 # `-s 1` makes the module half a kilobyte smaller as the page holds it.
@@ -53,6 +53,7 @@ npm: $(WEB_BUILD)/geolint.wasm
 	mkdir -p $(NPM_BUILD)/package
 	modules=$$($(WEB)/scripts.py geolint geolint-files geolint-language-server) && \
 	    cp $$modules $(addprefix $(top)/,contrib/web/geolint.d.ts contrib/npm/README.md contrib/npm/package.json docs/rules.md) $< $(NPM_BUILD)/package
+	$(top)/contrib/options json geolint-files >$(NPM_BUILD)/package/options.json
 	sed -i 's|@VERSION@|$(VERSION)|' $(NPM_BUILD)/package/package.json
 	cd $(NPM_BUILD)/package && npm pack --silent --pack-destination ..
 
@@ -69,5 +70,5 @@ QGIS_ZIP := $(top)/out/qgis/geolint_qgis-$(VERSION).zip
 .PHONY: qgis
 qgis: $(QGIS_ZIP)
 $(QGIS_ZIP): $(LIBRARY_BUILD)/libgeolint.so $(wildcard $(top)/out/library-windows/geolint.dll $(top)/out/library-macos/libgeolint.dylib) \
-    $(wildcard $(QGIS)/* $(QGIS)/plugin/* $(WEB)/*.js $(addprefix $(top)/contrib/library/python/geolint/,*.py _command/*.py)) $(top)/VERSION
+    $(wildcard $(QGIS)/* $(QGIS)/plugin/* $(WEB)/*.js $(top)/contrib/library/python/geolint/*.py) $(top)/VERSION
 	$(QGIS)/make-plugin $@ $(filter %.so %.dll %.dylib,$^)

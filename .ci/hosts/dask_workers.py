@@ -1,6 +1,6 @@
 """geolint.dask on the workers of a scheduler: what it says of each file is what one reading says, also where a worker is killed.
 
-    dask_workers.py FOLDER SCHEDULER    FOLDER has sequences, of each NAME.geojsons the report in json NAME.report, and a program `kills`;
+    dask_workers.py FOLDER SCHEDULER    FOLDER has sequences and features.geojson, of each NAME the report in json NAME.report, and a program `kills`;
                                         each.found has each finding of `broken`, and first.found the first one
 
 Each worker has geolint-files in PATH. It is run by the Python that has Debian's package python3-distributed."""
@@ -28,8 +28,8 @@ def refusal(call, *words, **options):
 
 
 def main(folder, file):
-    names = ["right", "broken", "runs", "few", "empty"]
-    paths = [f"{folder}/{name}.geojsons" for name in names]
+    names = ["right", "broken", "runs", "few", "empty", "features"]
+    paths = [f"{folder}/{name}.geojson{'' if name == 'features' else 's'}" for name in names]
     with distributed.Client(scheduler_file=file) as client:
         client.wait_for_workers(3)
         workers = set(client.scheduler_info()["workers"])
@@ -54,10 +54,11 @@ def main(folder, file):
         found = check([none, paths[0]], parts=2)
         wants("files of which one is not there", ([it["path"] for it in found], found[0]["passes"], found[1:]), ([none, paths[0]], False, whole[:1]))
         # The first task of each call kills its worker, and is done by another.
-        for number, call in enumerate((lambda words: check(paths[1], parts=9, **words), lambda words: check(paths, **words)[1:2])):
+        calls = (lambda words: check(paths[1], parts=9, **words), lambda words: check(paths, **words)[1:2], lambda words: check(paths[5], parts=9, **words))
+        for number, (call, name) in enumerate(zip(calls, ("broken", "broken", "features"))):
             mark = f"{folder}/killed-{number}"
             os.symlink(mark, f"{folder}/mark")
-            wants("where a worker is killed", call({"program": f"{folder}/kills"}), report_of(folder, "broken"))
+            wants("where a worker is killed", call({"program": f"{folder}/kills"}), report_of(folder, name))
             wants("it was killed", os.path.isdir(mark), True)
             os.remove(f"{folder}/mark")
         client.wait_for_workers(3)

@@ -7,7 +7,6 @@ It is run by the Python that has Debian's packages python3-django, python3-fasta
 import json
 import pathlib
 import socket
-import subprocess
 import sys
 import tempfile
 import threading
@@ -17,7 +16,7 @@ from wsgiref.simple_server import make_server
 import django
 import fastapi
 import uvicorn
-from checks import ended, wants
+from checks import curl, ended, wants
 from django import forms
 from django.conf import settings
 from django.core.handlers.wsgi import WSGIHandler
@@ -35,15 +34,6 @@ from geolint.django import GeoJSONUploadHandler, GeoJSONValidator
 from geolint.starlette import GeoJSON, GeoJSONBody, NotGeoJSON, answer
 
 MOST = 300_000
-
-
-def curl(url, *words, given=b""):
-    """The status and the text of the answer."""
-    done = subprocess.run(
-        ["curl", "-sS", "--max-time", "30", "-w", "\n%{http_code}", *words, url], input=given, stdout=subprocess.PIPE, check=False
-    )
-    text, _, status = done.stdout.decode().rpartition("\n")
-    return int(status), text
 
 
 def told(found):

@@ -25,6 +25,8 @@ def compare(program, path):
     source = ogr.Open(f"GEOLINT:{path}")
     (got,) = source.GetLayerByName("report")
     names = ("verdict", *PLACE, "hint")
+    # The program's hint names the file.
+    report["hint"] = report["hint"] and report["hint"].replace(f" {path}", " IN")
     wants(f"the report of {path}", [got.GetField(name) for name in names], [report[name] for name in names])
     layer = source.GetLayerByName("findings")
     # A layer is read as often as one likes.

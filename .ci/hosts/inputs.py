@@ -61,7 +61,7 @@ def lines_of(word, it):
     else:
         yield f"{word} {it['rule']}{number} {it['offset']} {spot(it)}"
     if it["hint"]:
-        yield f"hint {it['hint']}"
+        yield "hint " + it["hint"].replace(f" {it['path']}", " IN")
 
 
 def said(program, folder, *words):

@@ -337,10 +337,52 @@ static void a_hint(void) {
     geolint_free(linter);
 }
 
+static const char PARTS[] = "{\"type\":\"FeatureCollection\",\"features\":[{\"type\":\"Feature\",\"geometry\":null,\"properties\":null},"
+                            "{\"type\":\"Feature\",\"geometry\":null,\"properties\":null,\"crs\":1},{}]}";
+
+/* The two features of that text have 52 and 60 bytes, from 40 and from 93 on. */
+static void parts(void) {
+    geolint_run *run = (geolint_run *)malloc(geolint_run_size());
+    geolint_join *join = (geolint_join *)malloc(geolint_join_size());
+    geolint_sum sum = geolint_run_sum(NULL), first;
+    geolint_report report;
+    if (!run || !join) {
+        wants(0, "memory");
+        exit(1);
+    }
+    wants(geolint_run_begin(NULL, 0, 15) == GEOLINT_NULL && geolint_run_feed(NULL, "", 0) == GEOLINT_NULL && sum.status == GEOLINT_NULL, "a run at null");
+    wants(geolint_join_begin(NULL, 0, 0) == GEOLINT_NULL && geolint_join_feed(NULL, "", 0) == GEOLINT_NULL, "a join at null");
+    wants(geolint_join_pass_over(NULL, &sum) == 0 && geolint_join_finish(NULL).status == GEOLINT_NULL, "the rest of it");
+    wants(geolint_run_begin(run, 0, 14) == GEOLINT_LIMITS && geolint_run_feed(run, "", 0) == GEOLINT_ENDED, "a run that begins too early");
+    wants(geolint_run_begin(run, 2, 15) == GEOLINT_LIMITS && geolint_run_sum(run).status == GEOLINT_ENDED, "a run of two levels");
+    wants(geolint_run_begin(run, 0, (UINT64_C(1) << 60) + 1) == GEOLINT_LIMITS, "a run that begins too late");
+    wants(geolint_run_likely(PARTS, sizeof PARTS - 1) == 92 && geolint_run_likely("}", 1) == 0 && geolint_run_likely("", 0) == 0, "likely places");
+    wants(geolint_run_begin(run, 0, 92) == GEOLINT_DONE && geolint_run_sum(run).end == 92, "a run of no bytes");
+    wants(geolint_run_feed(run, PARTS + 92, sizeof PARTS - 1 - 92) == GEOLINT_DONE, "a run");
+    first = geolint_run_sum(run);
+    wants(first.status == GEOLINT_DONE && first.ended == 1 && first.begin == 92 && first.end == 153 && first.features == 1, "its sum");
+    wants(first.warnings[8].count == 1 && first.warnings[8].first == 145 && first.warnings[0].count == 0, "the warnings of a run");
+    wants(geolint_run_feed(run, "x", 1) == GEOLINT_REFUSED && geolint_run_sum(run).end == 153, "a refused byte");
+    wants(geolint_join_begin(join, 0, 0) == GEOLINT_DONE && geolint_join_pass_over(join, &first) == 0, "a join, and no feature yet");
+    wants(geolint_join_feed(join, PARTS, 92) == GEOLINT_DONE && geolint_join_pass_over(join, &first) == 1, "passing over");
+    wants(geolint_join_pass_over(join, &first) == 0, "no run twice");
+    wants(geolint_join_feed(join, "]}", 2) == GEOLINT_DONE, "the end of the text");
+    report = geolint_join_finish(join);
+    wants(report.verdict == GEOLINT_VALID && report.warnings[8].count == 1 && report.warnings[8].first == 145, "the report of a join");
+    wants(geolint_join_feed(join, "", 0) == GEOLINT_ENDED && geolint_join_pass_over(join, &first) == 0, "a join after the end");
+    wants(geolint_join_finish(join).status == GEOLINT_ENDED, "a second end");
+    wants(geolint_join_begin(join, 0, 152) == GEOLINT_DONE && geolint_join_feed(join, PARTS, 92) == GEOLINT_DONE, "another join");
+    wants(geolint_join_pass_over(join, &first) == 0, "a run beyond the limits");
+    wants(geolint_join_begin(join, 257, 0) == GEOLINT_LIMITS && geolint_join_finish(join).status == GEOLINT_ENDED, "a join beyond the limits");
+    free(run);
+    free(join);
+}
+
 static void sizes(void) {
     wants(GEOLINT_SIZE == geolint_size() && GEOLINT_ALIGNMENT == geolint_alignment(), "the size of a linter");
     wants(GEOLINT_FEATURES_SIZE == geolint_features_size() && GEOLINT_RECORDS_SIZE == geolint_records_size(), "the sizes of features and records");
     wants(GEOLINT_LOCATOR_SIZE == geolint_locator_size(), "the size of a locator");
+    wants(GEOLINT_RUN_SIZE == geolint_run_size() && GEOLINT_JOIN_SIZE == geolint_join_size(), "the sizes of runs and joins");
 }
 
 int main(void) {
@@ -350,6 +392,7 @@ int main(void) {
     a_path();
     a_line();
     a_hint();
+    parts();
     sizes();
     at_null();
     pieces_of_length_0();

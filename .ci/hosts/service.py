@@ -21,6 +21,7 @@ import sys
 import tempfile
 import time
 
+import checks
 import geolint
 from checks import ended, wants
 
@@ -30,13 +31,7 @@ POINT = b'{"type":"Point","coordinates":[1,2]}'
 
 
 def curl(*words, given=b"", accept="application/json", query=""):
-    """The status and the text of the answer."""
-    done = subprocess.run(
-        ["curl", "-sS", "--max-time", "60", "-H", f"Accept: {accept}", "-w", "\n%{http_code}", *words, url + query],
-        input=given, stdout=subprocess.PIPE, check=False,
-    )
-    text, _, status = done.stdout.decode().rpartition("\n")
-    return int(status), text
+    return checks.curl(url + query, "--max-time", "60", "-H", f"Accept: {accept}", *words, given=given)
 
 
 def stored():
@@ -53,7 +48,7 @@ def expected(text):
     found = geolint.features(text)
     broken = [it for it in found if not it]
     verdict = found.verdict
-    told = {"verdict": verdict.name, "strict": False, "hint": geolint.report(text).hint}
+    told = {"verdict": verdict.name, "strict": False, "deny": [], "hint": geolint.report(text).hint}
     if verdict:
         return {**told, "warnings": [{"code": f"W{w.kind}", "text": w.text, "count": w.count, "first": w.first} for w in verdict.warnings]}
 
@@ -100,12 +95,16 @@ def pages():
     wants("the form", (status, 'type="file"' in text, "<textarea" in text, "This is an example" in text), (200, True, True, True))
     status, text = curl("--data-binary", '{"type":"<b>"}', "-H", "Content-Type: text/plain", accept=html)
     wants("a page", (status, "It is not GeoJSON" in text, "line 1, column 9" in text, "<b>" in text), (422, True, True, False))
-    wants("a hint", "'hint'>the text is inside a string: jq" in curl("--data-binary", '"{}"', accept=html)[1], True)
+    wants("a hint", "'hint'>an object is inside a string: leave out" in curl("--data-binary", '"{}"', accept=html)[1], True)
     far = ["--data-binary", '{"type":"Point","coordinates":[52.5,113.4]}']
     status, text = curl(*far, accept=html, query="?strict")
     wants("a page under ?strict", (status, "not stored, for its warnings" in text, "look swapped" in text, stored()), (422, True, True, []))
     told = json.loads(curl(*far, query="?strict")[1])
     wants("under ?strict", (told["verdict"], told["strict"], told["stored"], told["hint"][:22]), ("valid", True, None, "latitude and longitude"))
+    for query, refused in (("?deny=W8", False), ("?deny=W5", True), ("?deny=W1,W8&deny=W5", True)):
+        told = json.loads(curl(*far, query=query)[1])
+        wants(f"under {query}", (told["stored"] is None, stored() == []), (refused, refused))
+    wants("what is no kind", (curl(*far, query="?deny=W5,G1")[0], curl(*far, query="?deny=")[0]), (400, 400))
     wants("a text without warnings, under ?strict", (curl("--data-binary", POINT.decode(), query="?strict")[0], stored()), (200, [POINT]))
     wants("JSON is preferred", curl("--data-binary", "[7]", accept="text/html;q=0.5, application/json")[1][0], "{")
     wants("a page is preferred", curl("--data-binary", "[7]", accept="text/html, application/json;q=0.5")[1][0], "<")

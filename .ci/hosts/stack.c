@@ -18,6 +18,8 @@ struct work {
     geolint_features *features;
     geolint_records *records;
     geolint_locator *locator;
+    geolint_run *run;
+    geolint_join *join;
 };
 
 static void *nothing(void *at) {
@@ -93,6 +95,31 @@ static void *by_place(void *at) {
     return NULL;
 }
 
+static size_t likely_place(const struct work *work) {
+    const size_t half = work->size / 2;
+    return half + geolint_run_likely(work->text + half, work->size - half);
+}
+
+static void *by_beginning(void *at) {
+    struct work *work = at;
+    geolint_run_begin(work->run, 0, likely_place(work));
+    return NULL;
+}
+
+/* With the run that is begun. */
+static void *by_parts(void *at) {
+    struct work *work = at;
+    const size_t place = likely_place(work);
+    geolint_run_feed(work->run, work->text + place, work->size - place);
+    geolint_sum sum = geolint_run_sum(work->run);
+    geolint_join_begin(work->join, 0, 0);
+    geolint_join_feed(work->join, work->text, place);
+    geolint_join_pass_over(work->join, &sum);
+    geolint_join_feed(work->join, work->text + place, work->size - place);
+    work->report = geolint_join_finish(work->join);
+    return NULL;
+}
+
 /* How many bytes of a stack were written; 0 where there was no thread. */
 static size_t written(struct work *work, unsigned char *stack) {
     pthread_attr_t how;
@@ -120,16 +147,18 @@ static struct {
     {by_findings, "findings", STREAM, 0},
     {by_place, "a place", 2 * STREAM, 0},
     {by_hint, "a hint", STREAM, 0},
+    {by_beginning, "the beginning of a run", 2 * CHECK, 0},
+    {by_parts, "parts", STREAM, 0},
 };
 enum { WAYS = sizeof ways / sizeof *ways };
 
 int main(int count, char **words) {
     static char text[MOST];
     void *stack = mmap(NULL, STACK, PROT_READ | PROT_WRITE, MAP_PRIVATE | MAP_ANONYMOUS | MAP_STACK, -1, 0);
-    struct work work = {nothing, text, 0, geolint_new(0, 0), {0}, malloc(geolint_features_size()), malloc(geolint_records_size()), malloc(geolint_locator_size())};
+    struct work work = {nothing, text, 0, geolint_new(0, 0), {0}, malloc(geolint_features_size()), malloc(geolint_records_size()), malloc(geolint_locator_size()), malloc(geolint_run_size()), malloc(geolint_join_size())};
     size_t bare, depth;
     int failed;
-    if (stack == MAP_FAILED || !work.linter || !work.features || !work.records || !work.locator || count < 2)
+    if (stack == MAP_FAILED || !work.linter || !work.features || !work.records || !work.locator || !work.run || !work.join || count < 2)
         return 2;
     /* What the first calls need for being linked is the system's. */
     for (size_t way = 0; way < WAYS; way++)
@@ -152,6 +181,8 @@ int main(int count, char **words) {
     free(work.features);
     free(work.records);
     free(work.locator);
+    free(work.run);
+    free(work.join);
     for (size_t way = 0; way < WAYS; way++) {
         printf("%s%zu bytes for %s", way ? ", " : "", ways[way].depth, ways[way].what);
         failed |= ways[way].depth > ways[way].most;

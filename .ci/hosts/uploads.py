@@ -3,23 +3,13 @@ verdicts of the library in one call, and what it stored with what was sent. Then
 
 import os
 import socket
-import subprocess
 import sys
 import tempfile
 import threading
 
 import geolint
 import upload
-from checks import ended, wants
-
-
-def curl(*words, given=b""):
-    """The status and the text of the answer."""
-    done = subprocess.run(
-        ["curl", "-sS", "--max-time", "30", "-w", "\n%{http_code}", *words, url], input=given, stdout=subprocess.PIPE, check=False
-    )
-    text, _, status = done.stdout.decode().rpartition("\n")
-    return int(status), text
+from checks import curl, ended, wants
 
 
 def sent(request):
@@ -54,19 +44,19 @@ def texts_that_are_sent(paths):
         }
         # Each text one way, and the first of all in each.
         for way, words in list(ways.items()) if number == 0 else [list(ways.items())[number % 4]]:
-            wants(f"{path} {way}", curl(*words), answer)
+            wants(f"{path} {way}", curl(url, *words), answer)
             wants(f"what is stored of {path} {way}", stored(), [text] if verdict else [])
 
 
 def other_requests():
-    status, text = curl()
+    status, text = curl(url)
     wants("GET", (status, "<form" in text and 'type="file"' in text), (200, True))
-    wants("HEAD", curl("-I")[0], 200)
+    wants("HEAD", curl(url, "-I")[0], 200)
     for method in ("PUT", "DELETE", "PATCH", "OPTIONS"):
-        status, text = curl("-i", "-X", method)
+        status, text = curl(url, "-i", "-X", method)
         wants(method, (status, "Allow: GET, HEAD, POST" in text), (405, True))
-    wants("a form without a file", curl("-F", "kind=map"), (400, "the form has no file\n"))
-    wants("a form without a boundary", curl("-H", "Content-Type: multipart/form-data", "-d", "x")[0], 400)
+    wants("a form without a file", curl(url, "-F", "kind=map"), (400, "the form has no file\n"))
+    wants("a form without a boundary", curl(url, "-H", "Content-Type: multipart/form-data", "-d", "x")[0], 400)
     post = b"POST / HTTP/1.1\r\nHost: x\r\n"
     for name, request, status in [
         ("no length", post + b"\r\n", 411),
@@ -94,11 +84,11 @@ def the_limit():
     chunked = ["-H", "Transfer-Encoding: chunked"]
     refusal = (413, "more than 300000 bytes\n")
     for words in [], chunked:
-        wants("the most bytes", curl(*words, "--data-binary", "@-", given=full), (200, "valid\n"))
+        wants("the most bytes", curl(url, *words, "--data-binary", "@-", given=full), (200, "valid\n"))
         wants("what is stored of them", stored(), [full])
-        wants("a byte more", curl(*words, "--data-binary", "@-", given=full + b" "), refusal)
-    wants("a form that is too large", curl("-F", "file=@-", given=full), refusal)
-    wants("many more", curl(*chunked, "--data-binary", "@-", given=full * 20), refusal)
+        wants("a byte more", curl(url, *words, "--data-binary", "@-", given=full + b" "), refusal)
+    wants("a form that is too large", curl(url, "-F", "file=@-", given=full), refusal)
+    wants("many more", curl(url, *chunked, "--data-binary", "@-", given=full * 20), refusal)
     wants("what is stored beyond the limit", stored(), [])
 
     class Endless:

@@ -341,7 +341,21 @@ static void places() {
     wants(lines.line() == 2 && lines.column() == 2, "a line and a column");
 }
 
+static void parts() {
+    const std::string feature = R"({"type":"Feature","geometry":null,"properties":null})";
+    const std::string head = R"({"type":"FeatureCollection","features":[)" + feature, rest = "," + feature + "," + feature;
+    geolint::Run run(head.size());
+    geolint::Join join;
+    wants(geolint::Run::likely(("  }" + rest).data(), rest.size() + 3) == 3, "a likely place");
+    wants(run && run.feed(rest.data(), rest.size()) && run.sum().features == 2 && run.sum().end == head.size() + rest.size(), "a run");
+    wants(!run.feed(",{}]", 4) && run.sum().features == 2, "a run that ends");
+    wants(join && join.feed(head.data(), head.size()) && join.pass_over(run.sum()) && !join.pass_over(run.sum()), "a join");
+    wants(join.feed("]}", 2) && join.finish().valid(), "the whole");
+    wants(!geolint::Run(14) && !geolint::Join(geolint::Limits(257)), "beyond the limits");
+}
+
 int main() {
+    parts();
     features();
     live_ranges();
     begun_again();

@@ -53,6 +53,7 @@ const rows = [
   ['{"type":"Topology","objects":{}}', "topojson"],
   ['{"displayFieldName":"","geometryType":"esriGeometryPoint"}', "esri"],
   ['{"spatialReference":{}}', "esri"],
+  ['{"features":[{"attributes":{}}]}', "esri"],
   ['"{\\"type\\":\\"Point\\"}"', "textInString"],
   ['{"type":"Point","coordinates":[52.5,113.4]}', "swapped"],
   ['{"type":"Point","coordinates":[522000.5,6070000]}', "metres"],
@@ -85,7 +86,8 @@ const bytesOf = (text) => Uint8Array.from(text, (it) => it.charCodeAt(0));
 mkdirSync(folder, { recursive: true });
 rows.forEach(([text], i) => writeFileSync(`${folder}/${i}.geojson`, bytesOf(text)));
 const said = spawnSync(program, ["--format", "json", ...rows.map((_, i) => `${folder}/${i}.geojson`)], { encoding: "utf8" });
-const native = said.stdout.trim().split("\n").map((line) => JSON.parse(line).hint);
+// The program's hints name the file.
+const native = said.stdout.trim().split("\n").map((line) => JSON.parse(line)).map(({ hint, path }) => hint?.replaceAll(` ${path}`, " IN") ?? null);
 
 const geolint = await load(readFileSync(module));
 let failed = 0;

@@ -68,10 +68,12 @@ def opened(browser, path=None):
 
 
 def sorts(text):
-    """The lines of a report as objects, without what the page does not tell: the folder of a file, and what stands at a place."""
+    """The lines of a report as objects, without what the page does not tell: the folder of a file, also in a hint, and what stands at a place."""
     found = [json.loads(line) for line in text.splitlines()]
     for it in found:
-        it["path"] = os.path.basename(it["path"])
+        path, it["path"] = it["path"], os.path.basename(it["path"])
+        if it.get("hint"):
+            it["hint"] = it["hint"].replace(path, it["path"])
         for place in (it, *it.get("warnings", [])):
             place.pop("found", None)
     return found
@@ -171,6 +173,37 @@ def dropped(browser):
         browser.wait(DONE.format(len(EXAMPLES) + 2))
         wants("a dropped folder", browser.value("[...document.querySelectorAll('h3')].some((it) => it.textContent === 'examples/faulty/open-ring.geojson')"))
         wants("what was skipped is reported", "skipped" in browser.value("document.getElementById('notice').textContent"))
+        opened(browser)
+        browser.choose("#folder", [f"{ROOT}/examples"])
+        browser.wait(DONE.format(len(EXAMPLES) + 2))
+        wants("a chosen folder", browser.value("[...document.querySelectorAll('h3')].some((it) => it.textContent === 'examples/faulty/open-ring.geojson')"))
+
+
+def denied(browser):
+    """The kinds of warning that do not pass: by keys, and by the address."""
+    opened(browser)
+    browser.choose("#files", [f"{ROOT}/examples/{it}.geojson" for it in ("cafes", "wells")])
+    browser.wait(DONE.format(2))
+    browser.value("document.querySelector('#demands summary').focus()")
+    browser.press("Enter")
+    is_open_to_all(browser, "the choice of warnings")
+    browser.shot(shots / f"{name}-denied.png")
+    said = f"[document.getElementById('counts').textContent, {SENTENCE}, document.querySelectorAll('#kinds :checked').length]"
+    all_pass = ["2 files: 1 valid, 1 valid with warnings", "Valid GeoJSON, with one thing that often causes problems.", 0]
+    counts = "2 files: 1 valid, 1 valid but not passing"
+    for label, checked in (("W9", 1), ("All", 10)):
+        wants("at first all pass", browser.value(said) == all_pass, browser.value(said))
+        browser.value(f"[...document.querySelectorAll('#kinds label')].find((it) => it.textContent.includes('{label}')).firstChild.focus()")
+        browser.press("Space")
+        wants(f"{label} does not pass", browser.value(said) == [counts, "Valid GeoJSON, but it does not pass, because of W9.", checked], browser.value(said))
+        wants("that is read aloud", browser.value("document.getElementById('status').textContent") == counts)
+        browser.value("document.getElementById('save-lines').click()")
+        passes = [it["passes"] for it in sorts(browser.downloaded("geolint-report.jsonl")) if "passes" in it]
+        wants("the saved lines say so", passes == [True, False], passes)
+        browser.press("Space")
+    opened(browser, f"file://{page}?deny=w4,W5&deny=W9")
+    named = browser.value("[...document.querySelectorAll('#kinds :checked')].map((it) => it.parentNode.textContent.slice(1, 3)).join()")
+    wants("the address chooses", named == "W4,W5,W9", named)
 
 
 def longer(times):
@@ -455,7 +488,7 @@ def in_the_dark():
 browser = Kind()
 print(f"{name}: {browser.version}")
 try:
-    for part in (by_keyboard, reports, listed, dropped, known_early, stopped, served, pictures):
+    for part in (by_keyboard, reports, denied, listed, dropped, known_early, stopped, served, pictures):
         part(browser)
     asked = {url.split(":")[0] for url in browser.requests() if not url.startswith("http://127.0.0.1:")}
     wants("no request to anywhere", asked <= {"file", "blob", "data", "about"}, asked)

@@ -6,92 +6,62 @@ import { constants, createReadStream, readFileSync } from "node:fs";
 import { dirname, join, sep } from "node:path";
 import { parseArgs } from "node:util";
 import { endsIn, framingOf, FOLDER_ENDINGS } from "./endings.js";
-import { load, textOf, jsonOf, jsonOfUnread, linesOf, sarifOf, githubOf, githubOfUnread, eachOf } from "./geolint.js";
+import { load, textOf, jsonOf, jsonOfUnread, linesOf, sarifOf, githubOf, githubOfUnread, eachOf, demandsOf } from "./geolint.js";
 import { textOfFindings, jsonOfFindings, linesOfFindings, githubOfFindings } from "./geolint.js";
+import { chaptersOf } from "./session.js";
 
-const USAGE = `Checks GeoJSON files, and says for each that is not valid where and why
-
-Usage: geolint-files [--strict] [--allow W4,W9] [--deny W5] [--quick] [--max-bytes N] [--format lines|json|github|sarif|text] [--summary]
-                     [--seq | --ndjson] [--every[=warnings]] [--most N] [--files-from FILE|-] [--null] [--ending ENDING]
-                     [--allow-empty] [PATH ..]
-
-  --strict         A valid file with a warning does not pass
-  --allow KINDS    Under --strict, warnings of these kinds do not fail a file, such as W4,W9
-  --deny KINDS     Warnings of these kinds fail a file, such as W5
-  --quick          Say only whether each text is valid, and stop reading as soon as it cannot be valid
-  --max-bytes N    Refuse files of more than N bytes
-  --format FORMAT  The form of the report: lines (the default), json, github, sarif or text
-  --summary        Count the files at the end
-  --seq            Check each file as a text sequence (RFC 8142), whatever its name is
-  --ndjson         Check each line of each file as a text of its own, whatever the name is
-  --every          After a file's report, list each feature that breaks a rule, or each record that is not valid; =warnings: also
-                   the warnings of the others
-  --most N         Under --every, list at most N findings of a file (1000 unless given). 0 lifts this limit
-  --files-from FILE  Also check the paths in this file, or in standard input if it is -, one in each line
-  -0, --null       Each path of --files-from ends with NUL
-  --ending ENDING  In a folder, also check files with this ending, such as json. May be given several times
-  --allow-empty    Do not fail if there is no file to check
-  --help, --version
-
-A PATH is a file, a folder, in which each ${FOLDER_ENDINGS.map((it) => `*${it}`).join(", ")} is
-checked, or - for standard input. With no PATH and no --files-from, standard input is checked.
-
-Exit status: 0 if every file is valid, 1 if a file is not, 2 if a file could not be read, no file was checked, or the arguments are wrong.
-`;
-
-const OPTIONS = {
-  strict: { type: "boolean" },
-  allow: { type: "string", multiple: true, default: [] },
-  deny: { type: "string", multiple: true, default: [] },
-  quick: { type: "boolean" },
-  "max-bytes": { type: "string" },
-  format: { type: "string", default: "lines" },
-  summary: { type: "boolean" },
-  "files-from": { type: "string" },
-  null: { type: "boolean", short: "0" },
-  ending: { type: "string", multiple: true, default: [] },
-  "allow-empty": { type: "boolean" },
-  seq: { type: "boolean" },
-  ndjson: { type: "boolean" },
-  every: { type: "boolean" },
-  "every-warnings": { type: "boolean" },
-  most: { type: "string", default: "1000" },
-  help: { type: "boolean" },
-  version: { type: "boolean" },
-};
-const FORMATS = ["lines", "json", "github", "sarif", "text"];
+const read = (name) => readFileSync(new URL(name, import.meta.url), "utf8");
+const NOT_SERVED = ["split", "force", "part", "join", "file"];
+const { about, after, options } = JSON.parse(read("options.json"));
+// Nor is the form for GitLab.
+const servedOf = (it) => ({ ...it, values: it.values.filter((value) => value !== "gitlab"), notes: it.notes.replace(", gitlab", "") });
+const SERVED = options.filter(({ name }) => !NOT_SERVED.includes(name)).map(servedOf);
 
 class WrongWords extends Error {}
 
+/** What --help says. */
+function helpText() {
+  const lines = SERVED.map(({ name, letter, help, notes, value_name: value, alone }) => {
+    const word = `--${name}${alone ? `[=<${value}>]` : value ? ` <${value}>` : ""}`;
+    return `  ${letter ? `-${letter},` : "   "} ${word.padEnd(19)}  ${help}${notes}\n`;
+  });
+  return `${about}\n\nUsage: geolint-files [OPTIONS] [PATH]...\n\nOptions:\n${lines.join("")}\n${after}\n`;
+}
+
+/** Sees that an option may be given with the others, and takes what it was given. */
+function tryOption({ name, values, least, conflicts, needs }, given) {
+  const other = conflicts.find((it) => given[it] !== undefined);
+  if (other) throw new WrongWords(`--${name} and --${other} cannot be given together`);
+  if (needs.some((it) => given[it] === undefined)) throw new WrongWords(`--${name} needs --${needs[0]}`);
+  const isNumber = (it) => /^[0-9]+$/.test(it) && BigInt(it) >= BigInt(least) && BigInt(it) <= 1n << 60n;
+  const isWrong = (it) => (values.length && !values.includes(it)) || (least !== null && !isNumber(it));
+  const wrong = [given[name]].flat().find(isWrong);
+  const wanted = least === null ? values.join(", ") : `a number from ${least} to 2^60`;
+  if (wrong !== undefined) throw new WrongWords(`invalid value '${wrong}' for '--${name}': it is ${wanted}`);
+}
+
 /** The words of the call, tried. */
 function givenWords() {
+  const known = SERVED.map(({ name, letter, value_name: value, several, default: usual }) => {
+    const preset = several ? { default: [] } : usual ? { default: usual } : {};
+    return [name, { type: value ? "string" : "boolean", multiple: Boolean(several), ...preset, ...(letter ? { short: letter } : {}) }];
+  });
   let given;
   try {
-    const args = process.argv.slice(2).map((it) => (it === "--every=warnings" ? "--every-warnings" : it));
-    given = parseArgs({ args, options: OPTIONS, allowPositionals: true });
+    const args = process.argv.slice(2).map((it) => (it === "--every" ? "--every=faults" : it));
+    given = parseArgs({ args, options: Object.fromEntries(known), allowPositionals: true });
   } catch (error) {
     throw new WrongWords(error.message);
   }
-  const { values, positionals } = given;
-  if (values.quick && (values.every || values["every-warnings"])) throw new WrongWords("--quick and --every cannot be given together");
-  if (values.null && values["files-from"] === undefined) throw new WrongWords("--null is for the paths of --files-from");
-  if (values.seq && values.ndjson) throw new WrongWords("--seq and --ndjson cannot be given together");
-  if (!/^[0-9]+$/.test(values.most)) throw new WrongWords(`invalid value '${values.most}' for '--most': it is a number`);
-  if (!FORMATS.includes(values.format)) throw new WrongWords(`invalid value '${values.format}' for '--format': it is ${FORMATS.join(", ")}`);
-  const most = values["max-bytes"];
-  if (most !== undefined && (!/^[0-9]+$/.test(most) || BigInt(most) < 1n || BigInt(most) > 1n << 60n)) {
-    throw new WrongWords(`invalid value '${most}' for '--max-bytes': it is a number from 1 to 2^60`);
-  }
-  const [allowed, denied] = ["allow", "deny"].map((option) => {
-    const kinds = values[option].flatMap((it) => it.toUpperCase().split(",")).map((it) => it.trim());
-    const unknown = kinds.find((it) => !/^W[1-9]$/.test(it));
-    if (unknown !== undefined) throw new WrongWords(`invalid value '${unknown}' for '--${option}': it is W1 to W9`);
-    return kinds;
-  });
-  const which = values["every-warnings"] ? "findings" : values.every ? "faults" : null;
-  const framing = values.seq ? "sequence" : values.ndjson ? "lines" : null;
-  const endings = [...FOLDER_ENDINGS, ...values.ending.map((it) => `.${it.replace(/^\./, "").toLowerCase()}`)];
-  return { ...values, maxBytes: most === undefined ? 0 : BigInt(most), allowed, denied, endings, which, framing, most: Number(values.most) || Infinity, paths: positionals, list: values["files-from"] ?? null };
+  const kindsOf = (list) => list.flatMap((it) => it.toUpperCase().split(",")).map((it) => it.trim());
+  const { values, positionals: paths } = given;
+  const words = { ...values, allow: kindsOf(values.allow), deny: kindsOf(values.deny), explain: values.explain?.toUpperCase() };
+  for (const option of SERVED) if (words[option.name] !== undefined) tryOption(option, words);
+  const endings = [...FOLDER_ENDINGS, ...words.ending.map((it) => `.${it.replace(/^\./, "").toLowerCase()}`)];
+  const which = { faults: "faults", warnings: "findings" }[words.every] ?? null;
+  const framing = words.seq ? "sequence" : words.ndjson ? "lines" : null;
+  const maxBytes = BigInt(words["max-bytes"] ?? 0);
+  return { ...words, maxBytes, which, framing, endings, paths, most: Number(words.most) || Infinity, list: words["files-from"] ?? null };
 }
 
 /** The paths that are given, and those of a list: { path, isListed } each. */
@@ -212,8 +182,7 @@ async function bytesOf(file, from, to) {
 /** Checks all files, writes what the form has of each, and returns the status. */
 async function run(words) {
   const geolint = await load();
-  const fails = (rule) => words.denied.includes(rule) || (Boolean(words.strict) && !words.allowed.includes(rule));
-  const passes = (it) => it.verdict === "valid" && !it.warnings.some(({ rule }) => fails(rule));
+  const { fails, passes } = demandsOf(words);
   const forms = {
     lines: (name, { verdict, items, more }) => linesOf(shown(name), verdict) + linesOfFindings(shown(name), items, more),
     json: (name, { verdict, items, more }) => [jsonOf(name, verdict, passes), ...jsonOfFindings(name, items, more), ""].join("\n"),
@@ -254,7 +223,7 @@ async function run(words) {
 
 /** The version, and the commit and the proof kit of a package that `make dist` made. */
 function versionLines() {
-  const { version, geolint: build } = JSON.parse(readFileSync(new URL("package.json", import.meta.url)));
+  const { version, geolint: build } = JSON.parse(read("package.json"));
   return `geolint-files ${version}\n${build ? `commit: ${build.commit}\nproved and compiled by: ${build.kit}\n` : ""}`;
 }
 
@@ -268,11 +237,12 @@ process.stdout.on("error", (error) => {
 });
 try {
   const words = givenWords();
-  if (words.help) process.stdout.write(USAGE);
+  if (words.help) process.stdout.write(helpText());
+  else if (words.explain) process.stdout.write(chaptersOf(read("rules.md")).get(words.explain).replace("### ", ""));
   else if (words.version) process.stdout.write(versionLines());
   else process.exitCode = await run(words);
 } catch (error) {
-  process.stderr.write(error instanceof WrongWords ? `geolint-files: ${shown(error.message)}\n\n${USAGE}` : `geolint-files: ${error.message}\n`);
+  process.stderr.write(`geolint-files: ${shown(error.message)}\n${error instanceof WrongWords ? "\nFor more information, try '--help'.\n" : ""}`);
   process.exitCode = 2;
 }
 // Node may wait for ever for its own compiler of the module, so the command does not leave its end to it.

@@ -9,18 +9,18 @@ CREATE TYPE geojson_verdict AS (
     message text,
     warnings jsonb
 );
-COMMENT ON TYPE geojson_verdict IS 'what a text is: valid, or the broken rule G1 to G21 or the cause J1 to J4 at this byte; warnings of a valid text';
+COMMENT ON TYPE geojson_verdict IS 'what a text is: valid, or the broken rule or the cause at this byte; warnings of a valid text';
 
-CREATE FUNCTION is_geojson(body text, max_depth integer DEFAULT 256, max_bytes bigint DEFAULT 1152921504606846976)
+CREATE FUNCTION is_geojson(body text, max_depth integer DEFAULT 256, max_bytes bigint DEFAULT 1152921504606846976, deny text[] DEFAULT '{}')
 RETURNS boolean AS 'MODULE_PATHNAME', 'is_geojson_text' LANGUAGE C IMMUTABLE STRICT PARALLEL SAFE COST 100;
 
-CREATE FUNCTION is_geojson(body json, max_depth integer DEFAULT 256, max_bytes bigint DEFAULT 1152921504606846976)
+CREATE FUNCTION is_geojson(body json, max_depth integer DEFAULT 256, max_bytes bigint DEFAULT 1152921504606846976, deny text[] DEFAULT '{}')
 RETURNS boolean AS 'MODULE_PATHNAME', 'is_geojson_text' LANGUAGE C IMMUTABLE STRICT PARALLEL SAFE COST 100;
 
-CREATE FUNCTION is_geojson(body bytea, max_depth integer DEFAULT 256, max_bytes bigint DEFAULT 1152921504606846976)
+CREATE FUNCTION is_geojson(body bytea, max_depth integer DEFAULT 256, max_bytes bigint DEFAULT 1152921504606846976, deny text[] DEFAULT '{}')
 RETURNS boolean AS 'MODULE_PATHNAME', 'is_geojson_bytea' LANGUAGE C IMMUTABLE STRICT PARALLEL SAFE COST 100;
 
-CREATE FUNCTION is_geojson(body jsonb, max_depth integer DEFAULT 256, max_bytes bigint DEFAULT 1152921504606846976)
+CREATE FUNCTION is_geojson(body jsonb, max_depth integer DEFAULT 256, max_bytes bigint DEFAULT 1152921504606846976, deny text[] DEFAULT '{}')
 RETURNS boolean AS 'MODULE_PATHNAME', 'is_geojson_jsonb' LANGUAGE C IMMUTABLE STRICT PARALLEL SAFE COST 200;
 
 CREATE FUNCTION geojson_report(body text, max_depth integer DEFAULT 256, max_bytes bigint DEFAULT 1152921504606846976)

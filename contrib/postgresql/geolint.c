@@ -1,9 +1,11 @@
 /* The functions of geolint--0.1.0.sql. */
 #include "walk.h"
 
+#include <catalog/pg_type.h>
 #include <fmgr.h>
 #include <funcapi.h>
 #include <lib/stringinfo.h>
+#include <utils/array.h>
 #include <utils/builtins.h>
 #include <utils/json.h>
 #include <utils/jsonb.h>
@@ -27,8 +29,28 @@ static geolint_report judge_argument(FunctionCallInfo fcinfo, Question question,
     return judge(&pieces, question, &allowed);
 }
 
+/* Whether a text passes: valid, and without a warning of a kind that `deny` names. */
+static bool passes(FunctionCallInfo fcinfo, const geolint_report *report) {
+    ArrayType *deny = PG_GETARG_ARRAYTYPE_P(3);
+    bool is_passed = report->verdict == GEOLINT_VALID;
+    Datum *kinds;
+    bool *nulls;
+    int count;
+    if (ARR_NDIM(deny) == 0)
+        return is_passed;
+    deconstruct_array(deny, TEXTOID, -1, false, TYPALIGN_INT, &kinds, &nulls, &count);
+    for (int i = 0; i < count; i++) {
+        const char *kind = nulls[i] ? "" : TextDatumGetCString(kinds[i]);
+        if (strlen(kind) != 2 || kind[0] != 'W' || kind[1] < '1' || kind[1] >= '1' + GEOLINT_KINDS)
+            ereport(ERROR, errcode(ERRCODE_INVALID_PARAMETER_VALUE), errmsg("deny has kinds of warning from W1 to W9, as in '{W5}'"));
+        is_passed = is_passed && report->warnings[kind[1] - '1'].count == 0;
+    }
+    return is_passed;
+}
+
 static Datum is_argument_valid(FunctionCallInfo fcinfo, Coding coding) {
-    PG_RETURN_BOOL(judge_argument(fcinfo, IS_IT_VALID, coding).verdict == GEOLINT_VALID);
+    geolint_report report = judge_argument(fcinfo, IS_IT_VALID, coding);
+    PG_RETURN_BOOL(passes(fcinfo, &report));
 }
 
 PG_FUNCTION_INFO_V1(is_geojson_text);
@@ -54,7 +76,7 @@ Datum is_geojson_jsonb(PG_FUNCTION_ARGS) {
     geolint_report report = judge(&pieces, IS_IT_VALID, &allowed);
     pfree(text.data);
     PG_FREE_IF_COPY(body, 0);
-    PG_RETURN_BOOL(report.verdict == GEOLINT_VALID);
+    PG_RETURN_BOOL(passes(fcinfo, &report));
 }
 
 /* What is made once for all rows of a query: the row type of the call, and the warnings of most texts. */

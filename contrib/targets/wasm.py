@@ -71,4 +71,3 @@ def with_shuffles(text):
     for number, load in first_loads.items():
         lines[number] = f"{load}\n{lines[number]}"
     return "\n".join([*lines, f"declare {LANES} @llvm.wasm.swizzle({LANES}, {LANES})", ""])
-

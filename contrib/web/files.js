@@ -58,7 +58,7 @@ async function entriesOf(folder) {
 /** What is chosen: of a folder the files with the endings, otherwise all. */
 export function chosenFiles(list, isFolder) {
   const all = [...list].map((file) => ({ name: file.webkitRelativePath || file.name, file }));
-  const files = isFolder ? all.filter(({ name }) => isJudged(name)) : all;
+  const files = isFolder ? all.filter(({ name }) => endsIn(name, ENDINGS)) : all;
   files.sort((a, b) => (isFolder ? (a.name < b.name ? -1 : 1) : 0));
   return { files, others: all.length - files.length };
 }

@@ -1,6 +1,6 @@
 /** Where and why: a broken rule, the reason that a text is no JSON, or the first of a kind of warning. */
 export interface Place {
-  /** `G1` to `G21` of a broken text, `J1` to `J4` of what is no JSON text, `W1` to `W9` of a warning. */
+  /** The code: as `G15` of a broken text, `J1` of what is no JSON text, `W5` of a warning. */
   rule: string | null;
   /** What the rule says, as `ring not closed`. */
   text: string | null;
@@ -184,13 +184,22 @@ export class Geolint {
 /** Compiles the module: `geolint.wasm` beside this file, or the one that is given. */
 export function load(module?: BufferSource | WebAssembly.Module): Promise<Geolint>;
 
+/** A kind of warning, as `W5`. */
+export type WarningKind = `W${1 | 2 | 3 | 4 | 5 | 6 | 7 | 8 | 9}`;
+/** What passes, by the options of `geolint-files`: a valid file, with no warning of the kinds in `deny`, and if it is `strict` with none but those
+ *  in `allow`. `fails` says whether warnings of a kind fail a file, and `passes` whether a file passes. */
+export function demandsOf(demands?: { strict?: boolean; allow?: readonly WarningKind[]; deny?: readonly WarningKind[] }): {
+  fails(rule: string): boolean;
+  passes(verdict: Verdict): boolean;
+};
+
 /** The report of the program `geolint`. */
 export function textOf(verdict: Verdict): string;
-/** The forms of the program `geolint-files`: `json` (without an end of line), `lines`, `sarif`. */
+/** The forms of the program `geolint-files`: `json` (without an end of line), `lines`, `sarif`. `passes` is that of `demandsOf`. */
 export function jsonOf(name: string, verdict: Verdict, passes?: (verdict: Verdict) => boolean): string;
 export function jsonOfUnread(name: string, reason: string): string;
 export function linesOf(name: string, verdict: Verdict): string;
-/** The form `github`; `fails` says of a kind of warning whether it fails the file. */
+/** The form `github`; `fails` is that of `demandsOf`. */
 export function githubOf(name: string, verdict: Verdict, fails?: (rule: string) => boolean): string;
 export function githubOfUnread(name: string, reason: string): string;
 export function sarifOf(

@@ -25,6 +25,9 @@ export function say(name, values = {}) {
 export const whatOf = (rule) => TABLES[code].rules[rule][0];
 export const mendOf = (rule) => TABLES[code].rules[rule][1];
 
+/** The kinds of warning. */
+export const kindsOfWarning = () => Object.keys(TABLES[code].rules).filter((it) => it.startsWith("W"));
+
 export const number = (value, digits = 0) => formatter(Intl.NumberFormat, { maximumFractionDigits: digits }).format(value);
 
 /** A count of bytes, as 812 bytes, 14.2 kB, 50 MB. */

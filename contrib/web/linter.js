@@ -11,8 +11,6 @@ import { Lines, STRIDE } from "./lines.js";
 const PAGE = 65536;
 /** How many kinds of warning there are: W1 to W9. */
 export const KINDS = 9;
-/** How many rules there are: G1 to G21. */
-export const RULES = 21;
 const REPORT_SIZE = 32 + 16 * KINDS;
 /** Of a finding: its number, its two ends and the place of its id stand before its report. */
 const FINDING_HEAD = 32;

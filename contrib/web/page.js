@@ -1,13 +1,13 @@
 // The page: files in, verdicts out. The work is done in a worker. Nothing leaves this machine: the page's policy lets it reach no
 // address at all.
 
-import { say, speak, preferred, languages, size, time } from "./language.js";
+import { say, speak, preferred, languages, size, time, whatOf, kindsOfWarning } from "./language.js";
 import { framingOf } from "./endings.js";
 import { droppedFiles, chosenFiles, ENDINGS } from "./files.js";
 import { STRIDE } from "./lines.js";
 import { Packed } from "./packed.js";
 import { make } from "./dom.js";
-import { cardOf, groupOf, sentenceOf, STEP } from "./view.js";
+import { cardOf, groupOf, sentenceOf, denied, STEP } from "./view.js";
 import { summaryOf, isBrief } from "./listing.js";
 import { saveLines, saveSarif, savePage, saveSequence } from "./save.js";
 
@@ -288,7 +288,7 @@ function clear() {
 
 function countsText() {
   const done = entriesDone();
-  const parts = ["valid", "warned", "bad", "none"]
+  const parts = ["valid", "warned", "denied", "bad", "none"]
     .map((group) => [group, done.filter((it) => groupOf(it) === group).length])
     .filter(([, count]) => count > 0)
     .map(([group, count]) => say(`counts.${group}`, { count }));
@@ -307,8 +307,36 @@ function draw(isAnew = false) {
   $("more").textContent = done.length > shown ? say("more", { count: done.length - shown }) : "";
 }
 
+/** The choice of the kinds of warning that do not pass: all, and each. */
+function drawKinds() {
+  const kinds = kindsOfWarning();
+  const choices = [[say("allWarnings"), kinds], ...kinds.map((it) => [`${it}: ${whatOf(it)}`, [it]])].map(([text, those]) => {
+    const box = make("input");
+    box.type = "checkbox";
+    box.onchange = () => {
+      for (const it of those) box.checked ? denied.add(it) : denied.delete(it);
+      show();
+      draw(true);
+      if (entriesDone().length) announce(countsText());
+    };
+    return { box, those, label: make("label", "", box, ` ${text}`) };
+  });
+  const show = () => choices.forEach(({ box, those }) => (box.checked = those.every((it) => denied.has(it))));
+  show();
+  $("kinds").replaceChildren(...choices.map((it) => it.label));
+}
+
+/** What the address denies, as `?deny=W5,W9` and `?strict` do. */
+function denyByAddress() {
+  const words = new URLSearchParams(location.search);
+  const named = words.getAll("deny").join().toUpperCase().split(",");
+  for (const it of kindsOfWarning()) if (words.has("strict") || named.includes(it)) denied.add(it);
+  $("demands").open = denied.size > 0;
+}
+
 function speakIn(code) {
   speak(code);
+  drawKinds();
   $("language").value = document.documentElement.lang;
   if (about) $("version").textContent = say("version", { version: about.version });
   draw(true);
@@ -376,6 +404,7 @@ for (const [code, name] of languages()) {
   option.lang = code;
   $("language").append(option);
 }
+denyByAddress();
 speakIn(preferred());
 listen();
 start();

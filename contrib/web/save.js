@@ -3,7 +3,7 @@
 import { jsonOf, jsonOfFindings, jsonOfUnread, sarifOf } from "./report.js";
 import { language, say } from "./language.js";
 import { make } from "./dom.js";
-import { cardOf } from "./view.js";
+import { cardOf, demanded } from "./view.js";
 
 /** What is listed of a file, once the list is whole, and how many more there are. */
 const listedOf = ({ items, counts }) => (counts ? { items: [...items], more: counts.faults + counts.warned - items.length } : { items: [], more: 0 });
@@ -14,7 +14,7 @@ export function saveLines(entries) {
   const lines = entries.flatMap((entry) => {
     const { name, verdict, reason } = entry;
     const { items, more } = listedOf(entry);
-    return verdict ? [jsonOf(name, verdict), ...jsonOfFindings(name, items, more)] : [jsonOfUnread(name, reason)];
+    return verdict ? [jsonOf(name, verdict, demanded().passes), ...jsonOfFindings(name, items, more)] : [jsonOfUnread(name, reason)];
   });
   download(lines.join("\n") + "\n", "application/jsonl", "geolint-report.jsonl");
 }

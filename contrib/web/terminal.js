@@ -1,6 +1,6 @@
 // The forms of a report for a terminal: the lines of the program geolint, and the form `lines` of geolint-files.
 
-import { eachOf, hintOn } from "./report.js";
+import { eachOf, hintOn, hintText } from "./report.js";
 import { widthOf } from "./width.js";
 
 const isTold = (it) => it !== null && it !== undefined;
@@ -33,11 +33,15 @@ function detailsOf(it) {
   return details.length ? ` (${details.join(", ")})` : "";
 }
 
+/** Positions out of range, as metres are, come before their long numbers. */
+const rankOf = (it) => (it.rule === "W5" ? 3.5 : Number(it.rule.slice(1)));
+
 /** The form `lines`: a line for each finding, and under a fault the part of the line with a caret. */
 export function linesOf(name, verdict) {
   const lineOf = (it, word) => `${place(name, it)}: ${word} ${it.rule}: ${it.text}${detailsOf(it)}\n`;
-  const hint = verdict.hint ? `    hint: ${verdict.hint.text}\n` : "";
-  if (verdict.verdict === "valid") return verdict.warnings.map((it) => lineOf(it, "warning")).join("") + hint;
+  const hint = verdict.hint ? `    hint: ${hintText(name, verdict.hint)}\n` : "";
+  const shown = [...verdict.warnings].sort((a, b) => rankOf(a) - rankOf(b));
+  if (verdict.verdict === "valid") return shown.map((it) => lineOf(it, "warning")).join("") + hint;
   if (verdict.verdict === "not valid") return `${name}: not valid\n`;
   return lineOf(verdict, verdict.verdict) + excerptOf(verdict.excerpt) + hint;
 }
@@ -73,7 +77,7 @@ export function githubOf(name, verdict, fails = neverFails) {
   return (verdict.verdict === "valid" ? verdict.warnings : [verdict])
     .map((it) => {
       const details = [isTold(it.record) && `record ${it.record}`, it.count > 1 && `${it.count} times`, `at byte ${it.offset}`, it.path].filter(Boolean);
-      return commandOf(levelOf(it.rule, fails), name, spotOf(it), `${mark}${[it.text, ...details].join(", ")}${hintOn(it.rule, verdict.hint)}`);
+      return commandOf(levelOf(it.rule, fails), name, spotOf(it), `${mark}${[it.text, ...details].join(", ")}${hintOn(name, it.rule, verdict.hint)}`);
     })
     .join("");
 }

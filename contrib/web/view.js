@@ -5,6 +5,7 @@ import { pictureOf, drawingOf } from "./draw.js";
 import { button, make } from "./dom.js";
 import { listingOf, tableOfAll } from "./listing.js";
 import { calledOf } from "./names.js";
+import { demandsOf } from "./report.js";
 
 /** How many rows of a table, and cards of a list, are drawn at once. */
 export const STEP = 100;
@@ -12,10 +13,15 @@ export const STEP = 100;
 /** What is reported of a file: the fault, or each kind of warning. */
 export const findingsOf = (verdict) => (verdict.verdict === "valid" ? verdict.warnings : [verdict]);
 
-/** Which of the four groups an entry belongs to: valid, warned, bad, or none where there is no verdict. */
+/** The kinds of warning that are not let pass, and what passes by them. */
+export const denied = new Set();
+export const demanded = () => demandsOf({ deny: [...denied] });
+
+/** Which of the five groups an entry belongs to: valid, warned, denied, bad, or none where there is no verdict. */
 export function groupOf({ verdict }) {
   if (!verdict) return "none";
   if (verdict.verdict !== "valid") return "bad";
+  if (!demanded().passes(verdict)) return "denied";
   return verdict.warnings.length ? "warned" : "valid";
 }
 
@@ -26,13 +32,14 @@ export function sentenceOf(entry) {
   const group = groupOf(entry);
   const { record, records } = verdict;
   if (group === "valid") return records === null ? say("sentence.valid") : say("sentence.validMany", { count: records });
+  if (group === "denied") return say("sentence.denied", { kinds: verdict.warnings.map((it) => it.rule).filter(demanded().fails).join(", ") });
   if (group === "warned") return say("sentence.warned", { count: verdict.warnings.length });
   if (record !== null) return say("sentence.brokenMany", { number: record, what: whatOf(verdict.rule) });
-  if (entry.hint?.isOtherKind) return say("sentence.otherKind", { hint: hintText(entry) });
+  if (entry.hint?.isOtherKind) return say("sentence.otherKind", { hint: hintSaid(entry) });
   return say(verdict.verdict === "broken" ? "sentence.broken" : "sentence.notJson", { what: whatOf(verdict.rule) });
 }
 
-const hintText = ({ hint }) => `${say("hint")} ${say(`hints.${hint.name}`)}`;
+const hintSaid = ({ hint }) => `${say("hint")} ${say(`hints.${hint.name}`)}`;
 
 /** The card of a file. `calls` has `saveValid(entry, button)`, which saves its valid features, and `complete(entry, items)`, which adds what
  *  the reading left out; where there are no such calls, the card is for paper. */
@@ -122,7 +129,7 @@ function detailsOf(entry, finding) {
   if (entry.hint?.isOtherKind) return [chapterOf(finding.rule)].filter(Boolean);
   const list = make("dl", "", make("dt", "", say("mend")), make("dd", "", mendOf(finding.rule)));
   if (finding.path) list.append(make("dt", "", say("path")), make("dd", "", make("code", "", finding.path)));
-  const hint = entry.hint?.offset === finding.offset ? make("p", "hint", hintText(entry)) : null;
+  const hint = entry.hint?.offset === finding.offset ? make("p", "hint", hintSaid(entry)) : null;
   return [excerptOf(finding), hint, list, figureOf(finding), chapterOf(finding.rule)].filter(Boolean);
 }
 

@@ -46,7 +46,8 @@ def _fault(verdict: Any, outcome: "Outcome") -> Dict[str, Any]:
 
 def _told(outcome: "Outcome") -> Dict[str, Any]:
     verdict = outcome.verdict
-    told: Dict[str, Any] = {"verdict": verdict.name, "strict": outcome.is_strict, "stored": outcome.stored, "hint": outcome.hint}
+    denied = [f"W{kind}" for kind in sorted(outcome.denied)]
+    told: Dict[str, Any] = {"verdict": verdict.name, "strict": len(denied) == 9, "deny": denied, "stored": outcome.stored, "hint": outcome.hint}
     if verdict:
         told["warnings"] = [{"code": f"W{w.kind}", "text": w.text, "count": w.count, "first": w.first} for w in verdict.warnings]
         return told

@@ -17,7 +17,7 @@ import tempfile
 import time
 from concurrent.futures import ThreadPoolExecutor
 from dataclasses import dataclass, field
-from typing import Any, AsyncIterator, Callable, Dict, List, Optional
+from typing import Any, AsyncIterator, Callable, Dict, FrozenSet, List, Optional
 
 import geolint
 from answers import accepts_html, as_html, as_json, form_page
@@ -41,6 +41,7 @@ TURN = 2048
 # How many broken texts are read a second time at once: more threads would leave the event loop less of the interpreter.
 READERS = ThreadPoolExecutor(2)
 VALUE = re.compile(rb'"(?:[^"\\]|\\.)*"?|[^\s,}\]]+')
+KINDS = frozenset(range(1, 10))
 FOLDER = os.environ.get("UPLOADS")
 
 
@@ -54,11 +55,11 @@ class Refused(Exception):
 
 @dataclass
 class Outcome:
-    """What an upload is: the verdict, whether warnings refuse it, the broken features that are listed, how many there are, a hint, and where
+    """What an upload is: the verdict, which warnings refuse it, the broken features that are listed, how many there are, a hint, and where
     it is stored if it passes."""
 
     verdict: geolint.Verdict
-    is_strict: bool
+    denied: FrozenSet[int]
     broken: List[geolint.Finding] = field(default_factory=list)
     broken_count: int = 0
     places: Dict[int, geolint.Place] = field(default_factory=dict)
@@ -68,7 +69,7 @@ class Outcome:
 
     def __bool__(self) -> bool:
         """Whether it passes."""
-        return bool(self.verdict) and not (self.is_strict and self.verdict.warnings)
+        return bool(self.verdict) and not any(warning.kind in self.denied for warning in self.verdict.warnings)
 
 
 class Body:
@@ -122,7 +123,7 @@ async def written(pieces: AsyncIterator[bytes], file: Any) -> AsyncIterator[byte
         yield piece
 
 
-async def check_and_store(pieces: AsyncIterator[bytes], folder: str, is_strict: bool) -> Outcome:
+async def check_and_store(pieces: AsyncIterator[bytes], folder: str, denied: FrozenSet[int]) -> Outcome:
     """What the pieces are. They are stored while they are checked, and stay where they pass."""
     store = tempfile.NamedTemporaryFile(dir=folder, suffix=".part", delete=False)
     outcome: Optional[Outcome] = None
@@ -136,7 +137,7 @@ async def check_and_store(pieces: AsyncIterator[bytes], folder: str, is_strict: 
                 if not finding and len(broken) < MOST_TOLD:
                     broken.append(finding)
             assert found.verdict is not None
-            outcome = Outcome(found.verdict, is_strict, broken, count)
+            outcome = Outcome(found.verdict, denied, broken, count)
         if not outcome.verdict or outcome.verdict.warnings:
             # A long text is read again for a while: on another thread, so that the others go on.
             await asyncio.get_running_loop().run_in_executor(READERS, read_again, outcome, store.name)
@@ -171,10 +172,20 @@ def written_value(start: bytes) -> str:
     return found.group().decode("utf-8", "replace")[:40] if found else ""
 
 
-async def upload(headers: Dict[str, str], body: Body, folder: str, is_strict: bool) -> Outcome:
+def denied_by(query: bytes) -> FrozenSet[int]:
+    """The kinds of warning that do not pass: all for `strict`, and those that `deny=W4,W5` names."""
+    if b"strict" in query.split(b"&"):
+        return KINDS
+    named = [it[5:] for it in query.split(b"&") if it.startswith(b"deny=")]
+    if not all(re.fullmatch(rb"W[1-9](,W[1-9])*", it) for it in named):
+        raise Refused(400, "deny has kinds of warning from W1 to W9, as in /?deny=W5")
+    return frozenset(int(kind[1:]) for it in named for kind in it.split(b","))
+
+
+async def upload(headers: Dict[str, str], body: Body, folder: str, denied: FrozenSet[int]) -> Outcome:
     """The file of a form, the field `text` of a form, or the body itself."""
     try:
-        return await check_and_store(file_of(headers.get("content-type", ""), body.__aiter__()), folder, is_strict)
+        return await check_and_store(file_of(headers.get("content-type", ""), body.__aiter__()), folder, denied)
     except FormError as error:
         raise Refused(400, str(error)) from None
 
@@ -196,7 +207,7 @@ class Service:
                 status, content, is_html = 200, form_page(), True
             elif scope["method"] == "POST":
                 body = Body(headers, receive)
-                outcome = await self.take(headers, body, b"strict" in scope["query_string"].split(b"&"))
+                outcome = await self.take(headers, body, denied_by(scope["query_string"]))
                 status = 200 if outcome else 422
                 content = as_html(outcome) if is_html else as_json(outcome)
             else:
@@ -213,12 +224,12 @@ class Service:
         kind = "text/html" if is_html and status in (200, 422) else "text/plain" if is_html else "application/json"
         await answer(send, status, kind, content.encode(), scope["method"] == "HEAD", body, more)
 
-    async def take(self, headers: Dict[str, str], body: Body, is_strict: bool) -> Outcome:
+    async def take(self, headers: Dict[str, str], body: Body, denied: FrozenSet[int]) -> Outcome:
         if self.at_once >= MOST_AT_ONCE:
             raise Refused(503, "too many uploads at once", **{"Retry-After": "5"})
         self.at_once += 1
         try:
-            return await upload(headers, body, self.folder, is_strict)
+            return await upload(headers, body, self.folder, denied)
         finally:
             self.at_once -= 1
 

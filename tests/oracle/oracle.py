@@ -7,25 +7,16 @@
 import argparse
 import json
 import pathlib
+import re
 import sys
 
 from advice import text_warnings
 from json_text import DEPTH, LENGTH, Refused, read
 from rules import KNOWN, faults
 
-TEXTS = {
-    "J1": "syntax", "J2": "truncated", "J3": "too deep", "J4": "too long",
-    "G1": "not an object", "G2": "type missing", "G3": "type not allowed here", "G4": "coordinates missing",
-    "G5": "geometries missing", "G6": "geometry missing", "G7": "properties missing", "G8": "features missing",
-    "G9": "member forbidden by section 7.1", "G10": "name repeated", "G11": "coordinates of the wrong shape",
-    "G12": "position of fewer than two elements", "G13": "line of fewer than two elements",
-    "G14": "ring of fewer than four elements", "G15": "ring not closed", "G16": "number beyond the profile",
-    "G17": "not an array", "G18": "properties neither object nor null", "G19": "id neither string nor number",
-    "G20": "bbox or its element of the wrong kind", "G21": "bbox length odd or below 4",
-    "W1": "byte order mark", "W2": "ring runs the wrong way", "W3": "more than three numbers in a position",
-    "W4": "more than seven decimal places", "W5": "position out of range", "W6": "empty coordinates",
-    "W7": "collection in a collection", "W8": "bbox south above north", "W9": "crs is no longer used",
-}
+# By the headings of the page, as `## G15: ring not closed`.
+RULES = pathlib.Path(__file__).resolve().parents[2] / "docs/rules.md"
+TEXTS = dict(re.findall(r"^## ([GWJ][0-9]+): (.+)$", RULES.read_text(), re.MULTILINE))
 SEPARATOR = 0x1E
 
 
@@ -102,12 +93,18 @@ def line_and_column(data, place):
     return data.count(b"\n", 0, place) + 1, sum(not 0x80 <= byte <= 0xBF for byte in data[line:place]) + 1
 
 
+def pointer_of(path):
+    """A path as a JSON pointer (RFC 6901), where each name in it is known."""
+    return None if path is None or "*" in path else re.sub(r"[.[]", "/", path[1:]).replace("]", "")
+
+
 def spot(data, rule, place, path):
     line, column = line_and_column(data, place)
-    return {"rule": rule, "text": TEXTS[rule], "offset": place, "line": line, "column": column, "json_path": path}
+    place = {"offset": place, "line": line, "column": column}
+    return {"rule": rule, "text": TEXTS[rule]} | place | {"json_path": path, "pointer": pointer_of(path)}
 
 
-NOTHING = dict.fromkeys(["record", "records", "rule", "text", "offset", "line", "column", "json_path"])
+NOTHING = dict.fromkeys(["record", "records", "rule", "text", "offset", "line", "column", "json_path", "pointer"])
 
 
 def report(data, is_sequence=False, is_quick=False, is_strict=False, length=LENGTH):

@@ -1,4 +1,4 @@
-"""The rules G1 to G21 on the tree of a whole text: RFC 7946, and docs/rules.md where it leaves a choice.
+"""The rules on the tree of a whole text: RFC 7946, and docs/rules.md where it leaves a choice.
 
 Each function gives a list of faults, pairs of a place and the number of a rule.
 """

@@ -152,6 +152,67 @@ JNIEXPORT void JNICALL Java_geolint_Native_finishFeatures(JNIEnv *env, jclass na
     (*env)->SetLongArrayRegion(env, numbers, 0, REPORT, all);
 }
 
+/* A run or a join of a text in parts. Their bytes lie in a buffer outside the heap, which one thread alone fills. */
+JNIEXPORT jlong JNICALL Java_geolint_Native_newRun(JNIEnv *env, jclass native, jint max_depth, jlong place) {
+    geolint_run *run = (geolint_run *)malloc(geolint_run_size());
+    (void)env, (void)native;
+    geolint_run_begin(run, (uint32_t)max_depth, (uint64_t)place);
+    return (jlong)(intptr_t)run;
+}
+
+JNIEXPORT jlong JNICALL Java_geolint_Native_newJoin(JNIEnv *env, jclass native, jint max_depth, jlong max_bytes) {
+    geolint_join *join = (geolint_join *)malloc(geolint_join_size());
+    (void)env, (void)native;
+    geolint_join_begin(join, (uint32_t)max_depth, (uint64_t)max_bytes);
+    return (jlong)(intptr_t)join;
+}
+
+JNIEXPORT void JNICALL Java_geolint_Native_freePart(JNIEnv *env, jclass native, jlong part) {
+    (void)env, (void)native;
+    free((void *)(intptr_t)part);
+}
+
+static geolint_run *run_at(jlong address) {
+    return (geolint_run *)(intptr_t)address;
+}
+
+static geolint_join *join_at(jlong address) {
+    return (geolint_join *)(intptr_t)address;
+}
+
+JNIEXPORT jint JNICALL Java_geolint_Native_feedRun(JNIEnv *env, jclass native, jlong run, jobject buffer, jint length, jlongArray numbers) {
+    uint32_t status = geolint_run_feed(run_at(run), (*env)->GetDirectBufferAddress(env, buffer), (size_t)length);
+    geolint_sum sum = geolint_run_sum(run_at(run));
+    jlong all[] = {(jlong)sum.end, (jlong)sum.features, sum.ended};
+    (void)native;
+    (*env)->SetLongArrayRegion(env, numbers, 0, 3, all);
+    return (jint)status;
+}
+
+JNIEXPORT jint JNICALL Java_geolint_Native_likely(JNIEnv *env, jclass native, jobject buffer, jint length) {
+    (void)native;
+    return (jint)geolint_run_likely((*env)->GetDirectBufferAddress(env, buffer), (size_t)length);
+}
+
+JNIEXPORT jint JNICALL Java_geolint_Native_feedJoin(JNIEnv *env, jclass native, jlong join, jobject buffer, jint length) {
+    (void)native;
+    return (jint)geolint_join_feed(join_at(join), (*env)->GetDirectBufferAddress(env, buffer), (size_t)length);
+}
+
+JNIEXPORT jboolean JNICALL Java_geolint_Native_passOver(JNIEnv *env, jclass native, jlong join, jlong run) {
+    geolint_sum sum = geolint_run_sum(run_at(run));
+    (void)env, (void)native;
+    return geolint_join_pass_over(join_at(join), &sum) ? JNI_TRUE : JNI_FALSE;
+}
+
+JNIEXPORT void JNICALL Java_geolint_Native_finishJoin(JNIEnv *env, jclass native, jlong join, jlongArray numbers) {
+    geolint_report report = geolint_join_finish(join_at(join));
+    jlong all[REPORT];
+    (void)native;
+    write_report(all, &report);
+    (*env)->SetLongArrayRegion(env, numbers, 0, REPORT, all);
+}
+
 JNIEXPORT jstring JNICALL Java_geolint_Native_ruleText(JNIEnv *env, jclass native, jint rule) {
     (void)native;
     return (*env)->NewStringUTF(env, geolint_rule((uint32_t)rule));

@@ -48,6 +48,12 @@ SELECT geojson_report('[]', max_bytes => 1152921504606846977);
 SELECT is_geojson('[]', NULL) IS NULL AS "of no limit nothing is said";
 SELECT is_geojson('{"type":"Point","coordinates":[1,2]}') AS "after an error the next text is checked from its start";
 
+-- A valid text with a warning, which some kinds fail.
+SELECT deny, is_geojson('{"type":"Point","coordinates":[200,2]}', deny => deny) FROM (VALUES ('{}'::text[]), ('{W5}'), ('{W4,W5}'), ('{W4}')) AS of (deny);
+SELECT is_geojson('{"type":"Point","coordinates":[200,2]}'::jsonb, deny => '{W5}'), is_geojson('[]', deny => '{W5}');
+SELECT is_geojson('{"type":"Point","coordinates":[200,2]}', deny => '{G5}');
+SELECT is_geojson('{"type":"Point","coordinates":[200,2]}', deny => ARRAY[NULL]);
+
 -- A table that holds nothing else.
 CREATE TABLE places (id integer PRIMARY KEY, body text NOT NULL CHECK (is_geojson(body)));
 INSERT INTO places VALUES (1, '{"type":"Point","coordinates":[17.1,48.1]}');

@@ -8,7 +8,7 @@ from pathlib import Path
 from typing import Optional
 
 from .geolint import features, locate, records, report
-from .geolint._command.run import framing_of
+from .geolint._findings import framing_of
 from .geolint._known import Known, known_of
 
 PIECE = 1 << 20

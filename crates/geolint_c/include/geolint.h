@@ -2,10 +2,10 @@
  *
  * Two ways in: geolint_check checks a text in memory; a linter (geolint_begin, geolint_feed, geolint_finish) checks a text
  * that comes in pieces, in the memory that the host gives it. In the same way geolint_features_.. reports each feature of a text and
- * geolint_records_.. each record of an input; geolint_locator_.. finds the path to a place, geolint_lines_.. its line and column, and
- * geolint_hint.. says what an input that is not valid looks like. The library takes no memory, keeps no state of its own, opens
- * nothing and prints nothing. Any number of linters may be in use at once, each on one thread at a time. What is said of a linter
- * holds of the other handles too, each by its own calls.
+ * geolint_records_.. each record of an input; geolint_run_.. and geolint_join_.. check one text in parts, on several threads;
+ * geolint_locator_.. finds the path to a place, geolint_lines_.. its line and column, and geolint_hint.. says what an input that is not
+ * valid looks like. The library takes no memory, keeps no state of its own, opens nothing and prints nothing. Any number of linters may
+ * be in use at once, each on one thread at a time. What is said of a linter holds of the other handles too, each by its own calls.
  *
  * What is proved of the library. Each call below that gives a verdict states its result by the definitions of the two standards (as
  * the profile in docs/DECISIONS.md reads them) on the whole text, and a prover checks it on each build:
@@ -23,6 +23,8 @@
  *     it has none of its warnings;
  *   - geolint_records_next gives the records that have ended in the bytes taken, in turn and each once: number, place, end and report;
  *     geolint_records_finish what the input is by them;
+ *   - geolint_join_finish gives the verdict of all bytes that the join was given, fed or passed over, where each sum that it passed over
+ *     is one of those bytes; geolint_run_sum gives such a sum;
  *   - geolint_locator_step gives the steps of the path that the bytes taken lead to, in each text that goes on from them;
  *   - geolint_lines_feed gives the line and the column after the bytes fed, each up to 2^64 - 1;
  *   - geolint_levels says how many arrays and objects are open after the bytes taken, in each text that goes on from them;
@@ -266,6 +268,84 @@ typedef struct geolint_whole {
  * GEOLINT_NO_VERDICT with GEOLINT_ENDED, and for null with GEOLINT_NULL. */
 geolint_whole geolint_records_finish(geolint_records *records);
 
+/* ---- a text in parts
+ *
+ * One FeatureCollection is checked by several threads, or by several machines. A run is a part of a text: whole features, each after a
+ * comma. It is checked as if a feature of the text had ended right before it, and a join reads the text without its runs: it passes over
+ * one only where it stands right after a feature itself. So whatever the text is, and wherever runs begin, the verdict is that of one
+ * reading. A run that begins in a wrong place, as in a string, costs time and nothing else, and a text without runs is read as a whole.
+ *
+ *     geolint_run_begin(run, 0, place);                 // on its own thread: the part from `place` on
+ *     while (the part has more bytes) {
+ *         status = geolint_run_feed(run, bytes, length);
+ *         sum = geolint_run_sum(run);
+ *         if (status != GEOLINT_DONE || sum.ended)
+ *             break;
+ *     }
+ *
+ *     place = 0;                                        // then, with the sums in the order of their places
+ *     for (each sum) {
+ *         geolint_join_feed(join, the bytes from `place` up to sum.begin);
+ *         place = geolint_join_pass_over(join, &sum) ? sum.end : sum.begin;
+ *     }
+ *     geolint_join_feed(join, the bytes from `place` on);
+ *     report = geolint_join_finish(join);
+ *
+ * Where parts may begin: at equal shares of the text, each moved on by what geolint_run_likely says, to where the next 65536 bytes or so
+ * have a feature (`sum.features`) and are not refused. A part goes on up to where the next one begins.
+ *
+ * What the caller owes, beside the above: that the bytes that a run is fed stand at its place in the text that the join is of, and that a
+ * sum that the join is passed is one that geolint_run_sum gave, for the same `max_depth` or a lesser one. */
+
+/* What is found in a run: in the longest row of whole features that its bytes begin with, of which none breaks a rule. */
+typedef struct geolint_sum {
+    uint32_t status;   /* enum geolint_status: GEOLINT_DONE where there is a sum */
+    uint32_t ended;    /* 1 where a feature with a fault follows: no further byte makes the run longer; otherwise 0 */
+    uint64_t begin;    /* the place where the run begins */
+    uint64_t end;      /* the place after its last feature; that where it begins, if it has none */
+    uint64_t features; /* how many it has */
+    geolint_warned warnings[GEOLINT_KINDS]; /* their warnings, of W1 to W9, at places of the text */
+} geolint_sum;
+
+/* In memory of the host: geolint_run_size() bytes at a multiple of geolint_alignment(). A run has no end: begin it again for another. */
+typedef struct geolint_run geolint_run;
+
+size_t geolint_run_size(void);
+
+/* Begins a run, before the byte at this place of a text: GEOLINT_DONE. No feature ends before the place 15, and none within fewer than 3
+ * levels: then, or where the place is beyond 2^60 or the depth is not allowed, the answer is GEOLINT_LIMITS. Null: GEOLINT_NULL. As
+ * measured, it needs 400 KiB of stack, and no other call on a run or a join more than 8 KiB. */
+uint32_t geolint_run_begin(geolint_run *run, uint32_t max_depth, uint64_t place);
+
+/* Takes the next bytes, as geolint_feed does. Once they are refused, no further byte makes the run longer. A run that was not begun well:
+ * GEOLINT_ENDED. Null: GEOLINT_NULL. */
+uint32_t geolint_run_feed(geolint_run *run, const void *bytes, size_t length);
+
+/* What is found in the run so far. Of one that was not begun well the status is GEOLINT_ENDED, and for null GEOLINT_NULL. */
+geolint_sum geolint_run_sum(geolint_run *run);
+
+/* How many of these bytes end with the first closing brace that a comma and the beginning of an object follow, so that a run may begin
+ * there; 0 where there is none. It is a guess. */
+size_t geolint_run_likely(const void *bytes, size_t length);
+
+/* In memory of the host: geolint_join_size() bytes at a multiple of geolint_alignment(). */
+typedef struct geolint_join geolint_join;
+
+size_t geolint_join_size(void);
+
+/* As geolint_begin. */
+uint32_t geolint_join_begin(geolint_join *join, uint32_t max_depth, uint64_t max_bytes);
+
+/* As geolint_feed. */
+uint32_t geolint_join_feed(geolint_join *join, const void *bytes, size_t length);
+
+/* Passes over the run of this sum, which is not null: 1 where a feature has ended right before the place where it begins, and it is within
+ * the limits. The next bytes are then those from `end` on. Otherwise 0, and nothing has changed. After the end, and for null: 0. */
+uint32_t geolint_join_pass_over(geolint_join *join, const geolint_sum *sum);
+
+/* As geolint_finish. */
+geolint_report geolint_join_finish(geolint_join *join);
+
 /* ---- the path to a place */
 
 /* In memory of the host: geolint_locator_size() bytes at a multiple of geolint_alignment(). It has no end; begin it again for another
@@ -328,10 +408,12 @@ geolint_lines geolint_lines_feed(geolint_lines lines, const void *bytes, size_t 
  * They are those that the functions return, on systems with 64-bit addresses. */
 
 #define GEOLINT_ALIGNMENT 16
-#define GEOLINT_SIZE 199056
-#define GEOLINT_FEATURES_SIZE 246192
-#define GEOLINT_RECORDS_SIZE 199488
-#define GEOLINT_LOCATOR_SIZE 5120
+#define GEOLINT_SIZE 199072
+#define GEOLINT_FEATURES_SIZE 246208
+#define GEOLINT_RECORDS_SIZE 199504
+#define GEOLINT_LOCATOR_SIZE 5136
+#define GEOLINT_RUN_SIZE 199232
+#define GEOLINT_JOIN_SIZE 199248
 
 /* ---- texts */
 

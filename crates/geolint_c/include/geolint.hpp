@@ -359,6 +359,47 @@ public:
     Range last() && = delete;
 };
 
+/* A run of features of a text, checked apart from it: what geolint.h says of parts. Empty where no feature can have ended at the place. */
+class Run {
+public:
+    explicit Run(std::uint64_t place, std::uint32_t max_depth = 0) noexcept : memory_(malloc(geolint_run_size())) {
+        if (geolint_run_begin(at(), max_depth, place) != GEOLINT_DONE)
+            memory_.reset();
+    }
+    explicit operator bool() const noexcept { return memory_ != nullptr; }
+    /* Takes the next bytes. False: no further byte makes the run longer. */
+    bool feed(const void *bytes, std::size_t length) noexcept {
+        return geolint_run_feed(at(), geolint_bytes(bytes), length) == GEOLINT_DONE && !sum().ended;
+    }
+    geolint_sum sum() const noexcept { return geolint_run_sum(at()); }
+    /* After how many of these bytes a run may begin, as far as they say; 0 where there is no such place. */
+    static std::size_t likely(const void *bytes, std::size_t length) noexcept { return geolint_run_likely(geolint_bytes(bytes), length); }
+
+private:
+    geolint_run *at() const noexcept { return static_cast<geolint_run *>(memory_.get()); }
+    std::unique_ptr<void, detail::Free> memory_;
+};
+
+/* Checks a text without its runs. Empty as a Linter. */
+class Join {
+public:
+    explicit Join(Limits limits = Limits()) noexcept : memory_(malloc(geolint_join_size())) {
+        if (geolint_join_begin(at(), limits.max_depth, limits.max_bytes) != GEOLINT_DONE)
+            memory_.reset();
+    }
+    explicit operator bool() const noexcept { return memory_ != nullptr; }
+    bool feed(const void *bytes, std::size_t length) noexcept {
+        return geolint_join_feed(at(), geolint_bytes(bytes), length) == GEOLINT_DONE;
+    }
+    /* Passes over the run of a sum, where a feature has ended right before it; the next bytes are then those from its `end` on. */
+    bool pass_over(const geolint_sum &sum) noexcept { return geolint_join_pass_over(at(), &sum) != 0; }
+    Verdict finish() noexcept { return Verdict(geolint_join_finish(at())); }
+
+private:
+    geolint_join *at() const noexcept { return static_cast<geolint_join *>(memory_.get()); }
+    std::unique_ptr<void, detail::Free> memory_;
+};
+
 /* Finds the path to a place: it is fed the bytes before the place, and the one that stands there. */
 class Locator {
 public:

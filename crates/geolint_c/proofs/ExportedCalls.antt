@@ -23,7 +23,7 @@ pub use types.Run.{init, enter, of_opd, lit, unit_lit, bin, addr, load, look, st
 pub use types.Run.{returns, returns_within}
 pub use types.ByLocal.{alloc_all, pass_all, free_all, look_at, get, through, sets, lands_as, env}
 pub use types.Tokens.{lft_new, lft_end, lent_back}
-pub use denote.Builtin.{SliceRefOf, u8, u32, u64, bool, unit}
+pub use denote.Builtin.{SliceRefOf, RefOf, u8, u32, u64, bool, unit}
 pub use Rattle.std.specs.Ptr.{if_non_null}
 pub use types.SemTy.{Body as Inside}
 pub use lib.Dec.{T, ltb}
@@ -35,6 +35,7 @@ pub use denote.RawPtr.{Ptr, RawPtr, block_ptr, null_ptr, ptr_val, lies_at, room_
 pub use denote.Ref.{MutRef, mut_vals, mut_Tells}
 pub use denote.Memory.{part_at, mem, lone, pointee}
 pub use denote.Slice.{ShrSlice, slice_val, shr_slice_Lawful, shr_slice_vals, shr_slice_Tells}
+pub use denote.Ref.{ShrRef, shr_vals, shr_Tells, shr_Lawful}
 pub use denote.Signature.{plain, mut_ref_to}
 pub use denote.Steps.{nothing, owned, heard, peeks, only}
 pub use denote.Triple.Call.{calls_at}

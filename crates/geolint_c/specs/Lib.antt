@@ -5,6 +5,9 @@ pub mod Finding
 pub mod Latest
 pub mod Features
 pub mod Records
+pub mod Sum
+pub mod Run
+pub mod Join
 pub mod Lines
 pub mod Locator
 pub mod Texts
@@ -12,5 +15,7 @@ pub mod Hints
 pub mod Stream
 pub mod FeatureStream
 pub mod RecordStream
+pub mod RunStream
+pub mod JoinStream
 pub mod LocatorStream
 pub mod Internal

@@ -27,7 +27,8 @@ pub struct FeatureHandle {
     ended: bool,
 }
 
-fn status_of(shown: Shown) -> u32
+/// The number by which a call reports what a piece shows.
+pub fn status_of(shown: Shown) -> u32
     ensures { result ≡ status_of shown }
 {
     match shown {

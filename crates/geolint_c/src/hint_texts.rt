@@ -22,41 +22,43 @@ fn text_of(hint: Hint) -> &'static [u8]
     match hint {
         Hint::Gzip => b"the file is compressed by gzip: gzip -dc < IN > OUT.geojson\0",
         Hint::Zip => b"the file is a zip archive: unzip IN, and see what is in it\0",
-        Hint::Shapefile => b"the file is a shapefile: ogr2ogr -f GeoJSON OUT.geojson IN.shp\0",
+        Hint::Shapefile =>
+            b"the file is a shapefile: ogr2ogr -f GeoJSON OUT.geojson IN, if its name ends with .shp\0",
         Hint::GeoPackage =>
-            b"the file is an SQLite database, such as a GeoPackage: ogr2ogr -f GeoJSON OUT.geojson IN.gpkg LAYER\0",
-        Hint::FlatGeobuf => b"the file is a FlatGeobuf: ogr2ogr -f GeoJSON OUT.geojson IN.fgb\0",
-        Hint::Parquet => b"the file is a Parquet file: ogr2ogr -f GeoJSON OUT.geojson IN.parquet\0",
+            b"the file is an SQLite database, such as a GeoPackage: ogr2ogr -f GeoJSON OUT.geojson IN, with the name of a layer after it where there are several\0",
+        Hint::FlatGeobuf => b"the file is a FlatGeobuf: ogr2ogr -f GeoJSON OUT.geojson IN\0",
+        Hint::Parquet => b"the file is a Parquet file: ogr2ogr -f GeoJSON OUT.geojson IN\0",
         Hint::Pdf =>
-            b"the file is a PDF document: ask for the data; ogr2ogr -f GeoJSON OUT.geojson IN.pdf reads a PDF with map layers\0",
-        Hint::Kml => b"the file is KML: ogr2ogr -f GeoJSON OUT.geojson IN.kml\0",
-        Hint::Gml => b"the file is GML: ogr2ogr -f GeoJSON OUT.geojson IN.gml\0",
+            b"the file is a PDF document: ask for the data; ogr2ogr -f GeoJSON OUT.geojson IN reads a PDF with map layers\0",
+        Hint::Kml => b"the file is KML: ogr2ogr -f GeoJSON OUT.geojson IN\0",
+        Hint::Gml => b"the file is GML: ogr2ogr -f GeoJSON OUT.geojson IN\0",
         Hint::Html =>
             b"the file is a web page, mostly one that shows an error or asks to log in: curl -fL -o OUT.geojson URL\0",
         Hint::Xml =>
-            b"the file is XML: ogr2ogr -f GeoJSON OUT.geojson IN.xml, if it is a map format\0",
+            b"the file is XML: ogr2ogr -f GeoJSON OUT.geojson IN, if it is a map format; of GPX: ogr2ogr -f GeoJSON OUT.geojson IN tracks\0",
         Hint::Utf16 => b"the file is in UTF-16: iconv -f UTF-16 -t UTF-8 IN > OUT.geojson\0",
         Hint::Latin1 =>
             b"these letters are not in UTF-8: iconv -f WINDOWS-1252 -t UTF-8 IN > OUT.geojson\0",
         Hint::NotANumber =>
-            b"JSON has no NaN; null says that there is no number: npx json5 -o OUT.geojson IN\0",
+            b"JSON has no NaN: json5 -o OUT.geojson IN writes null, which is right in properties and wrong in coordinates\0",
         Hint::Infinity =>
-            b"JSON has no Infinity; null says that there is no number: npx json5 -o OUT.geojson IN\0",
+            b"JSON has no Infinity: json5 -o OUT.geojson IN writes null, which is right in properties and wrong in coordinates\0",
         Hint::SingleQuotes =>
-            b"JSON has no single quotes: npx json5 -o OUT.geojson IN, or json.dumps if Python wrote it\0",
-        Hint::Comment => b"JSON has no comments: npx json5 -o OUT.geojson IN\0",
-        Hint::ExtraComma => b"there is a comma too many: npx json5 -o OUT.geojson IN\0",
+            b"JSON has no single quotes: json5 -o OUT.geojson IN, or json.dumps if Python wrote it\0",
+        Hint::Comment =>
+            b"JSON has no comments: json5 -o OUT.geojson IN removes those that begin with // or /*\0",
+        Hint::ExtraComma =>
+            b"there is a comma too many: json5 -o OUT.geojson IN removes one before a closing bracket\0",
         Hint::SecondText =>
-            b"a second text follows the first, as in newline-delimited files: geolint-files --ndjson IN\0",
+            b"a second text follows the first: geolint-files --ndjson IN, if each line is a text, or else jq -c . IN > OUT.ndjson\0",
         Hint::TextSequence => b"the file is a text sequence (RFC 8142): geolint-files --seq IN\0",
-        Hint::TopoJson =>
-            b"the file is TopoJSON: npx -p topojson-client topo2geo LAYER=OUT.geojson < IN\0",
+        Hint::TopoJson => b"the file is TopoJSON: ogr2ogr -f GeoJSON OUT.geojson IN\0",
         Hint::EsriJson =>
-            b"the file is Esri JSON: ogr2ogr -f GeoJSON OUT.geojson IN.json, or ask the server with f=geojson\0",
+            b"the file is Esri JSON: ask the server with f=geojson, or ogr2ogr -f GeoJSON OUT.geojson IN\0",
         Hint::TextInString =>
-            b"the text is inside a string: jq fromjson IN > OUT.geojson, if that is the whole file\0",
-        Hint::SwappedAxes => b"latitude and longitude look swapped; the longitude comes first: \
-              jq '(.. | objects | .coordinates? // empty | .. | arrays | select(.[0] | numbers)) |= [.[1], .[0]] + .[2:]' IN > OUT.geojson\0",
+            b"an object is inside a string: leave out its quotation marks and their backslashes; if it is the whole file: jq fromjson IN > OUT.geojson\0",
+        Hint::SwappedAxes =>
+            b"latitude and longitude look swapped; the longitude comes first: ogr2ogr -ct '+proj=axisswap +order=2,1' OUT.geojson IN\0",
         Hint::Metres =>
             b"the coordinates look like metres, not degrees: ogr2ogr -t_srs EPSG:4326 OUT.geojson IN, with -s_srs where the file names no reference system\0",
         Hint::ManyDigits =>

@@ -68,7 +68,8 @@ fn warned_of(warnings: &Warnings, kind: Kind) -> Warned
     }
 }
 
-fn all_warned(warnings: &Warnings) -> [Warned; KINDS.len()]
+/// Those of each kind, in the order of their numbers.
+pub fn all_warned(warnings: &Warnings) -> [Warned; KINDS.len()]
     ensures { (all : List Warning) → StandsFor warnings.now all → result ≡ all_warned all }
 {
     [
@@ -84,7 +85,8 @@ fn all_warned(warnings: &Warnings) -> [Warned; KINDS.len()]
     ]
 }
 
-fn nothing_warned() -> [Warned; KINDS.len()]
+/// No warning of any kind.
+pub fn nothing_warned() -> [Warned; KINDS.len()]
     ensures { result ≡ nothing_warned }
 {
     [Warned { count: 0, first: 0 }; KINDS.len()]

@@ -12,9 +12,11 @@ ghost use Rattle.geolint_c.specs.Stream.{BegunAt, FedAt, OffsetAt, DoomedAt, Lev
 
 use crate::features::FeatureHandle;
 use crate::handle::{Handle, begun_status};
+use crate::join::JoinHandle;
 use crate::locator::LocatorHandle;
 use crate::records::RecordHandle;
 use crate::report::{Report, no_report};
+use crate::run::RunHandle;
 use crate::status::NULL;
 use std::mem::{align_of, size_of};
 
@@ -46,6 +48,10 @@ const _: () = prove!(align_of::<FeatureHandle>() <= align_of::<Handle>());
 const _: () = prove!(align_of::<RecordHandle>() <= align_of::<Handle>());
 
 const _: () = prove!(align_of::<LocatorHandle>() <= align_of::<Handle>());
+
+const _: () = prove!(align_of::<RunHandle>() <= align_of::<Handle>());
+
+const _: () = prove!(align_of::<JoinHandle>() <= align_of::<Handle>());
 
 /// Begins a handle in this memory, before the first byte of an input. Where the limits are not allowed, it has ended.
 #[unsafe(no_mangle)]

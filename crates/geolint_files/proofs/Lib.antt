@@ -2,3 +2,4 @@ mod Common
 mod Runs
 mod Walks
 mod LinesRead
+mod JoinedTexts

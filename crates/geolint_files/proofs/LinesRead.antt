@@ -9,11 +9,12 @@ use Rattle.geolint_report.specs.declared.every.listing.Asked.{Asked}
 use Rattle.geolint_report.specs.declared.every.listing.Notes.{Notes}
 use Rattle.part_lines.specs.declared.line.Listed.{Listed}
 use Rattle.part_lines.specs.declared.line.PartLine.{PartLine}
+use Rattle.collection_parts.specs.Sums.{IsTruePart}
 use Rattle.sequence_parts.specs.Checked.{IsPartOf, AreNotesOfPart}
 use Rattle.sequence_parts.specs.Ranges.{ArePart}
 use Rattle.sequence_parts.specs.declared.checked.CheckedPart.{CheckedPart}
 use Rattle.sequence_parts.specs.declared.ranges.Share.{Share}
-use Rattle.geolint_files.specs.AskedLine.{IsReadLine, listed_of}
+use Rattle.geolint_files.specs.AskedLine.{IsReadLine, IsReadLineBy, listed_of}
 
 listed-asked : (framing : Framing) (limits : Allowed) (text : List ℕ) (part : CheckedPart) (asked : Option Asked) (notes : Option Notes)
     → part.begin ≤ part.end → AreNotesOfPart framing limits asked text part notes
@@ -41,7 +42,7 @@ listed-notes framing limits text part None notes are listed is = absurd (subst I
 
 pub line-read : (known : Option (List ℕ)) (framing : Framing) (options : Options) (asked : Option Asked) (share : Share) (part : CheckedPart)
     (notes : Option Notes) (line : PartLine) → asked ≡ asked_in options → line.checked ≡ part → line.listed ≡ listed_of asked notes
-    → line.settings.framing ≡ framing
+    → line.settings.framing ≡ Some framing
     → IfSome known (λ text. length text ≡ line.file.size → ArePart framing options.limits text share.number share.parts part.begin part.end)
     → IfSome known (λ text. length text ≡ line.file.size → IsPartOf framing options.limits text part)
     → IfSome known (λ text. AreNotesOfPart framing options.limits asked text part notes)
@@ -58,3 +59,12 @@ line-read (Some text) framing options asked share part notes line is_asked is_pa
   listed = ap (λ (o : Option Listed). option_map (λ (l : Listed). l.asked) o) is_listed
       ∙ (listed-asked framing options.limits text part asked notes (right long).ordered are ∙ is_asked);
 }
+
+pub one-text-read : (known : Option (List ℕ)) (options : Options) (share : Share) (line : PartLine) → line.settings.framing ≡ None → line.listed ≡ None
+    → IfSome known (λ text. IsTruePart options.limits text line.checked) → IfSome known (λ text. IsReadLineBy None options share text line)
+one-text-read None options share line framed listed is = tt
+one-text-read (Some text) options share line framed listed is = (framed, listed, is)
+
+pub of-length : (known : Option (List ℕ)) (size : ℕ) (Is : List ℕ → Type 0) → IfSome known Is → IfSome known (λ text. length text ≡ size → Is text)
+of-length None size Is is = tt
+of-length (Some text) size Is is = λ long. is

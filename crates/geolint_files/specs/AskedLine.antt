@@ -10,6 +10,7 @@ use Rattle.part_lines.specs.declared.line.PartLine.{PartLine}
 use Rattle.report_forms.specs.declared.options.Options.{Options}
 use Rattle.sequence_parts.specs.Ranges.{ArePart}
 use Rattle.sequence_parts.specs.declared.ranges.Share.{Share}
+use Rattle.geolint_files.specs.JoinReport.{IsTrueLine}
 use Rattle.geolint_files.specs.Listed.{asked_in}
 
 -- of this part of this file, checked with these options
@@ -30,3 +31,8 @@ pub record IsReadLine (framing : Framing) (options : Options) (asked : Share) (t
   pub bytes : ArePart framing options.limits text asked.number asked.parts line.checked.begin line.checked.end
   pub says : IsListedLineOf framing options.limits text line
   pub listed : option_map (λ (listed : Listed). listed.asked) line.listed ≡ asked_in options
+
+-- and where it is one text: what is found of its features
+abbrev pub IsReadLineBy : Option Framing → Options → Share → List ℕ → PartLine → Type 0
+IsReadLineBy (Some framing) options asked text line = IsReadLine framing options asked text line
+IsReadLineBy None options asked text line = (line.settings.framing ≡ None) × (line.listed ≡ None) × IsTrueLine options.limits line text

@@ -1,5 +1,5 @@
 -- What a run reports: of each file in turn its report and the lines of its features, at the end a summary, and the worst of the outcomes.
-use Rattle.std.specs.Prelude.{◌≡◌, ℕ, Bool, true, false, if◌then◌else◌, List, [], ◌∷◌, ◌++◌, map, Option, Some, None}
+use Rattle.std.specs.Prelude.{◌≡◌, ℕ, Bool, true, false, if◌then◌else◌, List, [], ◌∷◌, ◌++◌, map, Option, Some, None, codes}
 use Rattle.geolint_report.specs.declared.every.tally.Tally.{Tally}
 use Rattle.geolint_report.specs.declared.judge.Finding.{Finding}
 use Rattle.geolint_report.specs.declared.report.Report.{Report}
@@ -9,11 +9,11 @@ use Rattle.report_forms.specs.declared.options.Every.{Every}
 use Rattle.report_forms.specs.declared.options.Format.{Format}
 use Rattle.report_forms.specs.declared.options.Options.{Options}
 use Rattle.report_forms.specs.Passing.{passes}
-use Rattle.report_forms.specs.Forms.{IsReport, IsUnreadReport, KeepsUnread, first_after}
+use Rattle.report_forms.specs.Forms.{IsReport, IsUnreadReport, KeepsUnread, first_after, first_after_unread}
 use Rattle.report_forms.specs.Forms.Features.{IsEntry, IsMore, first_behind}
 use Rattle.report_forms.specs.Forms.Sarif.{sarif_begin, sarif_end}
 use Rattle.report_forms.specs.Items.{items_summary}
-use Rattle.report_forms.specs.Summary.{summary_of}
+use Rattle.report_forms.specs.Summary.{calls_of, summary_of}
 use Rattle.geolint_files.specs.declared.outcome.Outcome.{Outcome}
 use Rattle.geolint_files.specs.declared.outcome.Outcome.TheVariants.{Unread}
 use Rattle.geolint_files.specs.Outcome.{outcome_of, worst}
@@ -69,9 +69,9 @@ pub record AddsReport (options : Options) (style : Style) (report : Report) (bef
 
 pub record AddsUnread (options : Options) (name reason : List ℕ) (before after : Written) : Type 0 where
   pub told : List ℕ
-  pub is_report : IsUnreadReport options.format name reason told
+  pub is_report : IsUnreadReport options.format before.is_first name reason told
   pub bytes : after.bytes ≡ before.bytes ++ told
-  pub first : after.is_first ≡ before.is_first
+  pub first : after.is_first ≡ first_after_unread options.format before.is_first
   pub unread : KeepsUnread options.format name reason before.unread after.unread
 
 abbrev pub IsLine : Options → Style → Bool → FeatureLine → List ℕ → Type 0
@@ -109,16 +109,24 @@ AddsFiles options style (file ∷ more) before after = (middle : Written) × Add
 
 -- before the first file
 abbrev pub begin_of : Format → List ℕ
+begin_of Format.Gitlab = codes "["
 begin_of Format.Sarif = sarif_begin
 begin_of format = []
 
 abbrev pub begun : Format → Written
 begun format = record { bytes = begin_of format; is_first = true; unread = [] }
 
+-- on a terminal the calls that explain what is reported
+abbrev pub calls_in : Style → List ToldFile → List ℕ
+calls_in Style.Colour files = calls_of (map finding_in files) (tallies_in files)
+calls_in Style.Plain files = []
+
 -- after the last one
-abbrev pub end_of : Format → List ℕ → List ℕ
-end_of Format.Sarif unread = sarif_end unread
-end_of format unread = []
+abbrev pub end_of : Format → Style → List ToldFile → List ℕ → List ℕ
+end_of Format.Gitlab style files unread = codes "]\n"
+end_of Format.Sarif style files unread = sarif_end unread
+end_of Format.Lines style files unread = calls_in style files
+end_of format style files unread = []
 
 -- for people the summary follows the report; beside a report for programs it is on standard error
 abbrev pub has_summary : Format → Bool → Bool
@@ -141,4 +149,4 @@ summary_in options files = if has_summary options.format options.summary then wh
 pub record IsWholeReport (options : Options) (style : Style) (files : List ToldFile) (bytes : List ℕ) : Type 0 where
   pub written : Written
   pub files_told : AddsFiles options style files (begun options.format) written
-  pub whole : bytes ≡ written.bytes ++ (end_of options.format written.unread ++ summary_in options files)
+  pub whole : bytes ≡ written.bytes ++ (end_of options.format style files written.unread ++ summary_in options files)

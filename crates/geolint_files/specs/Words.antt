@@ -15,7 +15,9 @@ format_named word =
     then Format.Json
     else (if pointwise nat_eq word (codes "github")
     then Format.Github
-    else (if pointwise nat_eq word (codes "sarif") then Format.Sarif else Format.Lines)))
+    else (if pointwise nat_eq word (codes "gitlab")
+    then Format.Gitlab
+    else (if pointwise nat_eq word (codes "sarif") then Format.Sarif else Format.Lines))))
 
 abbrev pub format_by : Option (List ℕ) → Format
 format_by None = Format.Lines

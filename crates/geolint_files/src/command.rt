@@ -129,7 +129,7 @@ static OPTIONS: [CommandOption; 21] = [
         name: "format",
         value_name: &["FORMAT"],
         help: "Write the report in this form",
-        values: ValueParser::Names(&["text", "lines", "json", "github", "sarif"]),
+        values: ValueParser::Names(&["text", "lines", "json", "github", "gitlab", "sarif"]),
         default: &["lines"],
         ..VALUED
     },
@@ -171,7 +171,7 @@ static OPTIONS: [CommandOption; 21] = [
     CommandOption {
         name: "part",
         value_name: &["I/N"],
-        help: "Check the I-th of N parts of a text sequence or of newline-delimited texts, and write a line of JSON about it for --join",
+        help: "Check the I-th of N parts of a file, and write a line of JSON about it for --join",
         conflicts: &["split", "quick"],
         ..VALUED
     },
@@ -194,7 +194,7 @@ static OPTIONS: [CommandOption; 21] = [
     CommandOption {
         name: "file",
         value_name: &["PATH"],
-        help: "With --join, find lines and columns in this file, if it is as it was: the path that each --part had",
+        help: "With --join, find lines and columns in this file, and of one text what no part has checked, if it is as it was: the path that each --part had",
         needs: &["join"],
         ..VALUED
     },

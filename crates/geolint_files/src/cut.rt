@@ -1,35 +1,38 @@
-//! Checks a file of records in parts, and joins their lines.
+//! Checks a file in parts, and joins their lines.
 //!
 //! No contract can say what an open file gives. Those here say which part a line is of and with which options, what it says of a
 //! source of bytes, and that what is reported is what the lines say together of the file, if they are true.
 
-ghost use Rattle.std.specs.Prelude.{◌≡◌, ◌-◌, ◌≤◌, ℕ, List, IfOk, IfSome, OnOk, get_or, length, string_bytes, vec_len};
+ghost use Rattle.std.specs.Prelude.{◌≡◌, ◌-◌, ◌≤◌, ℕ, List, Option, None, Some, IfOk, IfSome, OnOk, get_or, if◌then◌else◌, length, string_bytes, vec_len};
 ghost use Rattle.std.specs.Io.KnownBytes.{Appends};
 ghost use Rattle.std.specs.List.{All};
 ghost use Rattle.gj_json.specs.Limits.{Allowed};
 ghost use Rattle.gj_join.specs.Joined.{IsVerdictOf};
 ghost use Rattle.gj_rules.specs.declared.records.framing.Framing.{Framing};
-ghost use Rattle.geolint_report.specs.declared.judge.Finding.{Finding};
 ghost use Rattle.part_lines.specs.Lines.{IsLike, IsLineOf, IsListedLineOf};
 ghost use Rattle.part_lines.specs.LineText.{line_text};
 ghost use Rattle.part_lines.specs.declared.line.PartLine.{PartLine};
 ghost use Rattle.sequence_parts.specs.Checked.{AreNotesIf};
 ghost use Rattle.geolint_files.specs.Listed.{asked_in};
-ghost use Rattle.geolint_files.specs.AskedLine.{IsAskedLine, IsReadLine, listed_of};
-ghost use Rattle.geolint_files.specs.JoinReport.{AreJoined, IsJoinReport, joined_options};
-ghost use Rattle.geolint_files.specs.JoinedRun.{IsJoinedRun};
+ghost use Rattle.geolint_files.specs.AskedLine.{IsAskedLine, IsReadLine, IsReadLineBy, listed_of};
+ghost use Rattle.geolint_files.specs.JoinReport.{AreRecordsJoined, IsJoinedText, IsJoinReport, joined_options, lists_none};
+ghost use Rattle.geolint_files.specs.JoinedRun.{IsJoinedRun, Readings, readings_of};
 
 use crate::files::{look_up, reason};
 use crate::run::{Ended, Failure, asked_in, tell_joined};
 use crate::walk::framing_by;
 use crate::words::Order;
+use collection_parts::{Joined, check_features, join_features};
 use geolint_report::every::listing::{Asked, Notes};
+use geolint_report::judge::Finding;
 use geolint_report::progress::Meter;
+use geolint_report::reading_loop::Counts;
 use geolint_report::source::{FileSource, Rewind};
-use gj_rules::{Framing, SeqVerdict};
+use gj_json::Limits;
+use gj_rules::{Framing, SeqVerdict, Verdict};
 use part_lines::{
-    FileState, Listed, NoLine, PartLine, Refusal, Settings, join_lines, join_notes, put_line,
-    read_line,
+    FileState, Listed, NoLine, PartLine, Refusal, Settings, join_lines, join_notes, parts_of,
+    put_line, read_line,
 };
 use report_forms::formats::put_name;
 use report_forms::options::Options;
@@ -50,6 +53,14 @@ const LONG_LINE: &str = "this line has more than 8 MiB, and no line of a part ha
 const TOO_MUCH: &str =
     "the lines have more than 256 MiB together: give each --part a smaller --most";
 
+const NO_FILE: &str =
+    "the lines are of one text, of which --join reads what no part has checked: name the file, as it was, with --file <FILE>";
+
+const MEGABYTE: u64 = 1_000_000;
+
+const UNDIVIDED: &str =
+    ": no two features were found between which it can be divided: --join read all of it\n";
+
 const OTHER_FILE: &str =
     "the lines are of another file than --file names: give the path as each --part had it";
 
@@ -69,18 +80,15 @@ pub fn check_share<W: Write>(
         Some(path) => path.as_slice(),
         None => b"-",
     };
-    let Some(framing) = framing_by(order.options.framing, name) else {
-        return Err(io::Error::from(ErrorKind::InvalidInput));
-    };
     let (file, state) = open_regular(rt, name)?;
     let mut meter = Meter::new(rt.clone()?);
     let options = &order.options;
     let source = FileSource::new(file);
-    let line = line_of(
+    let line = share_line(
         rt.alloc(),
         options,
         share,
-        framing,
+        framing_by(options.framing, name),
         state,
         source,
         &mut meter,
@@ -118,7 +126,49 @@ fn open_regular(rt: &HostRuntime, name: &[u8]) -> io::Result<(File, FileState)> 
     Ok((file, state))
 }
 
-/// The line of a part of a source, which has as many bytes as the file.
+/// The line of a part of a source, which has as many bytes as the file: of its records, or where it has none of the features of one
+/// text.
+fn share_line<S: Rewind + Drop>(
+    alloc: Global,
+    options: &Options,
+    share: Share,
+    framing: Option<Framing>,
+    file: FileState,
+    source: S,
+    meter: &mut Meter,
+) -> io::Result<PartLine>
+    ensures asked { IfOk result (IsAskedLine options.now share file) }
+    ensures read { IfOk result (λ line. IfSome (S.text source) (λ text. length text ≡ file.size → IsReadLineBy framing options.now share text line)) }
+{
+    match framing {
+        Some(framing) => line_of(alloc, options, share, framing, file, source, meter),
+        None => line_of_features(options, share, file, source, meter),
+    }
+}
+
+/// The line of features.
+fn line_of_features<S: Rewind + Drop>(
+    chosen: &Options,
+    share: Share,
+    file: FileState,
+    source: S,
+    meter: &mut Meter,
+) -> io::Result<PartLine>
+    ensures asked { IfOk result (IsAskedLine chosen.now share file) }
+    ensures read { IfOk result (λ line. IfSome (S.text source) (λ text. IsReadLineBy None chosen.now share text line)) }
+{
+    let mut source = source;
+    let checked = check_features(&mut source, file.size, share, chosen.limits, meter)?;
+    Ok(PartLine {
+        file,
+        settings: settings_of(chosen, None),
+        share,
+        checked,
+        listed: None,
+    })
+}
+
+/// The line of records.
 fn line_of<S: Rewind + Drop>(
     alloc: Global,
     options: &Options,
@@ -145,15 +195,22 @@ fn line_of<S: Rewind + Drop>(
     let found = found?;
     Ok(PartLine {
         file,
-        settings: Settings {
-            framing,
-            limits: options.limits,
-            strictness: options.strictness,
-        },
+        settings: settings_of(options, Some(framing)),
         share,
         checked: found.part,
         listed: listed_of(asked, found.notes),
     })
+}
+
+/// What decides whether the file passes.
+fn settings_of(options: &Options, framing: Option<Framing>) -> Settings
+    ensures { result ≡ record { framing = framing; limits = options.now.limits; strictness = options.now.strictness } }
+{
+    Settings {
+        framing,
+        limits: options.limits,
+        strictness: options.strictness,
+    }
 }
 
 /// The notes of a part, with what was asked for.
@@ -228,6 +285,10 @@ pub enum NotJoined {
     NoLine(Origin, NoLine),
     /// The lines are not of the file that is named.
     OtherFile,
+    /// They are of one text, and its file is not named, is not there or has changed.
+    NoFile,
+    /// The text cannot be read.
+    Text(io::Error),
     Refused(Option<Origin>, Refusal),
     Memory,
     /// The report is not written.
@@ -246,30 +307,161 @@ pub fn join_all<W: Write + Drop>(
     order: &Order,
     out: W,
 ) -> Result<Ended<W>, NotJoined>
-    ensures { IfOk result (λ ended. (lines : List PartLine)
-        × IsJoinReport order.now.options lines (W.contents out) (W.contents ended.out) ended.outcome) }
+    ensures { IfOk result (λ ended. (lines : List PartLine) × (source : Option Readings)
+        × IsJoinReport order.now.options lines source (W.contents out) (W.contents ended.out) ended.outcome) }
 {
     let given = given_lines(rt, order)?;
-    let source = source_of(rt, order, &given)?;
-    report_given(rt, order, &given, source, out)
+    let mut source = source_of(rt, order, &given)?;
+    report_given(rt, order, &given, &mut source, out)
 }
 
-/// Joins these lines, and reports the file. Its places have lines and columns where its source is there.
-fn report_given<W: Write + Drop, S: Rewind + Drop>(
+/// Joins these lines, and reports the file. Its places have lines and columns where its source is there, without which one text is not
+/// joined.
+fn report_given<W: Write + Drop, S: Rewind>(
     rt: &HostRuntime,
     order: &Order,
     given: &Given,
-    source: Option<S>,
+    source: &mut Option<S>,
     out: W,
 ) -> Result<Ended<W>, NotJoined>
-    ensures { IfOk result
-        (λ ended. IsJoinReport order.now.options given.now.lines.items (W.contents out) (W.contents ended.out) ended.outcome) }
+    ensures { IfOk result (λ ended. IsJoinReport order.now.options given.now.lines.items
+        (readings_of S.text S.failed_reads source.old source.new) (W.contents out) (W.contents ended.out) ended.outcome) }
 {
     let Some(line) = given.lines.as_slice().first() else {
         return Err(NotJoined::Refused(None, Refusal::None));
     };
-    let found = join_given(rt.alloc(), &order.options, given)?;
-    report(rt, order, line, found.0, found.1, source, out)
+    match line.settings.framing {
+        Some(_) => {
+            let found = join_given(rt.alloc(), &order.options, given)?;
+            let finding = Some(Finding::Sequence(found.0));
+            report(rt, order, line, finding, found.1, source, out)
+        }
+        None => {
+            let mut read = BytesRead::new(rt)?;
+            let joined = join_text(rt, given, line.settings.limits, source, &mut read)?;
+            let finding = told_by_parts(&order.options, joined.verdict);
+            let ended = report(rt, order, line, finding, None, source, out)?;
+            say_read(rt, line, &joined, read.bytes);
+            Ok(ended)
+        }
+    }
+}
+
+/// How many bytes were read, as a meter shows them.
+#[derive(Drop)]
+struct BytesRead {
+    meter: Meter,
+    bytes: u64,
+}
+
+impl BytesRead {
+    fn new(rt: &HostRuntime) -> Result<BytesRead, AllocError> {
+        Ok(BytesRead {
+            meter: Meter::new(rt.clone()?),
+            bytes: 0,
+        })
+    }
+}
+
+impl Counts for BytesRead {
+    fn add_bytes(&mut self, count: usize) {
+        self.bytes = self.bytes.saturating_add(count as u64);
+        self.meter.add_bytes(count);
+    }
+}
+
+/// What is found of the one text of which these are parts. Its source is read where none of them passes over it.
+fn join_text<S: Rewind>(
+    rt: &HostRuntime,
+    given: &Given,
+    limits: Limits,
+    source: &mut Option<S>,
+    read: &mut BytesRead,
+) -> Result<Joined, NotJoined>
+    ensures verdict { IfOk result (λ joined. (now : Option S)
+        → IsJoinedText limits given.now.lines.items (readings_of S.text S.failed_reads source.old now) joined.verdict) }
+    ensures alike { IfOk result (λ joined. (none : PartLine) → All (IsLike (get_or given.now.lines.items 0 none)) given.now.lines.items) }
+    ensures source { IfOk result (λ _. (now : Option S)
+        → readings_of S.text S.failed_reads source.new now ≡ readings_of S.text S.failed_reads source.old now) }
+{
+    let Some(source) = source else {
+        return Err(NotJoined::NoFile);
+    };
+    let parts = match parts_of(rt.alloc(), given.lines.as_slice()) {
+        Ok(parts) => parts,
+        Err(refusal) => return Err(NotJoined::Refused(origin_of(given, refusal), refusal)),
+    };
+    let joined = join_features(source, limits, parts.as_slice(), read);
+    read.meter.clear();
+    match joined {
+        Ok(joined) => Ok(joined),
+        Err(error) => Err(NotJoined::Text(error)),
+    }
+}
+
+/// What is found of one text, where its report says all that is asked for. `None` where its features are listed or counted: it is read
+/// as in one run then.
+fn told_by_parts(options: &Options, verdict: Verdict) -> Option<Finding>
+    ensures { result ≡ (if lists_none (asked_in options.now) options.now.summary verdict then Some (Finding.Text verdict) else None) }
+{
+    if lists_none(asked_in(options), options.summary, verdict) {
+        Some(Finding::Text(verdict))
+    } else {
+        None
+    }
+}
+
+/// Whether no feature of a text is listed, and none is counted.
+fn lists_none(asked: Option<Asked>, summary: bool, verdict: Verdict) -> bool
+    ensures { result ≡ lists_none asked summary verdict }
+{
+    match (asked, verdict) {
+        (None, _) | (Some(_), Verdict::NotJson(_)) => true,
+        (Some(asked), Verdict::Valid(warnings)) => !summary
+            && (!asked.with_warnings || warnings.is_empty()),
+        (Some(_), Verdict::Broken(_)) => false,
+    }
+}
+
+/// Says how much of one text `--join` had to read, where that is more than a sixteenth of it, and a megabyte at the least. Of a text that
+/// is no JSON it says nothing.
+fn say_read(rt: &HostRuntime, line: &PartLine, joined: &Joined, read: u64) {
+    if read < MEGABYTE || read <= line.file.size / 16 {
+        return;
+    }
+    if let Verdict::NotJson(_) = joined.verdict {
+        return;
+    }
+    let mut said = Vec::new(rt.alloc());
+    if put_read(rt.alloc(), line, joined.passed, read, &mut said).is_ok() {
+        // The status says nothing of this.
+        let _ = rt.stderr().write_all(said.as_slice());
+    }
+}
+
+/// The sentence on that, with its LF.
+fn put_read(
+    alloc: Global,
+    line: &PartLine,
+    passed: u64,
+    read: u64,
+    out: &mut Vec<u8>,
+) -> io::Result<()> {
+    out.extend_from_slice(b"geolint-files: ")?;
+    put_name(line.file.path.as_bytes(), out)?;
+    let parts = line.share.parts;
+    let others = parts.saturating_sub(passed);
+    let megabytes = read / MEGABYTE;
+    let text = if passed == 0 {
+        String::from_str(alloc, UNDIVIDED)?
+    } else if others == 0 {
+        format!(in alloc; ": {megabytes} MB were read by --join\n")?
+    } else {
+        format!(in alloc;
+            ": {others} of {parts} parts did not begin between two features; {megabytes} MB were read by --join\n"
+        )?
+    };
+    Ok(out.extend_from_slice(text.as_bytes())?)
 }
 
 /// The verdict of the file, and the notes on its records where these are asked for.
@@ -278,7 +470,7 @@ fn join_given(
     options: &Options,
     given: &Given,
 ) -> Result<(SeqVerdict, Option<Notes>), NotJoined>
-    ensures joined { IfOk result (λ found. AreJoined options.now given.now.lines.items found.0 found.1) }
+    ensures joined { IfOk result (λ found. AreRecordsJoined options.now given.now.lines.items found.0 found.1) }
     ensures alike { IfOk result (λ found. (none : PartLine) → All (IsLike (get_or given.now.lines.items 0 none)) given.now.lines.items) }
 {
     match join_listed(alloc, options, given.lines.as_slice()) {
@@ -379,18 +571,18 @@ fn add_lines(alloc: Global, path: usize, bytes: &[u8], given: &mut Given) -> Res
     Ok(())
 }
 
-/// Reports the file of the lines.
-fn report<W: Write + Drop, S: Rewind + Drop>(
+/// Reports the file of the lines, which is read as in one run where nothing is found of it yet.
+fn report<W: Write + Drop, S: Rewind>(
     rt: &HostRuntime,
     order: &Order,
     line: &PartLine,
-    verdict: SeqVerdict,
+    finding: Option<Finding>,
     notes: Option<Notes>,
-    source: Option<S>,
+    source: &mut Option<S>,
     out: W,
 ) -> Result<Ended<W>, NotJoined>
-    ensures { IfOk result (λ ended. IsJoinedRun (joined_options order.now.options line.now.settings) notes (string_bytes line.now.file.path)
-        (Finding.Sequence verdict) (W.contents out) (W.contents ended.out) ended.outcome) }
+    ensures { IfOk result (λ ended. IsJoinedRun (joined_options order.now.options line.now.settings) finding notes (string_bytes line.now.file.path)
+        (readings_of S.text S.failed_reads source.old source.new) (W.contents out) (W.contents ended.out) ended.outcome) }
 {
     let alloc = rt.alloc();
     let asked = &order.options;
@@ -399,7 +591,7 @@ fn report<W: Write + Drop, S: Rewind + Drop>(
             limits: line.settings.limits,
             strictness: line.settings.strictness,
             quick: false,
-            framing: Some(line.settings.framing),
+            framing: line.settings.framing,
             format: asked.format,
             summary: asked.summary,
             every: asked.every,
@@ -416,7 +608,7 @@ fn report<W: Write + Drop, S: Rewind + Drop>(
         joined: None,
     };
     let name = line.file.path.as_bytes();
-    match tell_joined(rt, &joined, name, verdict, notes, source, out) {
+    match tell_joined(rt, &joined, name, finding, notes, source, out) {
         Ok(ended) => Ok(ended),
         Err(failure) => Err(NotJoined::Report(failure)),
     }
@@ -450,16 +642,21 @@ pub fn put_unchecked(
     out: &mut Vec<u8>,
 ) -> io::Result<()> {
     put_named(order, 0, out)?;
-    let text = match error.kind() {
-        ErrorKind::NotSeekable => String::from_str(rt.alloc(), "not a regular file")?,
-        ErrorKind::InvalidData => String::from_str(rt.alloc(), "it has changed")?,
-        ErrorKind::UnexpectedEof => {
-            String::from_str(rt.alloc(), "its bytes could not all be read")?
-        }
-        _ => reason(rt.alloc(), error)?,
-    };
+    let text = unchecked_text(rt.alloc(), error)?;
     out.extend_from_slice(text.as_bytes())?;
     Ok(out.push(b'\n')?)
+}
+
+/// Why a file was not checked.
+fn unchecked_text(alloc: Global, error: &io::Error) -> io::Result<String> {
+    match error.kind() {
+        ErrorKind::NotSeekable => Ok(String::from_str(alloc, "not a regular file")?),
+        ErrorKind::InvalidData => Ok(String::from_str(alloc, "it has changed")?),
+        ErrorKind::UnexpectedEof => {
+            Ok(String::from_str(alloc, "its bytes could not all be read")?)
+        }
+        _ => Ok(reason(alloc, error)?),
+    }
 }
 
 /// Puts the name of the program, and of one of the files that are named.
@@ -496,6 +693,14 @@ pub fn put_not_joined(
         NotJoined::OtherFile => {
             out.extend_from_slice(b"geolint-files: ")?;
             String::from_str(alloc, OTHER_FILE)?
+        }
+        NotJoined::NoFile => {
+            out.extend_from_slice(b"geolint-files: ")?;
+            String::from_str(alloc, NO_FILE)?
+        }
+        NotJoined::Text(error) => {
+            out.extend_from_slice(b"geolint-files: ")?;
+            unchecked_text(alloc, error)?
         }
         NotJoined::NoLine(origin, why) => {
             put_origin(rt, order, *origin, out)?;

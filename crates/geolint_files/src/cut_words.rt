@@ -1,7 +1,5 @@
 //! The words by which a file is checked in parts.
 
-use crate::walk::framing_by;
-use crate::words::framing_in;
 use clap::ArgMatches;
 use sequence_parts::Share;
 
@@ -48,15 +46,10 @@ pub fn wrong_cut(
         return None;
     }
     match paths {
-        [path] => match path.as_slice() {
-            b"-" => Some(
-                "'--part <I/N>' needs a file, since it starts reading in the middle: write standard input to a file first",
-            ),
-            name if framing_by(framing_in(given), name).is_some() => None,
-            _ => Some(
-                "'--part <I/N>' takes a text sequence (*.geojsons, or '--seq') or newline-delimited texts (*.ndjson, or '--ndjson')",
-            ),
-        },
+        [path] if path.as_slice() == b"-".as_slice() => Some(
+            "'--part <I/N>' needs a file, since it starts reading in the middle: write standard input to a file first",
+        ),
+        [_] => None,
         _ => Some("'--part <I/N>' takes one file"),
     }
 }

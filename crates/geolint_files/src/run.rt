@@ -5,34 +5,29 @@ ghost use Rattle.geolint_report.specs.Line.{Adds};
 ghost use Rattle.geolint_report.specs.Tallies.{IsTotal};
 ghost use Rattle.report_forms.specs.FileCounts.{Counts};
 ghost use Rattle.report_forms.specs.declared.formats.lines.Style.{Style};
-ghost use Rattle.geolint_files.specs.Run.{ToldFile, finding_in, tallies_in, whole_summary};
+ghost use Rattle.geolint_files.specs.Run.{ToldFile, calls_in, finding_in, tallies_in, whole_summary};
 ghost use Rattle.geolint_files.specs.Named.{IsRun};
 ghost use Rattle.geolint_files.specs.Walk.{first_named, is_input, is_input_path, takes_input_twice};
 
 mod features;
 mod joined;
+mod reports;
 
-use crate::files::{Spelled, is_lost_link, is_memory, look_up, reason, shown_folder, spell};
+use crate::files::{Spelled, is_lost_link, is_memory, look_up, shown_folder, spell};
 use crate::outcome::Outcome;
 use crate::walk::{Others, Pending, Walk, framing_by, is_taken};
 use crate::words::Order;
 pub use features::asked_in;
 use geolint_report::every::tally::Tally;
-use geolint_report::found::{Found, found_at};
-use geolint_report::hints::find_hint;
-use geolint_report::judge::{Finding, Reading, judge};
+use geolint_report::judge::{Reading, judge};
+use geolint_report::line::put;
 use geolint_report::progress::Meter;
-use geolint_report::report::Report;
-use geolint_report::rereading::find_sites;
-use geolint_report::sites::Sites;
 use geolint_report::source::{FileSource, FromRead, Rewind, Source};
-use gj_hints::Hint;
 use gj_rules::{Framing, Linter};
 pub use joined::tell_joined;
 use name_lists::{Listed, NameEnd, Names};
 use report_forms::formats::lines::Style;
 use report_forms::formats::sarif::Log;
-use report_forms::formats::{github, json, lines, put_unread_line, text};
 use report_forms::items::put_items;
 use report_forms::options::{Every, Format, Options};
 use report_forms::summary::Summary;
@@ -195,18 +190,14 @@ fn style_of(rt: &HostRuntime, is_terminal: bool) -> Style
 impl<'a, W: Write + Drop> Run<'a, W> {
     ghost use Rattle.std.specs.Prelude.{◌≡◌, ◌∷◌, [], ℕ, Bool, List, Vec, Option, None, IfOk, OnOk, IsSomeAnd, map, true};
     ghost use Rattle.std.specs.Io.KnownBytes.{Appends, Keeps};
-    ghost use Rattle.geolint_report.specs.declared.report.Report.{Report};
     ghost use Rattle.geolint_report.specs.Line.{Adds};
-    ghost use Rattle.geolint_report.specs.Sought.{AreSought};
     ghost use Rattle.geolint_report.specs.Tallies.{IsTotal};
     ghost use Rattle.report_forms.specs.declared.formats.lines.Style.{Style};
     ghost use Rattle.report_forms.specs.declared.options.Options.{Options};
-    ghost use Rattle.report_forms.specs.Passing.{passes};
-    ghost use Rattle.report_forms.specs.Forms.{TellsReport, TellsUnread, KeepsInLog, first_after};
     ghost use Rattle.report_forms.specs.FileCounts.{Counts};
     ghost use Rattle.geolint_files.specs.declared.run.Failure.{Failure};
     ghost use Rattle.geolint_files.specs.Internal.RunState.{HasTold, IsFresh, TellsFile, TellsFiles, SameTold, Unchanged};
-    ghost use Rattle.geolint_files.specs.Run.{ToldFile, judged, not_read, finding_in, tallies_in, IsWholeReport, end_of, summary_in};
+    ghost use Rattle.geolint_files.specs.Run.{ToldFile, judged, not_read, finding_in, tallies_in, IsWholeReport, begin_of, end_of, summary_in};
     ghost use Rattle.geolint_files.specs.Told.{reading_of, framing_by, IsToldOnce, IsToldTwice, HasSites};
     ghost use Rattle.geolint_files.specs.Listed.{IsOnce, IsTwice};
     ghost use Rattle.geolint_files.specs.Named.{AreOf, AreOfList, AreOfOrder, GoesOn, name_in, next_in};
@@ -245,10 +236,23 @@ impl<'a, W: Write + Drop> Run<'a, W> {
         ensures { OnOk result
             ((held : Option (List ℕ)) → IsFresh W.contents held self.old → HasTold W.contents held self.old.options self.old.style [] self.new) }
     {
-        if self.options.format == Format::Sarif {
-            self.log.begin(&mut self.line)?;
+        self.put_begin()?;
+        self.write()?;
+        Ok(())
+    }
+
+    /// Appends what a log or an array begins with.
+    fn put_begin(&mut self) -> Result<(), AllocError>
+        ensures same { SameTold self.old self.new }
+        ensures log { self.new.log ≡ self.old.log }
+        ensures out { self.new.out ≡ self.old.out }
+        ensures told { OnOk result (Adds self.old.line self.new.line (begin_of self.old.options.format)) }
+    {
+        match self.options.format {
+            Format::Gitlab => put(&mut self.line, b"["),
+            Format::Sarif => self.log.begin(&mut self.line),
+            _ => Ok(()),
         }
-        self.write()
     }
 
     /// Reports to the progress line how many bytes there are, where that is known without a walk: each path is a file.
@@ -292,15 +296,18 @@ impl<'a, W: Write + Drop> Run<'a, W> {
         Ok(())
     }
 
-    /// Appends what a log ends with, if that form is asked for.
+    /// Appends what a log or an array ends with, or lines on a terminal.
     fn put_end(&mut self) -> Result<(), AllocError>
         ensures same { SameTold self.old self.new }
         ensures log { self.new.log ≡ self.old.log }
         ensures out { self.new.out ≡ self.old.out }
-        ensures told { OnOk result (Adds self.old.line self.new.line (end_of self.old.options.format self.old.log.unread.items)) }
+        ensures told { (files : List ToldFile) → Counts self.old.summary (map finding_in files) → IsTotal self.old.tally (tallies_in files)
+            → OnOk result (Adds self.old.line self.new.line (end_of self.old.options.format self.old.style files self.old.log.unread.items)) }
     {
         match self.options.format {
+            Format::Gitlab => put(&mut self.line, b"]\n"),
             Format::Sarif => self.log.end(&mut self.line),
+            Format::Lines => put_calls(self.style, &self.summary, &self.tally, &mut self.line),
             _ => Ok(()),
         }
     }
@@ -633,172 +640,21 @@ impl<'a, W: Write + Drop> Run<'a, W> {
             Err(error) => self.tell_unread(name, &error),
         }
     }
+}
 
-    /// Reports a file that was checked, with the lines of its places where it has some.
-    fn tell_found<S: Rewind>(
-        &mut self,
-        name: &[u8],
-        finding: Finding,
-        source: &mut S,
-        reading: Reading,
-    ) -> Result<(), Failure>
-        ensures text { S.text source.new ≡ S.text source.old }
-        ensures told { OnOk result ((report : Report) × (report.name.now ≡ name.now) × (report.finding ≡ finding)
-            × HasSites reading self.old.options.limits (S.text source.old) (S.failed_reads source.old) (S.failed_reads source.new) report
-            × TellsFile W.contents (judged report) self.old self.new) }
-    {
-        if finding.has_places() {
-            self.tell_sought(name, finding, source, reading)
-        } else {
-            self.tell(name, finding, None)
-        }
-    }
-
-    /// Reads a source again, and reports it with its lines: with none where that failed.
-    ///
-    /// The sites have room of their own, so a file without any pays nothing for it.
-    #[inline(never)]
-    fn tell_sought<S: Rewind>(
-        &mut self,
-        name: &[u8],
-        finding: Finding,
-        source: &mut S,
-        reading: Reading,
-    ) -> Result<(), Failure>
-        ensures text { S.text source.new ≡ S.text source.old }
-        ensures told { OnOk result ((report : Report) × (report.name.now ≡ name.now) × (report.finding ≡ finding)
-            × IsSomeAnd report.sites
-            (λ sites. AreSought finding reading self.old.options.limits (S.text source.old) (S.failed_reads source.old) (S.failed_reads source.new) sites.now)
-            × TellsFile W.contents (judged report) self.old self.new) }
-    {
-        let sites = find_sites(
-            &finding,
-            source,
-            reading,
-            self.options.limits,
-            &mut self.progress,
-        );
-        let found = found_at(&finding, &sites, reading, source);
-        let hint = find_hint(&finding, self.linter, source);
-        self.tell_with_hint(name, finding, Some(&sites), found, hint)
-    }
-
-    /// Reports a file that was checked.
-    fn tell(&mut self, name: &[u8], finding: Finding, sites: Option<&Sites>) -> Result<(), Failure>
-        ensures { OnOk result (TellsFile W.contents (judged (record {
-          name = name.entry;
-          finding = finding;
-          sites = sites.entry;
-          passes = passes self.old.options.strictness finding;
-          found = None;
-          hint = None;
-        })) self.old self.new) }
-    {
-        self.tell_with_hint(name, finding, sites, None, None)
-    }
-
-    /// Reports a file that was checked, and what it looks like.
-    fn tell_with_hint(
-        &mut self,
-        name: &[u8],
-        finding: Finding,
-        sites: Option<&Sites>,
-        found: Option<Found>,
-        hint: Option<Hint>,
-    ) -> Result<(), Failure>
-        ensures { OnOk result (TellsFile W.contents (judged (record {
-          name = name.entry;
-          finding = finding;
-          sites = sites.entry;
-          passes = passes self.old.options.strictness finding;
-          found = found;
-          hint = hint;
-        })) self.old self.new) }
-    {
-        self.progress.clear();
-        let passes = self.options.passes(&finding);
-        self.outcome.add(Outcome::of(passes));
-        self.summary.add_file(&finding);
-        let report = Report {
-            name,
-            finding,
-            sites,
-            passes,
-            found,
-            hint,
-        };
-        self.put(&report)?;
-        self.write()?;
-        self.show()
-    }
-
-    /// What is reported of a file, in the form that is asked for.
-    fn put(&mut self, report: &Report<'_>) -> Result<(), AllocError>
-        ensures same { SameTold self.old self.new }
-        ensures out { self.new.out ≡ self.old.out }
-        ensures told { OnOk result
-            (TellsReport self.old.options.format self.old.style self.old.log.is_first report.now self.old.options.strictness self.old.line
-            self.new.line) }
-        ensures first { OnOk result
-            (self.new.log.is_first ≡ first_after self.old.options.format self.old.log.is_first report.now self.old.options.strictness) }
-        ensures unread { self.new.log.unread ≡ self.old.log.unread }
-    {
-        let alloc = self.rt.alloc();
-        match self.options.format {
-            Format::Text => text::put_report(report, &mut self.line),
-            Format::Lines => lines::put_report(alloc, report, self.style, &mut self.line),
-            Format::Json => json::put_report(alloc, report, &mut self.line),
-            Format::Github => github::put_report(alloc, report, &self.options, &mut self.line),
-            Format::Sarif => self.log.put_report(report, &self.options, &mut self.line),
-        }
-    }
-
-    /// Reports a file that could not be opened or read. Each is reported on standard error.
-    fn tell_unread(&mut self, name: &[u8], error: &io::Error) -> Result<(), Failure>
-        ensures { OnOk result ((reason : List ℕ) × TellsFile W.contents (not_read name.now reason) self.old self.new) }
-    {
-        self.progress.clear();
-        self.outcome.add(Outcome::Unread);
-        self.summary.add_unread();
-        let alloc = self.rt.alloc();
-        let reason = reason(alloc, error)?;
-        self.out.flush()?;
-        let mut line = Vec::new(alloc);
-        put_unread_line(name, reason.as_bytes(), &mut line)?;
-        // Where standard error cannot be written either, the status says it.
-        let _ = self.rt.stderr().write_all(line.as_slice());
-        self.put_unread(name, reason.as_str())?;
-        self.write()?;
-        self.show()
-    }
-
-    /// Appends the line on a file that was not read in the form that is asked for, or keeps it for the end of a log.
-    fn put_unread(&mut self, name: &[u8], reason: &str) -> Result<(), AllocError>
-        ensures same { SameTold self.old self.new }
-        ensures out { self.new.out ≡ self.old.out }
-        ensures told { OnOk result (TellsUnread self.old.options.format name.now reason.now self.old.line self.new.line) }
-        ensures log { OnOk result (KeepsInLog self.old.options.format name.now reason.now self.old.log self.new.log) }
-    {
-        let alloc = self.rt.alloc();
-        match self.options.format {
-            Format::Text | Format::Lines => Ok(()),
-            Format::Json => json::put_unread(alloc, name, reason, &mut self.line),
-            Format::Github => github::put_unread(alloc, name, reason, &mut self.line),
-            Format::Sarif => self.log.keep_unread(alloc, name, reason),
-        }
-    }
-
-    /// On a terminal each file is shown when it is checked.
-    fn show(&mut self) -> Result<(), Failure>
-        ensures same { SameTold self.old self.new }
-        ensures log { self.new.log ≡ self.old.log }
-        ensures line { self.new.line ≡ self.old.line }
-        ensures out { Keeps (W.contents self.old.out) (W.contents self.new.out) }
-    {
-        if self.is_terminal {
-            self.out.flush()?;
-        }
-        Ok(())
+/// Puts the calls that explain what is reported, on a terminal.
+fn put_calls(
+    style: Style,
+    summary: &Summary,
+    tally: &Tally,
+    line: &mut Vec<u8>,
+) -> Result<(), AllocError>
+    ensures { (files : List ToldFile) → Counts summary.now (map finding_in files) → IsTotal tally.now (tallies_in files)
+        → OnOk result (Adds line.old line.new (calls_in style files)) }
+{
+    match style {
+        Style::Colour => summary.put_calls(tally, line),
+        Style::Plain => Ok(()),
     }
 }
 

@@ -391,6 +391,7 @@ fn format_in(given: &ArgMatches<'_>) -> Format
         Some("text") => Format::Text,
         Some("json") => Format::Json,
         Some("github") => Format::Github,
+        Some("gitlab") => Format::Gitlab,
         Some("sarif") => Format::Sarif,
         _ => Format::Lines,
     }

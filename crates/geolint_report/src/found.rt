@@ -103,12 +103,31 @@ pub fn found_at<S: Rewind>(
 /// What is at the place where a rule is broken. The path is that of the place.
 fn find_found<S: Rewind>(rule: Rule, place: u64, path: Option<&Path>, source: &S) -> Option<Found> {
     match rule {
-        Rule::G3 => found_type(place, path, source),
-        Rule::G9 | Rule::G10 | Rule::G16 => found_value(place, source),
+        Rule::G2 | Rule::G3 => found_type(rule, place, path, source),
         Rule::G11 => found_shape(place, path, source),
-        Rule::G12 | Rule::G13 | Rule::G14 => found_elements(rule, place, source),
+        Rule::G12 | Rule::G13 | Rule::G14 | Rule::G21 => found_elements(rule, place, source),
         Rule::G15 => found_ends(place, source),
-        _ => None,
+        Rule::G4 | Rule::G5 | Rule::G8 => None,
+        Rule::G9 | Rule::G10 | Rule::G16 => found_value(place, source),
+        _ => {
+            let mut found = found_value(place, source)?;
+            found.add(due(rule));
+            Some(found)
+        }
+    }
+}
+
+/// What is due where a rule is broken, if it is the same at each place.
+fn due(rule: Rule) -> &'static [u8] {
+    match rule {
+        Rule::G1 => b"; an object is due",
+        Rule::G6 => b"; a geometry is due, an object or null",
+        Rule::G7 => b"; properties are due, an object or null",
+        Rule::G17 => b"; an array is due",
+        Rule::G18 => b"; an object or null is due",
+        Rule::G19 => b"; a string or a number is due",
+        Rule::G20 => b"; a bbox is an array of numbers",
+        _ => b"",
     }
 }
 
@@ -158,19 +177,23 @@ fn is_first(path: Option<&Path>) -> bool {
     }
 }
 
-/// A type, and those that are allowed there (RFC 7946, section 1.4), by the path to it.
-fn found_type<S: Rewind>(place: u64, path: Option<&Path>, source: &S) -> Option<Found> {
+/// An object without a type, or a type, and the types that are allowed there (RFC 7946, section 1.4), by the path to it.
+fn found_type<S: Rewind>(rule: Rule, place: u64, path: Option<&Path>, source: &S) -> Option<Found> {
     let mut found = found_value(place, source)?;
     if let Some(path) = path {
-        found.add(b"; allowed here: ");
-        found.add(allowed_types(path));
+        let (due, steps): (&'static [u8], u16) = match rule {
+            Rule::G2 => (b"; a type is due: ", path.len()),
+            _ => (b"; allowed here: ", path.len().saturating_sub(1)),
+        };
+        found.add(due);
+        found.add(allowed_types(path, steps));
     }
     Some(found)
 }
 
-/// The types of the object whose `type` has this path.
-fn allowed_types(path: &Path) -> &'static [u8] {
-    match member_around(path, path.len().saturating_sub(1)) {
+/// The types of the object that the first `steps` steps of a path lead to.
+fn allowed_types(path: &Path, steps: u16) -> &'static [u8] {
+    match member_around(path, steps) {
         Some(Known::Features) => b"Feature",
         Some(Known::Geometry | Known::Geometries) => {
             b"Point, MultiPoint, LineString, MultiLineString, Polygon, MultiPolygon, GeometryCollection"
@@ -291,6 +314,7 @@ fn found_elements<S: Rewind>(rule: Rule, place: u64, source: &S) -> Option<Found
     found.add(match rule {
         Rule::G12 => b"; a position has at least 2",
         Rule::G13 => b"; a line has at least 2",
+        Rule::G21 => b"; a bbox has an even number, at least 4",
         _ => b"; a ring has at least 4",
     });
     match (rule, elements.first_what) {

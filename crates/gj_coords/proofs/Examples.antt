@@ -1,4 +1,5 @@
 -- What the definitions say of some values, by computing.
+pub mod TextRows
 pub mod FaultExamples
 pub mod ReportedExamples
 pub mod WindingExamples

@@ -25,7 +25,7 @@ abbrev pub second_text : List ℕ → Option Hint
 second_text after = when (begins after (codes "{") || begins after (codes "[")) Hint.SecondText
 
 abbrev pub is_esri : List ℕ → Bool
-is_esri head = holds head (codes "\"esriGeometry") || holds head (codes "\"spatialReference\"")
+is_esri head = holds head (codes "\"esriGeometry") || (holds head (codes "\"spatialReference\"") || holds head (codes "\"attributes\""))
 
 abbrev pub out_of_range : List ℕ → Option Hint
 out_of_range after = if is_swapped after then Some Hint.SwappedAxes else when (are_metres after) Hint.Metres

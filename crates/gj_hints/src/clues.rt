@@ -96,7 +96,9 @@ fn second_text(after: &[u8]) -> Option<Hint>
 fn is_esri(head: &[u8]) -> bool
     ensures { result ≡ is_esri head.now }
 {
-    holds(head, b"\"esriGeometry") || holds(head, b"\"spatialReference\"")
+    holds(head, b"\"esriGeometry")
+        || holds(head, b"\"spatialReference\"")
+        || holds(head, b"\"attributes\"")
 }
 
 fn when(holds: bool, hint: Hint) -> Option<Hint>

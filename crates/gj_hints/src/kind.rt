@@ -54,42 +54,43 @@ impl Hint {
         match self {
             Hint::Gzip => "the file is compressed by gzip: gzip -dc < IN > OUT.geojson",
             Hint::Zip => "the file is a zip archive: unzip IN, and see what is in it",
-            Hint::Shapefile => "the file is a shapefile: ogr2ogr -f GeoJSON OUT.geojson IN.shp",
+            Hint::Shapefile =>
+                "the file is a shapefile: ogr2ogr -f GeoJSON OUT.geojson IN, if its name ends with .shp",
             Hint::GeoPackage =>
-                "the file is an SQLite database, such as a GeoPackage: ogr2ogr -f GeoJSON OUT.geojson IN.gpkg LAYER",
-            Hint::FlatGeobuf => "the file is a FlatGeobuf: ogr2ogr -f GeoJSON OUT.geojson IN.fgb",
-            Hint::Parquet =>
-                "the file is a Parquet file: ogr2ogr -f GeoJSON OUT.geojson IN.parquet",
+                "the file is an SQLite database, such as a GeoPackage: ogr2ogr -f GeoJSON OUT.geojson IN, with the name of a layer after it where there are several",
+            Hint::FlatGeobuf => "the file is a FlatGeobuf: ogr2ogr -f GeoJSON OUT.geojson IN",
+            Hint::Parquet => "the file is a Parquet file: ogr2ogr -f GeoJSON OUT.geojson IN",
             Hint::Pdf =>
-                "the file is a PDF document: ask for the data; ogr2ogr -f GeoJSON OUT.geojson IN.pdf reads a PDF with map layers",
-            Hint::Kml => "the file is KML: ogr2ogr -f GeoJSON OUT.geojson IN.kml",
-            Hint::Gml => "the file is GML: ogr2ogr -f GeoJSON OUT.geojson IN.gml",
+                "the file is a PDF document: ask for the data; ogr2ogr -f GeoJSON OUT.geojson IN reads a PDF with map layers",
+            Hint::Kml => "the file is KML: ogr2ogr -f GeoJSON OUT.geojson IN",
+            Hint::Gml => "the file is GML: ogr2ogr -f GeoJSON OUT.geojson IN",
             Hint::Html =>
                 "the file is a web page, mostly one that shows an error or asks to log in: curl -fL -o OUT.geojson URL",
             Hint::Xml =>
-                "the file is XML: ogr2ogr -f GeoJSON OUT.geojson IN.xml, if it is a map format",
+                "the file is XML: ogr2ogr -f GeoJSON OUT.geojson IN, if it is a map format; of GPX: ogr2ogr -f GeoJSON OUT.geojson IN tracks",
             Hint::Utf16 => "the file is in UTF-16: iconv -f UTF-16 -t UTF-8 IN > OUT.geojson",
             Hint::Latin1 =>
                 "these letters are not in UTF-8: iconv -f WINDOWS-1252 -t UTF-8 IN > OUT.geojson",
             Hint::NotANumber =>
-                "JSON has no NaN; null says that there is no number: npx json5 -o OUT.geojson IN",
+                "JSON has no NaN: json5 -o OUT.geojson IN writes null, which is right in properties and wrong in coordinates",
             Hint::Infinity =>
-                "JSON has no Infinity; null says that there is no number: npx json5 -o OUT.geojson IN",
+                "JSON has no Infinity: json5 -o OUT.geojson IN writes null, which is right in properties and wrong in coordinates",
             Hint::SingleQuotes =>
-                "JSON has no single quotes: npx json5 -o OUT.geojson IN, or json.dumps if Python wrote it",
-            Hint::Comment => "JSON has no comments: npx json5 -o OUT.geojson IN",
-            Hint::ExtraComma => "there is a comma too many: npx json5 -o OUT.geojson IN",
+                "JSON has no single quotes: json5 -o OUT.geojson IN, or json.dumps if Python wrote it",
+            Hint::Comment =>
+                "JSON has no comments: json5 -o OUT.geojson IN removes those that begin with // or /*",
+            Hint::ExtraComma =>
+                "there is a comma too many: json5 -o OUT.geojson IN removes one before a closing bracket",
             Hint::SecondText =>
-                "a second text follows the first, as in newline-delimited files: geolint-files --ndjson IN",
+                "a second text follows the first: geolint-files --ndjson IN, if each line is a text, or else jq -c . IN > OUT.ndjson",
             Hint::TextSequence => "the file is a text sequence (RFC 8142): geolint-files --seq IN",
-            Hint::TopoJson =>
-                "the file is TopoJSON: npx -p topojson-client topo2geo LAYER=OUT.geojson < IN",
+            Hint::TopoJson => "the file is TopoJSON: ogr2ogr -f GeoJSON OUT.geojson IN",
             Hint::EsriJson =>
-                "the file is Esri JSON: ogr2ogr -f GeoJSON OUT.geojson IN.json, or ask the server with f=geojson",
+                "the file is Esri JSON: ask the server with f=geojson, or ogr2ogr -f GeoJSON OUT.geojson IN",
             Hint::TextInString =>
-                "the text is inside a string: jq fromjson IN > OUT.geojson, if that is the whole file",
-            Hint::SwappedAxes => "latitude and longitude look swapped; the longitude comes first: \
-                 jq '(.. | objects | .coordinates? // empty | .. | arrays | select(.[0] | numbers)) |= [.[1], .[0]] + .[2:]' IN > OUT.geojson",
+                "an object is inside a string: leave out its quotation marks and their backslashes; if it is the whole file: jq fromjson IN > OUT.geojson",
+            Hint::SwappedAxes =>
+                "latitude and longitude look swapped; the longitude comes first: ogr2ogr -ct '+proj=axisswap +order=2,1' OUT.geojson IN",
             Hint::Metres =>
                 "the coordinates look like metres, not degrees: ogr2ogr -t_srs EPSG:4326 OUT.geojson IN, with -s_srs where the file names no reference system",
             Hint::ManyDigits => {

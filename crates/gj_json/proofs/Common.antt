@@ -8,7 +8,7 @@ pub use Rattle.gj_json.specs.Grammar.{Exactly, Quoted, Spells, SpellsElements, S
 pub use Rattle.gj_json.specs.Ignored.{Leaves}
 pub use Rattle.gj_json.specs.Internal.ByteClasses.{Means, first_letter}
 pub use Rattle.gj_json.specs.Internal.ContentWords.{Words, words_of}
-pub use Rattle.gj_json.specs.Internal.FedReader.{FeedsAll, FeedsAny, FeedsTo, FeedsWithin, GoesOn, Passed, Skips, above}
+pub use Rattle.gj_json.specs.Internal.FedReader.{FeedsAll, FeedsAny, FeedsTo, FeedsWithin, GoesOn, IsOpenFor, OfPrefix, Passed, Skips, above}
 pub use Rattle.gj_json.specs.Internal.FlatParts.{IsDueAt, IsItem, IsValued, awaits, cut}
 pub use Rattle.gj_json.specs.Internal.KeptContent.{Holds, IsAscii, words_in}
 pub use Rattle.gj_json.specs.Internal.NamedBytes.{mark_first, mark_second, mark_third}

@@ -1,6 +1,6 @@
 //! Runs of bytes at the start of a piece, found sixteen at a time.
 
-ghost use Rattle.std.specs.Prelude.{◌≡◌, ◌<◌, ◌≤◌, ◌+◌, ◌*◌, ◌++◌, ℕ, Bool, None, length, map, not, take, IfSome, IsTrue};
+ghost use Rattle.std.specs.Prelude.{◌≡◌, ◌<◌, ◌≤◌, ◌+◌, ◌*◌, ◌++◌, ℕ, Bool, None, length, map, not, take, drop, IfSome, IsTrue};
 ghost use Rattle.std.specs.List.{prefix_len};
 ghost use Rattle.std.specs.Simd.Lanes.{mask_l};
 ghost use Rattle.std.specs.Str.{bytes_eq};
@@ -111,7 +111,7 @@ impl Kind for White {
 #[inline(always)]
 pub fn short_run<K: Kind>(piece: &[u8]) -> Option<usize>
     requires { LANES ≤ length piece.now }
-    ensures long { result ≡ None → LANES ≤ prefix_len K.is piece.now }
+    ensures long { result ≡ None → prefix_len K.is piece.now ≡ LANES + prefix_len K.is (drop LANES piece.now) }
     ensures short { IfSome result (λ count. count < LANES) }
     ensures run { IfSome result (λ count. count ≡ prefix_len K.is piece.now) }
 {
@@ -141,9 +141,10 @@ pub fn run<K: Kind>(piece: &[u8]) -> usize
     ensures { result ≡ prefix_len K.is piece.now }
 {
     if piece.len() >= LANES {
-        if let Some(count) = short_run::<K>(piece) {
-            return count;
-        }
+        return match short_run::<K>(piece) {
+            Some(count) => count,
+            None => LANES + long_run::<K>(&piece[LANES..]),
+        };
     }
     long_run::<K>(piece)
 }

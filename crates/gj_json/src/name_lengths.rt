@@ -42,10 +42,8 @@ impl NameLengths {
     }
 
     /// Notes how many characters the name has that `expect_next` was asked for last.
-    pub fn note(&mut self, length: usize)
-        requires { length < LANES }
-    {
+    pub fn note(&mut self, length: usize) {
         let place = self.place.wrapping_sub(1) & LAST;
-        self.lengths[place as usize] = length as u8;
+        self.lengths[place as usize] = (length & 15) as u8;
     }
 }

@@ -37,6 +37,9 @@ pub struct Reader {
     names: NameLengths,
     /// Room for positions that are read at once. What is in it between two calls says nothing.
     positions: [CutPosition; MOST_POSITIONS],
+    /// How many arrays after the first of an array are taken by themselves: one where no positions were found last. Nothing rests
+    /// on it.
+    alone: u8,
     ghost sound: { IsMode mode },
     ghost within: { offset ≤ limits.bytes },
     ghost small: { limits.bytes ≤ 2 ^ 60 },
@@ -74,6 +77,7 @@ impl Reader {
             fault: None,
             names: NameLengths::none(),
             positions: [CutPosition::blank(); MOST_POSITIONS],
+            alone: 0,
         }
     }
 

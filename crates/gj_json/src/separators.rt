@@ -123,8 +123,12 @@ fn before_white(piece: &[u8], at: u64) -> usize
     ensures { result ≤ length piece.now }
 {
     let mut end = piece.len().min(at as usize);
-    while end > 0 && piece[end - 1] <= b' ' {
-        end -= 1;
+    while end > 0 && piece[end - 1] <= b' ' && piece.len() >= LANES {
+        let from = end.saturating_sub(LANES);
+        let others = u8x16::from_slice(&piece[from..])
+            .simd_gt(u8x16::splat(b' '))
+            .to_bitmask();
+        end = (end - 1).min(from + 64 - others.leading_zeros() as usize);
     }
     end
 }

@@ -10,7 +10,7 @@ ghost use Rattle.gj_json.specs.declared.lanes.TheConstants.{LANES};
 
 use crate::characters::characters_run;
 use crate::constant::Constant;
-use crate::lanes::{Ascii, LANES, begins, begins_run, run, short_run};
+use crate::lanes::{Ascii, LANES, begins, begins_run, run};
 use gj_number::unsigned_run;
 
 /// How many bytes the string of plain characters has that is whole at the start of a piece, or 0.
@@ -45,6 +45,7 @@ pub fn quoted_run(piece: &[u8]) -> usize
     requires some { 0 < length piece.now }
     requires quote { get_or piece.now 0 0 ≡ quote }
     ensures within { result ≤ length piece.now }
+    ensures two { 0 < result → 2 ≤ result }
     ensures quoted { 0 < result → IsString (take result piece.now) }
 {
     let plain = 1 + plain_text_run(&piece[1..]);
@@ -57,25 +58,6 @@ pub fn quoted_run(piece: &[u8]) -> usize
     let end = plain + characters_run(&piece[plain..]);
     if end < piece.len() && piece[end] == b'"' {
         end + 1
-    } else {
-        0
-    }
-}
-
-/// How many bytes the string has that the piece starts with, where it has fewer than sixteen characters and each is plain, or 0.
-#[inline(always)]
-pub fn near_quoted_run(piece: &[u8]) -> usize
-    requires room { LANES < length piece.now }
-    requires quote { get_or piece.now 0 0 ≡ quote }
-    ensures few { result ≤ LANES + 1 }
-    ensures two { 0 < result → 2 ≤ result }
-    ensures quoted { 0 < result → IsString (take result piece.now) }
-{
-    let Some(count) = short_run::<Ascii>(&piece[1..]) else {
-        return 0;
-    };
-    if piece[1 + count] == b'"' {
-        count + 2
     } else {
         0
     }

@@ -5,9 +5,8 @@
 #![tactic(auto)]
 
 ghost use Rattle.std.specs.Prelude.{◌≡◌, true, map};
-ghost use Rattle.geolint_report.specs.Slots.{slot_of};
 ghost use Rattle.geolint_report.specs.declared.texts.TheConstants.{ALL};
-ghost use Rattle.gj_manual.specs.Manual.{are_named, text_at};
+ghost use Rattle.gj_manual.specs.Manual.{are_named, section_of, text_at};
 ghost use Rattle.gj_manual.specs.declared.sections.TheConstants.{SECTIONS};
 
 mod sections;
@@ -17,7 +16,7 @@ use geolint_report::texts::Code;
 
 /// The section of docs/rules.md on a code: lines, each with its LF. It is empty for [`Code::NotValid`].
 pub fn section(code: Code) -> &'static str
-    ensures { result.now ≡ text_at (map (λ text. text.now) SECTIONS) (slot_of code) }
+    ensures { result.now ≡ section_of code }
 {
     text_at(&SECTIONS, code.slot())
 }

@@ -17,3 +17,4 @@ pub mod CutPlaces
 pub mod CutPairs
 pub mod PointedNumbers
 pub mod UnsignedNumbers
+pub mod WholeNumbers

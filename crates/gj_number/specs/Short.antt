@@ -82,6 +82,12 @@ pub record StartsWithNumber (piece : List ℕ) (e : Exact) (n : ℕ) : Type 0 wh
   pub value : value_of (take n piece) ≡ Some e
   pub ends : BeginsNumber (take (n + 1) piece) → ⊥
 
+-- The first n bytes of the piece are a number, and the byte after them, which the piece has, goes on in none.
+pub record IsWhole (piece : List ℕ) (n : ℕ) : Type 0 where
+  pub within : n < length piece
+  pub number : IsNumber (take n piece)
+  pub ends : BeginsNumber (take (n + 1) piece) → ⊥
+
 -- The piece starts with two numbers that denote these decimals: a comma after the first, with one space after it or none,
 -- and a closing bracket after the second, at these indices.
 pub record StartsWithPair (piece : List ℕ) (first second : Exact) (comma_at second_at end : ℕ) : Type 0 where

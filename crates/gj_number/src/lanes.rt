@@ -4,7 +4,7 @@ ghost use Rattle.std.specs.Prelude.{◌++◌, [], ◌∷◌, length, map, take, 
 ghost use Rattle.std.specs.List.{fold};
 ghost use Rattle.std.specs.Option.{IsSome};
 ghost use Rattle.std.specs.Simd.Lanes.{Each1, mask_l};
-ghost use Rattle.gj_number.specs.Bytes.{IsDigit, IsFirstDigit};
+ghost use Rattle.gj_number.specs.Bytes.{decimal_point, IsDigit, IsFirstDigit};
 ghost use Rattle.gj_number.specs.Internal.DigitLanes.{lane_of, with_value, by_twos, by_both, by_fours, by_eights, leading};
 ghost use Rattle.gj_number.specs.Value.{with_digit};
 ghost use Rattle.gj_number.specs.Short.{StartsUnsigned};
@@ -273,6 +273,8 @@ pub(crate) fn unsigned_prefix(piece: &[u8]) -> Option<Unsigned>
     ensures spells { IfSome result (λ found.
         SpellsUnsigned piece.now found.natural found.fraction found.length found.value) }
     ensures ends { IfSome result (λ found. IsDigit (get_or piece.now found.natural 0) → ⊥) }
+    ensures last { IfSome result (λ found. IsDigit (get_or piece.now found.length 0) → ⊥) }
+    ensures point { IfSome result (λ found. found.fraction ≡ 0 → get_or piece.now found.natural 0 ≡ decimal_point → ⊥) }
     ensures taken { (n : ℕ) → n < 16 → StartsUnsigned piece.now n → MatchOption result ⊥ (λ found.
         (found.length ≡ n) × ((found.natural ≡ 1) ⊎ IsFirstDigit (get_or piece.now 0 0))) }
 {

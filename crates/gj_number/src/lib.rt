@@ -7,8 +7,8 @@
 //! A [`Short`] is an ordinary number, of at most eighteen digits and no exponent, which [`read_short`] reads whole from
 //! the start of a piece. What its methods say of it, they say of its decimal. [`read_decimal`] reads longer numbers too,
 //! and gives their decimal. [`read_pair`] reads two ordinary numbers at once, and [`cuts_at`] two of
-//! which no more is needed than their cut values, where [`digit_span`] found their digits. [`unsigned_run`] only counts the
-//! bytes of a number without a sign.
+//! which no more is needed than their cut values, where [`digit_span`] found their digits. [`number_run`] only counts the
+//! bytes of a number, and [`unsigned_run`] those of a short one without a sign.
 #![tactic(auto)]
 
 mod decimal;
@@ -29,4 +29,4 @@ pub use short::Short;
 pub use short::cuts::{Cut, Span, cuts_at, digit_span};
 pub use short::pair::{Pair, read_last_pair, read_pair};
 pub use short::prefix::read_short;
-pub use short::unsigned::unsigned_run;
+pub use short::unsigned::{number_run, unsigned_run};

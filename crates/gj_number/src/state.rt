@@ -1,8 +1,10 @@
 //! Where in a number its next byte stands.
-ghost use Rattle.std.specs.Prelude.{◌≡◌, IsTrue, IsFalse};
+ghost use Rattle.std.specs.Prelude.{◌≡◌, ◌≤◌, Some, length, take, IsTrue, IsFalse};
 ghost use Rattle.gj_number.specs.Bytes.{IsDigit, IsNumberByte};
-ghost use Rattle.gj_number.specs.Internal.NumberMachine.{class_of, next_of, may_end_in};
+ghost use Rattle.gj_number.specs.Internal.NumberMachine.{class_of, next_of, may_end_in, state_after};
 ghost use Rattle.gj_number.specs.declared.state.Class.TheVariants.{Other};
+
+use crate::lanes::digit_run;
 
 /// The classes of bytes that the grammar of a number (RFC 8259, section 6) distinguishes.
 #[derive(Clone, Copy)]
@@ -74,7 +76,7 @@ pub(crate) enum State {
 
 impl State {
     /// The state after a byte of this class, or `None` where no such byte is allowed here.
-    #[inline]
+    #[inline(always)]
     pub(crate) fn next(self, class: Class) -> Option<State>
         ensures { result ≡ next_of self class }
     {
@@ -96,6 +98,20 @@ impl State {
                 Class::Zero | Class::NonZero,
             ) => Some(State::InExponent),
             _ => None,
+        }
+    }
+
+    /// How many of the first digits of the piece lead from the state to itself, as far as whole vectors of it go.
+    #[inline(always)]
+    pub(crate) fn pass_digits(self, piece: &[u8]) -> usize
+        ensures length { result ≤ length piece.now }
+        ensures same { state_after (Some self) (take result piece.now) ≡ Some self }
+    {
+        match self {
+            State::InNatural => digit_run(piece),
+            State::InFraction => digit_run(piece),
+            State::InExponent => digit_run(piece),
+            _ => 0,
         }
     }
 

@@ -1,6 +1,7 @@
 -- Elements of an array that follow another, up to the end of one of them: what they lead to does not depend on what came before.
-use Rattle.std.proofs.Common.{◌≡◌, ◌⊎◌, ℕ, ◌+◌, inl, inr, List, [], ◌∷◌, ◌++◌, length, IsSome, refl, sym, ap, subst, ◌∙◌, arith, append_assoc}
+use Rattle.std.proofs.Common.{◌≡◌, ◌⊎◌, ℕ, ◌+◌, ◌≤◌, inl, inr, List, [], ◌∷◌, ◌++◌, length, IsSome, refl, sym, ap, subst, ◌∙◌, arith, append_assoc}
 use Rattle.std.proofs.lemmas.List.{length-append}
+use Rattle.std.specs.List.{AllByRecursion}
 use Rattle.gj_json.specs.Bytes.{comma}
 use Rattle.gj_json.specs.Grammar.{Then, White, Spells, SpellsMoreElements}
 use Rattle.gj_json.specs.Tree.{Tree, constant, number, string, array, object, Elements, end_of_array, element}
@@ -99,8 +100,20 @@ abbrev pub last_of : Tree → List Tree → Tree
 last_of t [] = t
 last_of t (v ∷ vs) = last_of v vs
 
-pub record Chain (end : ℕ) (more : Elements) (close n : ℕ) (bytes : List ℕ) : Type 0 where
+-- the elements up to that one
+abbrev pub up_to : (end : ℕ) (vs : List Tree) → OneOf end vs → List Tree
+up_to end [] h = absurd h
+up_to end (v ∷ vs) (inl i) = v ∷ []
+up_to end (v ∷ vs) (inr later) = v ∷ up_to end vs later
+
+-- those of them that have a bracket end no later
+abbrev pub Within : ℕ → List Tree → Type 0
+Within end vs = AllByRecursion (λ v. IsSome (closing_of v) → end_of v ≤ end) vs
+
+pub record Chain (end : ℕ) (more : Elements) (close n : ℕ) (bytes : List ℕ) (one : OneOf end (items more)) : Type 0 where
   pub found : List Tree
+  pub found_is : found ≡ up_to end (items more) one
+  pub within : Within end found
   pub later : Elements
   pub split : more ≡ and_more found later
   pub front : List ℕ
@@ -112,14 +125,16 @@ pub record Chain (end : ℕ) (more : Elements) (close n : ℕ) (bytes : List ℕ
   pub leads : (stack : List Frame) (place : ℕ) (done : List Tree) (t : Tree) (leaf : Leaf) → Over t n leaf
       → Leads (at (in_array place done ∷ stack) leaf) n front (at (in_array place (done_after done t found) ∷ stack) (value_done (last_of t found)))
 
-pub chain : (end : ℕ) (more : Elements) (close n : ℕ) (bytes : List ℕ) → Then White (SpellsMoreElements more close) n bytes → OneOf end (items more)
-    → Chain end more close n bytes
+pub chain : (end : ℕ) (more : Elements) (close n : ℕ) (bytes : List ℕ) → Then White (SpellsMoreElements more close) n bytes → (one : OneOf end (items more))
+    → Chain end more close n bytes one
 chain end end_of_array close n bytes h one = absurd one
 chain end (element v more) close n bytes h (inl i) =
     let x = next v more close n bytes h in
     let e : n + length x.front ≡ end = sym (x.ends i.0) ∙ i.1 in
     record {
       found = v ∷ [];
+      found_is = refl;
+      within = ((λ k. omega (arith, i.1)), tt);
       later = more;
       split = refl;
       front = x.front;
@@ -138,6 +153,8 @@ chain end (element v more) close n bytes h (inr one) =
     let r = chain end more close (n + length x.front) x.back x.after one in
     record {
       found = v ∷ r.found;
+      found_is = ap (λ vs. v ∷ vs) r.found_is;
+      within = ((λ k. omega (arith, x.ends k, r.ends)), r.within);
       later = r.later;
       split = ap (λ es. element v es) r.split;
       front = x.front ++ r.front;

@@ -25,7 +25,7 @@ use Rattle.gj_rules.specs.FeatureFindings.{feature_findings, features_of, findin
 use Rattle.gj_rules.specs.Members.{same}
 use Rattle.gj_runs.specs.Runs.{OneEnds, StandsAfterFeature, IsRun, spaces, stand_at}
 use Rattle.gj_runs.proofs.ClosedTexts.{back_items, closed_features, text_closing, fits, within_alike}
-use Rattle.gj_runs.proofs.ElementRuns.{ItEnds, OneOf, and_more_items, done_after, last_of, chain}
+use Rattle.gj_runs.proofs.ElementRuns.{ItEnds, OneOf, Within, and_more_items, done_after, last_of, chain}
 use Rattle.gj_runs.proofs.EqualPrefixes.{refused_alike}
 use Rattle.gj_runs.proofs.FeatureStates.{Stands, one_of, same_front, feature_stands}
 use Rattle.gj_runs.proofs.ReachedFeatures.{Around, open_in, after_feature}
@@ -47,7 +47,7 @@ read_on {marked} {a} {before} {bytes} {found} s r = record {
       ≡ Some (begun marked (after_feature a (done_after s.done s.value found) (last_of s.value found)))) (omega arith) ((r.leads _ a.place s.done s.value).goes marked);
 }
 
-all_white : (n : ℕ) → AllByRecursion IsWhite (spaces n)
+pub all_white : (n : ℕ) → AllByRecursion IsWhite (spaces n)
 all_white zero = tt
 all_white (suc n) = (inl refl, all_white n)
 
@@ -61,11 +61,11 @@ spaces_read n k = record {
 
 -- ---- the stand
 
-is_named : same Features (known_of (codes "features")) ≡ true
+pub is_named : same Features (known_of (codes "features")) ≡ true
 unfolding known_of
 is_named = refl
 
-abbrev stand_around : Around
+abbrev pub stand_around : Around
 stand_around = record {
   place = 12;
   root = 0;
@@ -77,26 +77,26 @@ stand_around = record {
   fresh = tt;
 }
 
-abbrev opening : List ℕ
+abbrev pub opening : List ℕ
 opening = codes "{\"features\":["
 
-abbrev opened : Partial
+abbrev pub opened : Partial
 opened = at (in_object 0 [] 1 (codes "features") 11 ∷ []) (array_opened 12)
 
-opens : run opening ≡ Some (begun false opened)
+pub opens : run opening ≡ Some (begun false opened)
 unfolding class_of plain_step
 opens = refl
 
 abbrev pub stood : ℕ → Tree
 stood n = object n end_of_object (n + 1)
 
-empty_object : (n : ℕ) → Leads opened n (codes "{}") (after_feature stand_around [] (stood n))
+pub empty_object : (n : ℕ) → Leads opened n (codes "{}") (after_feature stand_around [] (stood n))
 unfolding class_of
 empty_object n =
     leads_byte {t = at (open_in stand_around []) (object_opened n)} refl
     (leads_byte {t = after_feature stand_around [] (stood n)} refl (leads_none (after_feature stand_around [] (stood n)) (n + 1 + 1)))
 
-abbrev stand_stands : (begin : ℕ) → Stands false stand_around (stand_at begin)
+abbrev pub stand_stands : (begin : ℕ) → Stands false stand_around (stand_at begin)
 stand_stands begin =
     let white = spaces (begin - 15) in
     let n = 13 + length white in
@@ -124,6 +124,7 @@ pub record RunRead (begin : ℕ) (more rest : List ℕ) (text : Text) : Type 0 w
   pub found : List Tree
   pub reads : Reads begin more found
   pub ended : (t : Tree) → ItEnds begin t → ItEnds (begin + length more) (last_of t found)
+  pub within : Within (begin + length more) found
   pub later : Elements
   pub split : features_of text.value ≡ stood (13 + length (spaces (begin - 15))) ∷ (found ++ items later)
   pub close : ℕ
@@ -153,6 +154,7 @@ run_read begin more rest text room h ends =
             found = [];
             reads = subst (λ xs. Reads begin xs []) (sym k) none;
             ended = λ t e. (e.0, (let j : length more ≡ 0 = ap length k in omega (arith, e.1, j)));
+            within = tt;
             later = c.more;
             split = f;
             close = c.close;
@@ -170,6 +172,7 @@ run_read begin more rest text room h ends =
             found = r.found;
             reads = subst (λ xs. Reads begin xs r.found) (sym k) all;
             ended = λ t e. ((r.last t).0, (r.last t).1 ∙ m);
+            within = subst (λ k. Within k r.found) m r.within;
             later = r.later;
             split = f ∙ ap (λ es. stood n ∷ items es) r.split ∙ ap (λ vs. stood n ∷ vs) (and_more_items r.found r.later);
             close = c.close;
@@ -245,12 +248,12 @@ both d before more found b r reads =
     }
 
 -- as the run is read in some text
-record SomeRead (begin : ℕ) (more : List ℕ) : Type 0 where
+pub record SomeRead (begin : ℕ) (more : List ℕ) : Type 0 where
   pub found : List Tree
   pub reads : Reads begin more found
   pub ended : (t : Tree) → ItEnds begin t → ItEnds (begin + length more) (last_of t found)
 
-some_read : (d begin : ℕ) (more : List ℕ) → IsRun d begin more → SomeRead begin more
+pub some_read : (d begin : ℕ) (more : List ℕ) → IsRun d begin more → SomeRead begin more
 some_read d begin more r =
     let v = r.ends.viable in
     let t : IsText v.1 (stand_at begin ++ (more ++ v.0)) = rw (append_assoc (stand_at begin) more v.0) at v.2.0 in
@@ -290,7 +293,7 @@ one_among : (place : ℕ) (xs : List Tree) (v : Tree) (ys : List Tree) → ItEnd
 one_among place [] v ys i = inl i
 one_among place (x ∷ xs) v ys i = inr (one_among place xs v ys i)
 
-one_ends : (place i : ℕ) (vs : List Tree) → OneOf place vs → OneEnds place (findings_from i vs)
+pub one_ends : (place i : ℕ) (vs : List Tree) → OneOf place vs → OneEnds place (findings_from i vs)
 one_ends place i [] h = absurd h
 one_ends place i (v ∷ vs) (inl h) = inl h
 one_ends place i (v ∷ vs) (inr h) = inr (one_ends place (i + 1) vs h)

@@ -22,6 +22,7 @@ use Rattle.gj_rules.specs.Verdict.{IsVerdict}
 use Rattle.gj_rules.specs.declared.verdict.Verdict.{Verdict}
 use Rattle.gj_rules.specs.declared.verdict.Verdict.TheVariants.{Valid, Broken, NotJson}
 use Rattle.gj_runs.specs.Runs.{StandsAfterFeature, AreFindingsOf, IsRun, IsSumOf, spaces, stand_at, stand_end}
+use Rattle.gj_runs.specs.Internal.PassedRuns.{whole}
 use Rattle.gj_runs.specs.declared.sum.FeatureSum.{FeatureSum}
 use Rattle.gj_runs.proofs.ClosedTexts.{alike, text_of}
 use Rattle.gj_runs.proofs.ElementRuns.{done_after, last_of}
@@ -49,12 +50,12 @@ none_later (element v more) close n (b ∷ back) last h e =
       | inr k ↦ absurd (let j : close_bracket ≡ comma = i ∙ (SpelledForms.exactly_on k).0 in omega (arith, j))
     ]
 
-record Found (d begin : ℕ) (more : List ℕ) (found : List FeatureFinding) : Type 0 where
+pub record Found (d begin : ℕ) (more : List ℕ) (found : List FeatureFinding) : Type 0 where
   pub trees : List Tree
   pub reads : Reads begin more trees
   pub are : found ≡ findings_from 1 trees
 
-found_in : (d begin : ℕ) (more : List ℕ) (found : List FeatureFinding) → IsRun d begin more → AreFindingsOf begin more found → Found d begin more found
+pub found_in : (d begin : ℕ) (more : List ℕ) (found : List FeatureFinding) → IsRun d begin more → AreFindingsOf begin more found → Found d begin more found
 found_in d begin more found r f =
     let t : IsText f.text ((stand_at begin ++ more) ++ stand_end) = rw (append_assoc (stand_at begin) more stand_end) f.text_of in
     let g = run_read begin more stand_end f.text r.room f.text_of (r.ends.ends stand_end f.text t) in
@@ -65,10 +66,6 @@ found_in d begin more found r f =
     record { trees = g.found; reads = g.reads; are = cc }
 
 -- ---- the verdict
-
-abbrev pub whole : Verdict → Warnings → Verdict
-whole (Valid told) others = Valid (joined told others)
-whole other others = other
 
 pub whole_other : (rest : Verdict) (others : Warnings) → ((told : Warnings) → rest ≡ Valid told → ⊥) → whole rest others ≡ rest
 whole_other (Valid told) others h = absurd (h told refl)
@@ -148,3 +145,10 @@ whole_is limits before more after sum rest e b h room v = go rest v
         (t.other, t.admitted, none, ap (λ x. joined x sum.warnings) w.3 ∙ ap (joined (warnings_of (text_warnings w.0))) warned_are ∙ sym (t.warned_is w.2 none))
     go (Broken fault) w = let t = text w.0 w.1 in (t.other, t.admitted, t.least_is ∙ w.2)
     go (NotJson fault) w = as_refused limits before more after fault b run room w
+
+-- of the verdict that it makes
+pub by_sum : (limits : Allowed) (before more after : List ℕ) (sum : FeatureSum) (rest result : Verdict) (warnings : Warnings) → length before ≡ sum.begin
+    → StandsAfterFeature limits.depth before → IsSumOf limits.depth more sum → sum.warnings ≡ warnings → length (before ++ more) ≤ limits.bytes
+    → IsVerdict limits (before ++ (spaces (length more) ++ after)) rest → result ≡ whole rest warnings → IsVerdict limits (before ++ (more ++ after)) result
+by_sum limits before more after sum rest result warnings e b h same room v exact =
+    subst (IsVerdict limits (before ++ (more ++ after))) (ap (whole rest) same ∙ sym exact) (whole_is limits before more after sum rest e b h room v)

@@ -1,7 +1,8 @@
 -- Whole features that follow one another in a text, and what they are apart from it.
-use Rattle.std.specs.Prelude.{◌≡◌, ◌⊎◌, ℕ, ◌+◌, ◌-◌, ◌≤◌, List, [], ◌∷◌, ◌++◌, length, IsSome, None, codes, replicate}
+use Rattle.std.specs.Prelude.{◌≡◌, ◌⊎◌, ℕ, ◌+◌, ◌-◌, ◌≤◌, List, [], ◌∷◌, ◌++◌, length, take, IsSome, None, codes, replicate}
 use Rattle.std.specs.List.{AllByRecursion}
 use Rattle.gj_json.specs.Bytes.{space}
+use Rattle.gj_json.specs.Limits.{Allowed}
 use Rattle.gj_json.specs.Text.{IsText, IsViableWithin}
 use Rattle.gj_json.specs.Tree.{Text}
 use Rattle.gj_coords.specs.WarningsStand.{StandsFor as WarningsStandFor}
@@ -55,3 +56,11 @@ pub record IsSumOf (levels : ℕ) (run : List ℕ) (sum : FeatureSum) : Type 0 w
   pub features : sum.features ≡ length found
   pub sound : AllByRecursion (λ finding. finding.fault ≡ None) found
   pub warnings : WarningsStandFor sum.warnings (warnings_found found)
+
+-- It is of the longest run without a fault that these bytes begin with after that place, and that ends within the limits.
+pub record IsLongestSum (limits : Allowed) (begin : ℕ) (bytes : List ℕ) (sum : FeatureSum) : Type 0 where
+  pub begins : sum.begin ≡ begin
+  pub within : sum.end ≤ begin + length bytes
+  pub is_sum : IsSumOf limits.depth (take (sum.end - begin) bytes) sum
+  pub longest : (n : ℕ) (other : FeatureSum) → begin + n ≤ limits.bytes → other.begin ≡ begin → IsSumOf limits.depth (take n bytes) other
+      → other.features ≤ sum.features

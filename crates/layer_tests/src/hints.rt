@@ -180,7 +180,7 @@ fn names_a_second_text(rt: HostRuntime) {
 }
 
 /// A file, the place where something is wrong in it, what that is, and what is said.
-static OTHER_FORMATS: [(&[u8], usize, Wrong, Option<Hint>); 7] = [
+static OTHER_FORMATS: [(&[u8], usize, Wrong, Option<Hint>); 8] = [
     (
         b"{\"type\": \"Topology\", \"objects\": {}}",
         9,
@@ -196,6 +196,12 @@ static OTHER_FORMATS: [(&[u8], usize, Wrong, Option<Hint>); 7] = [
     ),
     (
         b"{\"x\":9,\"y\":54,\"spatialReference\":{\"wkid\":4326}}",
+        0,
+        Wrong::NoType,
+        Some(Hint::EsriJson),
+    ),
+    (
+        b"{\"features\":[{\"attributes\":{\"ID\":1}}]}",
         0,
         Wrong::NoType,
         Some(Hint::EsriJson),

@@ -27,4 +27,6 @@ mod rows;
 #[cfg(test)]
 mod rules;
 #[cfg(test)]
+mod runs;
+#[cfg(test)]
 mod split;

@@ -1,6 +1,5 @@
 mod Common
 mod LinesOfParts
-mod DoubledWarnings
 mod JoinedNotes
 mod WrittenItems
 mod NamesRead

@@ -16,7 +16,7 @@ use Rattle.serde_json.specs.Find.{get, as_str}
 use Rattle.serde_json.specs.View.{items_of}
 use Rattle.part_lines.specs.Agreed.{AreSameNotes, AreSameIf, Agree}
 use Rattle.geolint_report.specs.Texts.{code_name}
-use Rattle.part_lines.specs.Lines.{framing_word, every_word}
+use Rattle.part_lines.specs.Lines.{framing_word, every_word, base_of, line_base}
 use Rattle.part_lines.specs.LineObject.{number_in, text_in, truth_in, array_in, IsRecordIn, AreWarnings, AreWarningsIn, IsVerdictIn, IsCheckedIn, IsNoteIn}
 use Rattle.part_lines.specs.LineObject.{AreNotes, IsListedIn, IsListedIf, IsLineIn}
 use Rattle.gj_rules.specs.declared.records.framing.Framing.TheVariants.{Sequence, Lines}
@@ -27,7 +27,7 @@ use Rattle.gj_rules.specs.declared.verdict.Verdict.{Verdict}
 
 -- ---- names
 
-both-said : {A : Type 0} (o : Option A) (x y : A) → o ≡ Some x → o ≡ Some y → x ≡ y
+pub both-said : {A : Type 0} (o : Option A) (x y : A) → o ≡ Some x → o ≡ Some y → x ≡ y
 both-said o x y e f = same_Some x y (sym e ∙ f)
 
 same-rule : (one other : Rule) → code_name (Code.Rule one) ≡ code_name (Code.Rule other) → one ≡ other
@@ -44,11 +44,16 @@ apart x y xs ys other e =
     let same : x ≡ y = cc in
     grind (arith, nat_tests, other, same)
 
-same-framing : (one other : Framing) → framing_word one ≡ framing_word other → one ≡ other
-same-framing Sequence Sequence e = refl
-same-framing Lines Lines e = refl
-same-framing Sequence Lines e = absurd (apart 115 110 _ _ refl e)
-same-framing Lines Sequence e = absurd (apart 110 115 _ _ refl e)
+pub same-framing : (one other : Option Framing) → framing_word one ≡ framing_word other → one ≡ other
+same-framing (Some Sequence) (Some Sequence) e = refl
+same-framing (Some Lines) (Some Lines) e = refl
+same-framing None None e = refl
+same-framing (Some Sequence) (Some Lines) e = absurd (apart 115 110 _ _ refl e)
+same-framing (Some Lines) (Some Sequence) e = absurd (apart 110 115 _ _ refl e)
+same-framing (Some Sequence) None e = absurd (apart 115 102 _ _ refl e)
+same-framing (Some Lines) None e = absurd (apart 110 102 _ _ refl e)
+same-framing None (Some Sequence) e = absurd (apart 102 115 _ _ refl e)
+same-framing None (Some Lines) e = absurd (apart 102 110 _ _ refl e)
 
 same-every : (one other : Bool) → every_word one ≡ every_word other → one ≡ other
 same-every true true e = refl
@@ -116,11 +121,12 @@ verdict-same it begin (SeqVerdict.Record a one) (SeqVerdict.Record b other) e f 
 verdict-same it begin (SeqVerdict.Valid a warnings) (SeqVerdict.Record b other) e f = absurd (some-none (number_in (codes "records") it) a e.0 f.0)
 verdict-same it begin (SeqVerdict.Record a one) (SeqVerdict.Valid b others) e f = absurd (some-none (number_in (codes "records") it) b f.0 e.0)
 
-checked-same : (it : Data) (one other : CheckedPart) → IsCheckedIn it one → IsCheckedIn it other → one ≡ other
-checked-same it one other e f =
+checked-same : (it : Data) (framing : Option Framing) (one other : CheckedPart) → IsCheckedIn it framing one → IsCheckedIn it framing other → one ≡ other
+checked-same it framing one other e f =
     let begin = both-said (number_in (codes "begin") it) one.begin other.begin e.begin f.begin in
     let end = both-said (number_in (codes "end") it) one.end other.end e.end f.end in
-    let verdict = verdict-same it other.begin one.verdict other.verdict (subst (λ (n : ℕ). IsVerdictIn it n one.verdict) begin e.verdict) f.verdict in
+    let verdict = verdict-same it (base_of framing other.begin) one.verdict other.verdict
+    (subst (λ (n : ℕ). IsVerdictIn it (base_of framing n) one.verdict) begin e.verdict) f.verdict in
     ap (λ (n : ℕ). record { begin = n; end = one.end; verdict = one.verdict }) begin
     ∙ (ap (λ (n : ℕ). record { begin = other.begin; end = n; verdict = one.verdict }) end
     ∙ ap (λ (v : SeqVerdict). record { begin = other.begin; end = other.end; verdict = v }) verdict)
@@ -176,7 +182,9 @@ listed-alike it begin None (Some other) e f = absurd (said-every it (every_word 
 
 pub agree : (it : Data) (one other : PartLine) → IsLineIn it one → IsLineIn it other → Agree one other
 agree it one other e f =
-    let checked = checked-same it one.checked other.checked e.checked f.checked in
+    let framing = same-framing one.settings.framing other.settings.framing (both-said (text_in (codes "framing") it) _ _ e.settings.framing f.settings.framing) in
+    let checked = checked-same it other.settings.framing one.checked other.checked
+    (subst (λ (it_is : Option Framing). IsCheckedIn it it_is one.checked) framing e.checked) f.checked in
     let bytes = both-said (number_in (codes "max_bytes") it) one.settings.limits.bytes other.settings.limits.bytes e.settings.max_bytes f.settings.max_bytes in
     let depth : one.settings.limits.depth ≡ other.settings.limits.depth = e.settings.depth ∙ sym f.settings.depth in
     let part = both-said (number_in (codes "part") it) one.share.number other.share.number e.share.part f.share.part in
@@ -187,13 +195,14 @@ agree it one other e f =
         size = both-said (number_in (codes "size") it) _ _ e.file.size f.file.size;
         modified = both-said (text_in (codes "modified") it) _ _ e.file.modified f.file.modified;
       };
-      framing = same-framing one.settings.framing other.settings.framing (both-said (text_in (codes "framing") it) _ _ e.settings.framing f.settings.framing);
+      framing = framing;
       limits = ap (λ (n : ℕ). record { depth = n; bytes = one.settings.limits.bytes }) depth
           ∙ ap (λ (n : ℕ). record { depth = other.settings.limits.depth; bytes = n }) bytes;
       strict = both-said (truth_in (codes "strict") it) _ _ e.settings.strict f.settings.strict;
       number = part;
       parts = parts;
       checked = checked;
-      listed = listed-alike it other.checked.begin one.listed other.listed
-          (subst (λ (n : ℕ). IsListedIf it n one.listed) (ap (λ (c : CheckedPart). c.begin) checked) e.listed) f.listed;
+      listed = listed-alike it (line_base other) one.listed other.listed
+          (subst (λ (n : ℕ). IsListedIf it n one.listed) (ap (λ (o : Option Framing). base_of o one.checked.begin) framing
+          ∙ ap (λ (c : CheckedPart). base_of other.settings.framing c.begin) checked) e.listed) f.listed;
     }

@@ -11,8 +11,8 @@ use Rattle.std.proofs.lemmas.Option.{get_or_from_slice_get, slice_get_past}
 use Rattle.gj_json.specs.Limits.{Allowed}
 use Rattle.sequence_parts.specs.Checked.{AreAllParts}
 use Rattle.sequence_parts.specs.Ranges.{ArePart}
-use Rattle.part_lines.specs.Internal.Places.{ArePlaced, ArePartsTo, IsPartIn}
-use Rattle.part_lines.specs.Lines.{AreAllLines, AreAllNumbers, HasBytesOf, part_number}
+use Rattle.part_lines.specs.Internal.Places.{ArePlaced}
+use Rattle.part_lines.specs.Lines.{AreAllLines, AreAllNumbers, ArePartsTo, IsPartIn, HasBytesOf, part_number}
 
 -- what holds of all lines holds of the one that is there
 pub line_there : (P : PartLine → Type 0) (lines : List PartLine) (i : ℕ) (line : PartLine) → i < length lines → line ≡ get_or lines i line

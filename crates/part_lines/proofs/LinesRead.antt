@@ -25,7 +25,7 @@ use Rattle.gj_coords.specs.WarningsStand.{StandsFor}
 use Rattle.gj_coords.specs.declared.kind_warnings.KindWarnings.{KindWarnings}
 use Rattle.geolint_report.specs.Items.{item_number}
 use Rattle.report_forms.specs.Passing.{contains}
-use Rattle.part_lines.specs.Lines.{framing_word, every_word}
+use Rattle.part_lines.specs.Lines.{framing_word, every_word, line_base}
 use Rattle.part_lines.specs.LineText.{num, members_of, object_of, name_of, file_members, chosen_kind, chosen_kinds, settings_members, warning_members}
 use Rattle.part_lines.specs.LineText.{warning_if, kind_items, warning_items, valid_members, fault_members, tally_members, note_members, note_items}
 use Rattle.part_lines.specs.LineText.{listed_members, head_members, members_with, body_text, line_text}
@@ -329,9 +329,9 @@ members-said line begin (SeqVerdict.Record n (Verdict.Valid warnings)) listed fi
 
 line-said : (line : PartLine) → IsWritable line → IsLineIn (settled (object_of (line-members line))) line
 line-said line fits =
-    let ms = found-with line line.checked.begin line.checked.verdict line.listed in
+    let ms = found-with line (line_base line) line.checked.verdict line.listed in
     let it = object ms in
-    let (head, notes, verdict) = members-said line line.checked.begin line.checked.verdict line.listed fits.verdict in
+    let (head, notes, verdict) = members-said line (line_base line) line.checked.verdict line.listed fits.verdict in
     let (version, part, parts, path, size, modified, framing, bytes, strict, allow, deny, begin, end) = head in
     record {
       version = number-there (codes "geolint_part") it 2 version;
@@ -355,7 +355,7 @@ line-said line fits =
         end = number-there (codes "end") it _ end;
         verdict = verdict;
       };
-      listed = listed-said line.checked.begin line.listed ms fits.listed notes;
+      listed = listed-said (line_base line) line.listed ms fits.listed notes;
     }
 
 pub line-read : (line : PartLine) → IsWritable line

@@ -17,7 +17,7 @@ use Rattle.gj_rules.specs.declared.sequence.verdict.SeqVerdict.{SeqVerdict}
 use Rattle.gj_rules.specs.declared.verdict.Verdict.{Verdict}
 use Rattle.report_forms.specs.Passing.{contains}
 use Rattle.report_forms.specs.declared.options.Kinds.{Kinds}
-use Rattle.part_lines.specs.Lines.{every_word, framing_word}
+use Rattle.part_lines.specs.Lines.{every_word, framing_word, line_base}
 use Rattle.part_lines.specs.LineText.{object_of, place_in_file, name_of, file_members, chosen_kind, chosen_kinds, settings_members, warning_members, warning_if}
 use Rattle.part_lines.specs.LineText.{kind_items, warning_items, valid_members, fault_members, verdict_members, count_members, code_items}
 use Rattle.part_lines.specs.LineText.{count_items, tally_members, note_members, note_items, listed_members}
@@ -164,11 +164,11 @@ listed-read begin None fits = tt
 
 pub object-read : (line : PartLine) → IsWritable line → IsReadable 3 (object_of (line-members line))
 object-read line fits =
-    let begin = line.checked.begin in
-    let verdict = verdict_members begin line.checked.verdict in
-    let listed = listed_members_if begin line.listed in
+    let base = line_base line in
+    let verdict = verdict_members base line.checked.verdict in
+    let listed = listed_members_if base line.listed in
     reads-object 2 (line-members line) (
       reads-number 2 2 (omega arith),
       named-append 2 (head_members line) (verdict ++ listed) (head-read line fits)
-          (named-append 2 verdict listed (verdict-read begin line.checked.verdict fits.verdict) (listed-read begin line.listed fits.listed)),
+          (named-append 2 verdict listed (verdict-read base line.checked.verdict fits.verdict) (listed-read base line.listed fits.listed)),
     )

@@ -1,11 +1,8 @@
 -- The names of codes: a code is told by its name, which has nothing to escape.
 use Rattle.std.proofs.Common.{◌≡◌, ◌∙◌, ℕ, List, true, Option, None, Some, refl, ap, sym}
 use Rattle.std.specs.List.{find}
-use Rattle.gj_coords.specs.declared.fault.Rule.{Rule}
 use Rattle.gj_coords.specs.declared.fault.Rule.TheVariants.{G1}
-use Rattle.gj_coords.specs.declared.kind.Kind.{Kind}
 use Rattle.gj_coords.specs.declared.kind.Kind.TheVariants.{W1}
-use Rattle.gj_json.specs.declared.fault.Cause.{Cause}
 use Rattle.gj_json.specs.declared.fault.Cause.TheVariants.{Syntax}
 use Rattle.geolint_report.specs.Texts.{code_name, is_listed, is_named}
 use Rattle.geolint_report.specs.declared.texts.Code.{Code}

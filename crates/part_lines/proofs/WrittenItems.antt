@@ -13,6 +13,7 @@ use Rattle.serde_json.specs.Written.{compact_text, members_text}
 use Rattle.geolint_report.proofs.ElementsInTurn.{parts-more}
 use Rattle.geolint_report.specs.Line.{truth}
 use Rattle.part_lines.specs.LineText.{Named, num, members_of, members_with, object_of, array_of, items_text, more_text, body_text}
+use Rattle.part_lines.specs.Lines.{line_base}
 use Rattle.part_lines.specs.declared.line.PartLine.{PartLine}
 
 -- what is put after something else
@@ -83,9 +84,9 @@ more-append ms more = flat_map-append (λ (m : Named). codes "," ++ (quoted m.0 
 
 -- the object of a line without its checksum
 abbrev pub line-members : PartLine → List Named
-line-members line = (codes "geolint_part", num 2) ∷ members_with line line.checked.begin line.checked.verdict line.listed
+line-members line = (codes "geolint_part", num 2) ∷ members_with line (line_base line) line.checked.verdict line.listed
 
 pub line-ends : (line : PartLine) → compact_text (object_of (line-members line)) ≡ body_text line ++ codes "}"
 unfolding body_text escape_byte digits
 line-ends line =
-    ap (λ (l : List ℕ). codes "{\"geolint_part\":2" ++ l) (members-end (members_with line line.checked.begin line.checked.verdict line.listed))
+    ap (λ (l : List ℕ). codes "{\"geolint_part\":2" ++ l) (members-end (members_with line (line_base line) line.checked.verdict line.listed))

@@ -6,6 +6,7 @@ use Rattle.gj_coords.specs.WarningsStand.{StandsFor}
 use Rattle.gj_coords.specs.declared.kind.Kind.{Kind}
 use Rattle.gj_coords.specs.declared.warnings.Warnings.{Warnings}
 use Rattle.gj_json.specs.Limits.{IsAllowed, most}
+use Rattle.gj_rules.specs.declared.records.framing.Framing.{Framing}
 use Rattle.gj_rules.specs.declared.sequence.verdict.SeqVerdict.{SeqVerdict}
 use Rattle.gj_rules.specs.declared.verdict.Verdict.{Verdict}
 use Rattle.geolint_report.specs.Texts.{code_name}
@@ -17,7 +18,7 @@ use Rattle.sequence_parts.specs.declared.ranges.Share.{Share}
 use Rattle.serde_json.specs.Data.{Data, Items}
 use Rattle.serde_json.specs.Find.{get, as_number, as_u64, as_str, as_bool, as_array}
 use Rattle.serde_json.specs.View.{items_of}
-use Rattle.part_lines.specs.Lines.{every_word, framing_word}
+use Rattle.part_lines.specs.Lines.{every_word, framing_word, base_of, line_base}
 use Rattle.part_lines.specs.declared.line.FileState.{FileState}
 use Rattle.part_lines.specs.declared.line.Listed.{Listed}
 use Rattle.part_lines.specs.declared.line.PartLine.{PartLine}
@@ -101,10 +102,10 @@ IsVerdictIn it begin (SeqVerdict.Valid records warnings) = (number_in (codes "re
 IsVerdictIn it begin (SeqVerdict.Record number verdict) =
     (number_in (codes "records") it ≡ None) × (number_in (codes "record") it ≡ Some number) × IsRecordIn it begin verdict
 
-pub record IsCheckedIn (it : Data) (part : CheckedPart) : Type 0 where
+pub record IsCheckedIn (it : Data) (framing : Option Framing) (part : CheckedPart) : Type 0 where
   pub begin : number_in (codes "begin") it ≡ Some part.begin
   pub end : number_in (codes "end") it ≡ Some part.end
-  pub verdict : IsVerdictIn it part.begin part.verdict
+  pub verdict : IsVerdictIn it (base_of framing part.begin) part.verdict
 
 -- ---- the notes on records
 
@@ -144,5 +145,5 @@ pub record IsLineIn (it : Data) (line : PartLine) : Type 0 where
   pub file : IsFileIn it line.file
   pub settings : IsSettingsIn it line.settings
   pub share : IsShareIn it line.share
-  pub checked : IsCheckedIn it line.checked
-  pub listed : IsListedIf it line.checked.begin line.listed
+  pub checked : IsCheckedIn it line.settings.framing line.checked
+  pub listed : IsListedIf it (line_base line) line.listed

@@ -21,7 +21,7 @@ use Rattle.geolint_report.specs.declared.texts.Code.{Code}
 use Rattle.geolint_report.specs.declared.texts.TheConstants.{ALL}
 use Rattle.report_forms.specs.Passing.{contains}
 use Rattle.report_forms.specs.declared.options.Kinds.{Kinds}
-use Rattle.part_lines.specs.Lines.{every_word, framing_word}
+use Rattle.part_lines.specs.Lines.{every_word, framing_word, line_base}
 use Rattle.part_lines.specs.Sealed.{sealed}
 use Rattle.part_lines.specs.declared.line.FileState.{FileState}
 use Rattle.part_lines.specs.declared.line.Listed.{Listed}
@@ -164,7 +164,7 @@ members_with line begin verdict listed = head_members line ++ (verdict_members b
 
 -- up to its checksum
 unfoldable pub body_text : PartLine → List ℕ
-body_text line = codes "{\"geolint_part\":2" ++ more_text (members_with line line.checked.begin line.checked.verdict line.listed)
+body_text line = codes "{\"geolint_part\":2" ++ more_text (members_with line (line_base line) line.checked.verdict line.listed)
 
 abbrev pub line_text : PartLine → List ℕ
 line_text line = sealed (body_text line) ++ codes "\n"

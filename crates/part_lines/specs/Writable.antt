@@ -10,6 +10,7 @@ use Rattle.gj_rules.specs.declared.sequence.verdict.SeqVerdict.{SeqVerdict}
 use Rattle.gj_rules.specs.declared.verdict.Verdict.{Verdict}
 use Rattle.geolint_report.specs.declared.every.listing.Item.{Item}
 use Rattle.geolint_report.specs.declared.every.listing.Note.{Note}
+use Rattle.part_lines.specs.Lines.{line_base}
 use Rattle.part_lines.specs.declared.line.Listed.{Listed}
 use Rattle.part_lines.specs.declared.line.PartLine.{PartLine}
 
@@ -60,5 +61,5 @@ pub record IsWritable (line : PartLine) : Type 0 where
   pub depth : line.settings.limits.depth ≡ most.depth
   pub begin : Fits line.checked.begin
   pub end : Fits line.checked.end
-  pub verdict : IsWritableVerdict line.checked.begin line.checked.verdict
-  pub listed : IsWritableIf line.checked.begin line.listed
+  pub verdict : IsWritableVerdict (line_base line) line.checked.verdict
+  pub listed : IsWritableIf (line_base line) line.listed

@@ -7,8 +7,8 @@ ghost use Rattle.gj_join.specs.Joined.{IsVerdictOf};
 ghost use Rattle.gj_rules.specs.declared.records.framing.Framing.{Framing};
 ghost use Rattle.sequence_parts.specs.Checked.{HasAtMost};
 ghost use Rattle.part_lines.specs.declared.line.PartLine.{PartLine};
-ghost use Rattle.part_lines.specs.Internal.Places.{ArePartsTo, ArePlaced};
-ghost use Rattle.part_lines.specs.Lines.{AreAllLines, AreAllNumbers, IsLack, IsLike, IsLineOf, part_number};
+ghost use Rattle.part_lines.specs.Internal.Places.{ArePlaced};
+ghost use Rattle.part_lines.specs.Lines.{AreAllLines, AreAllNumbers, ArePartsTo, IsLack, IsLike, IsLineOf, part_number};
 
 use crate::line::PartLine;
 use gj_rules::SeqVerdict;
@@ -62,6 +62,27 @@ pub fn join_lines(alloc: Global, lines: &[PartLine]) -> Result<SeqVerdict, Refus
     ensures complete { (framing : Framing) (limits : Allowed) (text : List ℕ) → AreAllLines framing limits text lines.now → IfErr result IsLack }
     ensures few { (most : ℕ) → length lines.now * most < 2 ^ 64 → All (λ line. HasAtMost most line.checked) lines.now → result ≡ Err Refusal.TooMany → ⊥ }
 {
+    let parts = match parts_of(alloc, lines) {
+        Ok(parts) => parts,
+        Err(refusal) => return Err(refusal),
+    };
+    let Some(first) = lines.first() else {
+        return Err(Refusal::None);
+    };
+    match join_parts(parts.as_slice(), first.file.size) {
+        Ok(verdict) => Ok(verdict),
+        Err(Misfit::NotInOrder) => Err(Refusal::NotInOrder),
+        Err(Misfit::TooMany) => Err(Refusal::TooMany),
+    }
+}
+
+/// What was found of each part of a file, in their order, given the lines of all parts in any order.
+pub fn parts_of(alloc: Global, lines: &[PartLine]) -> Result<Vec<CheckedPart>, Refusal>
+    ensures parts { IfOk result (λ parts. ArePartsTo lines.now (length lines.now) parts.items) }
+    ensures alike { IfOk result (λ parts. (none : PartLine) → All (IsLike (get_or lines.now 0 none)) lines.now) }
+    ensures complete { (framing : Framing) (limits : Allowed) (text : List ℕ) → AreAllLines framing limits text lines.now → IfErr result IsLack }
+    ensures few { result ≢ Err Refusal.TooMany }
+{
     let Some(first) = lines.first() else {
         return Err(Refusal::None);
     };
@@ -72,11 +93,7 @@ pub fn join_lines(alloc: Global, lines: &[PartLine]) -> Result<SeqVerdict, Refus
     if missing <= first.share.parts {
         return Err(Refusal::Missing(missing));
     }
-    match join_parts(parts.as_slice(), first.file.size) {
-        Ok(verdict) => Ok(verdict),
-        Err(Misfit::NotInOrder) => Err(Refusal::NotInOrder),
-        Err(Misfit::TooMany) => Err(Refusal::TooMany),
-    }
+    Ok(parts)
 }
 
 /// Whether the lines are of the same file as the first one, and were made in the same way.

@@ -12,10 +12,9 @@ mod line;
 mod notes;
 mod reading;
 mod sealing;
-mod warnings;
 mod writing;
 
-pub use joining::{Refusal, join_lines};
+pub use joining::{Refusal, join_lines, parts_of};
 pub use laws::{members_say_one_line, written_lines_are_read};
 pub use line::{FileState, Listed, PartLine, Settings};
 pub use notes::join_notes;

@@ -1,5 +1,8 @@
 //! What the line of a part says.
 
+ghost use Rattle.std.specs.Prelude.{◌≡◌};
+ghost use Rattle.part_lines.specs.Lines.{base_of};
+
 use geolint_report::every::listing::{Asked, Notes};
 use gj_json::Limits;
 use gj_rules::Framing;
@@ -20,8 +23,8 @@ pub struct FileState {
 /// What decides whether the file passes, beside its bytes.
 #[derive(Clone, Copy, PartialEq, Eq)]
 pub struct Settings {
-    /// How its texts are divided.
-    pub framing: Framing,
+    /// How its texts are divided, or `None` of one FeatureCollection, whose parts are runs of features.
+    pub framing: Option<Framing>,
     /// The limits of the whole file.
     pub limits: Limits,
     /// Which kinds of warning fail the file.
@@ -50,4 +53,14 @@ pub struct PartLine {
     pub checked: CheckedPart,
     /// The notes on its records, under `--every`.
     pub listed: Option<Listed>,
+}
+
+/// The byte offset from which the places of a part count that begins there: its first byte, and in a FeatureCollection that of the file.
+pub(crate) fn base_of(framing: Option<Framing>, begin: u64) -> u64
+    ensures { result ≡ base_of framing begin }
+{
+    match framing {
+        Some(_) => begin,
+        None => 0,
+    }
 }

@@ -1,7 +1,7 @@
 //! Reads the line of a part.
 
 ghost use Rattle.std.specs.Str.{IsUtf8};
-ghost use Rattle.std.specs.Prelude.{◌≡◌, ◌≢◌, ◌<◌, ◌^◌, ◌++◌, ℕ, Bool, IfSome, IsSome, IfOk, Some, None, Err, true, option_map, map, codes, replicate};
+ghost use Rattle.std.specs.Prelude.{◌≡◌, ◌≢◌, ◌<◌, ◌^◌, ◌++◌, ℕ, Bool, Option, IfSome, IsSome, IfOk, Some, None, Err, true, option_map, map, codes, replicate};
 ghost use Rattle.std.specs.List.{All};
 ghost use Rattle.gj_coords.specs.Warnings.{warning_at};
 ghost use Rattle.gj_coords.specs.WarningsStand.{StandsFor};
@@ -35,9 +35,8 @@ ghost use Rattle.sequence_parts.specs.declared.checked.CheckedPart.{CheckedPart}
 ghost use Rattle.sequence_parts.specs.declared.ranges.Share.{Share};
 
 use crate::laws::{members_say_one_line, written_lines_are_read};
-use crate::line::{FileState, Listed, PartLine, Settings};
+use crate::line::{FileState, Listed, PartLine, Settings, base_of};
 use crate::sealing::unsealed;
-use crate::warnings::warnings_at;
 use geolint_report::every::listing::{Asked, Item, Note, Notes};
 use geolint_report::every::tally::Tally;
 use geolint_report::report::Told;
@@ -45,6 +44,7 @@ use geolint_report::texts::{CODES, Code, code_named};
 use gj_coords::{Fault, Kind, Rule, Warnings};
 use gj_json::{Cause, JsonFault, Limits};
 use gj_rules::{Framing, SeqVerdict, Verdict};
+use gj_runs::warnings_at;
 use report_forms::options::{Kinds, Strictness};
 use sequence_parts::{CheckedPart, Share};
 use serde_json::Value;
@@ -156,10 +156,11 @@ fn read_value(alloc: Global, value: &Value) -> Result<PartLine, NoLine>
     let Some(share) = read_share(value) else {
         return Err(NoLine::NoPart);
     };
-    let Some(checked) = read_checked(value) else {
+    let Some(checked) = read_checked(value, settings.framing) else {
         return Err(NoLine::NoPart);
     };
-    let listed = read_listed_if(alloc, value, checked.begin)?;
+    let base = base_of(settings.framing, checked.begin);
+    let listed = read_listed_if(alloc, value, base)?;
     Ok(PartLine {
         file,
         settings,
@@ -216,13 +217,14 @@ fn read_file(alloc: Global, value: &Value) -> Result<Option<FileState>, AllocErr
 }
 
 /// The framing of this word.
-fn framing_named(name: &str) -> Option<Framing>
+fn framing_named(name: &str) -> Option<Option<Framing>>
     ensures word { IfSome result (λ framing. framing_word framing ≡ name.now) }
-    ensures all { (framing : Framing) → name.now ≡ framing_word framing → result ≡ Some framing }
+    ensures all { (framing : Option Framing) → name.now ≡ framing_word framing → result ≡ Some framing }
 {
     match name {
-        "seq" => Some(Framing::Sequence),
-        "ndjson" => Some(Framing::Lines),
+        "seq" => Some(Some(Framing::Sequence)),
+        "ndjson" => Some(Some(Framing::Lines)),
+        "features" => Some(None),
         _ => None,
     }
 }
@@ -291,13 +293,13 @@ fn read_share(value: &Value) -> Option<Share>
     Share::new(number_of(value, "part")?, number_of(value, "parts")?)
 }
 
-fn read_checked(value: &Value) -> Option<CheckedPart>
-    ensures some { IfSome result (IsCheckedIn (view value.now)) }
-    ensures none { result ≡ None → (part : CheckedPart) → ¬ (IsCheckedIn (view value.now) part) }
+fn read_checked(value: &Value, framing: Option<Framing>) -> Option<CheckedPart>
+    ensures some { IfSome result (IsCheckedIn (view value.now) framing) }
+    ensures none { result ≡ None → (part : CheckedPart) → ¬ (IsCheckedIn (view value.now) framing part) }
 {
     let begin = number_of(value, "begin")?;
     let end = number_of(value, "end")?;
-    let verdict = read_verdict(value, begin)?;
+    let verdict = read_verdict(value, base_of(framing, begin))?;
     Some(CheckedPart {
         begin,
         end,

@@ -14,7 +14,7 @@ ghost use Rattle.part_lines.specs.LineText.{warning_items, kind_items, warning_m
 ghost use Rattle.part_lines.specs.LineText.{code_items, count_members, note_items, one_note, note_members};
 ghost use Rattle.part_lines.specs.Lines.{every_word, framing_word};
 
-use crate::line::{FileState, Listed, PartLine, Settings};
+use crate::line::{FileState, Listed, PartLine, Settings, base_of};
 use crate::sealing::put_seal;
 use geolint_report::every::listing::{Item, Note};
 use geolint_report::every::tally::Tally;
@@ -52,8 +52,9 @@ fn put_body(alloc: Global, line: &PartLine, out: &mut Vec<u8>) -> Result<(), All
     put_number(out, line.checked.begin)?;
     put(out, b",\"end\":")?;
     put_number(out, line.checked.end)?;
-    put_verdict(alloc, &line.checked.verdict, line.checked.begin, out)?;
-    put_listed_if(alloc, &line.listed, line.checked.begin, out)
+    let base = base_of(line.settings.framing, line.checked.begin);
+    put_verdict(alloc, &line.checked.verdict, base, out)?;
+    put_listed_if(alloc, &line.listed, base, out)
 }
 
 fn put_file(alloc: Global, file: &FileState, out: &mut Vec<u8>) -> Result<(), AllocError>
@@ -102,20 +103,21 @@ fn put_limit(limits: &Limits, out: &mut Vec<u8>) -> Result<(), AllocError>
     put_number(out, limits.bytes())
 }
 
-fn put_framing(framing: Framing, out: &mut Vec<u8>) -> Result<(), AllocError>
+fn put_framing(framing: Option<Framing>, out: &mut Vec<u8>) -> Result<(), AllocError>
     ensures { OnOk result (Adds out.old out.new (quoted (framing_word framing))) }
 {
     put(out, framing_name(framing))
 }
 
-/// The word that asks for a framing, without its dashes, as a JSON string.
+/// The word of a framing, as a JSON string.
 #[tactic(auto, unfolding(json::specs::Print::escape_byte))]
-fn framing_name(framing: Framing) -> &'static [u8]
+fn framing_name(framing: Option<Framing>) -> &'static [u8]
     ensures { result.now ≡ quoted (framing_word framing) }
 {
     match framing {
-        Framing::Sequence => b"\"seq\"",
-        Framing::Lines => b"\"ndjson\"",
+        Some(Framing::Sequence) => b"\"seq\"",
+        Some(Framing::Lines) => b"\"ndjson\"",
+        None => b"\"features\"",
     }
 }
 

@@ -505,7 +505,7 @@ fn line_of(rt: &HostRuntime, number: u64, checked: CheckedPart) -> io::Result<Pa
             modified: String::from_str(rt.alloc(), "17.000000005")?,
         },
         settings: Settings {
-            framing: Framing::Sequence,
+            framing: Some(Framing::Sequence),
             limits: limits_of(1000),
             strictness: Strictness {
                 strict: true,
@@ -539,16 +539,16 @@ fn is_written_so(rt: &impl Abort, alloc: Global, line: &PartLine, wanted: &str) 
 /// A part as a row has it: its framing, how many records it has or which decides, the rule that this one breaks and where, the
 /// warnings, and its line.
 type Written = (
-    Framing,
+    Option<Framing>,
     u64,
     Option<(Rule, u64)>,
     &'static [(Kind, u64)],
     &'static str,
 );
 
-static WRITTEN: [Written; 2] = [
+static WRITTEN: [Written; 3] = [
     (
-        Framing::Sequence,
+        Some(Framing::Sequence),
         12,
         None,
         &[
@@ -560,11 +560,23 @@ static WRITTEN: [Written; 2] = [
         "{\"geolint_part\":2,\"part\":2,\"parts\":2,\"path\":\"a \\\"b\\\".geojsons\",\"size\":116,\"modified\":\"17.000000005\",\"framing\":\"seq\",\"max_bytes\":1000,\"strict\":true,\"allow\":[\"W4\",\"W9\"],\"deny\":[],\"begin\":40,\"end\":99,\"records\":12,\"warnings\":[{\"kind\":\"W1\",\"count\":1,\"at\":47},{\"kind\":\"W5\",\"count\":3,\"at\":60}],\"sha256\":\"78af16f4c28e181cbcb94a3771f6a01ae47b7d23488d68305e0eae4c5fc23db3\"}\n",
     ),
     (
-        Framing::Lines,
+        Some(Framing::Lines),
         3,
         Some((Rule::G15, 5)),
         &[],
         "{\"geolint_part\":2,\"part\":2,\"parts\":2,\"path\":\"a \\\"b\\\".geojsons\",\"size\":116,\"modified\":\"17.000000005\",\"framing\":\"ndjson\",\"max_bytes\":1000,\"strict\":true,\"allow\":[\"W4\",\"W9\"],\"deny\":[],\"begin\":40,\"end\":99,\"record\":3,\"fault\":\"G15\",\"at\":45,\"sha256\":\"eedb18c06cccee405a068008b7d4c00c8d91ab4f78935f57b6741998ae198def\"}\n",
+    ),
+    (
+        None,
+        12,
+        None,
+        &[
+            (Kind::W5, 30),
+            (Kind::W5, 20),
+            (Kind::W1, 7),
+            (Kind::W5, 25),
+        ],
+        "{\"geolint_part\":2,\"part\":2,\"parts\":2,\"path\":\"a \\\"b\\\".geojsons\",\"size\":116,\"modified\":\"17.000000005\",\"framing\":\"features\",\"max_bytes\":1000,\"strict\":true,\"allow\":[\"W4\",\"W9\"],\"deny\":[],\"begin\":40,\"end\":99,\"records\":12,\"warnings\":[{\"kind\":\"W1\",\"count\":1,\"at\":7},{\"kind\":\"W5\",\"count\":3,\"at\":20}],\"sha256\":\"4ba1704a9e2aff050735707b37f24bc9083b738e3690d739eecd08cdd39c56f1\"}\n",
     ),
 ];
 
@@ -636,7 +648,7 @@ fn lines_are_joined_or_refused(rt: HostRuntime) -> io::Result<()> {
         "not strict",
     );
     let mut other = line_of(&rt, 2, second)?;
-    other.settings.framing = Framing::Lines;
+    other.settings.framing = Some(Framing::Lines);
     let all = [line_of(&rt, 1, first)?, other];
     holds(
         &rt,

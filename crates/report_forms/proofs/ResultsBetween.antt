@@ -1,10 +1,11 @@
 -- Lemmas on results that are written with a comma between two, some at a time.
-use Rattle.std.proofs.Common.{◌≡◌, ◌&&◌, ℕ, Bool, false, List, [], ◌∷◌, ◌++◌, refl, ap, sym, ◌∙◌, append_assoc, append-nil, codes}
+use Rattle.std.proofs.Common.{◌≡◌, ◌&&◌, ◌+◌, ◌<◌, ℕ, Bool, false, List, [], ◌∷◌, ◌++◌, map, length, take, get_or, refl, ap, sym, ◌∙◌}
+use Rattle.std.proofs.Common.{add-one, append_assoc, append-nil, arith, codes}
+use Rattle.std.proofs.lemmas.List.{map-append, take_more}
 use Rattle.std.proofs.lemmas.List.Concat.{flat_map-append}
-use Rattle.std.proofs.Math.Bool.{and-false, and-true, and_assoc}
+use Rattle.std.proofs.Math.Bool.{and-false, and-true}
 use Rattle.report_forms.specs.Forms.Sarif.{break_unless, behind_breaks, next_results}
 use Rattle.report_forms.specs.Internal.WrittenCommas.{is_none_yet}
-use Rattle.report_forms.proofs.CommasBetween.{none-more}
 
 next-behind : (ys : List (List ℕ)) → next_results false ys ≡ behind_breaks ys
 next-behind [] = refl
@@ -20,8 +21,27 @@ results-more is_first (x ∷ xs) ys =
     ∙ ap (λ (bytes : List ℕ). (break_unless is_first ++ (x ++ behind_breaks xs)) ++ bytes)
     (sym (next-behind ys) ∙ ap (λ (b : Bool). next_results b ys) (sym (and-false is_first)))))
 
-pub none-of-more : (is_first : Bool) (xs ys : List (List ℕ)) → ((is_first && is_none_yet xs) && is_none_yet ys) ≡ (is_first && is_none_yet (xs ++ ys))
-none-of-more is_first xs ys = and_assoc is_first (is_none_yet xs) (is_none_yet ys) ∙ ap (λ (b : Bool). is_first && b) (sym (none-more xs ys))
+none-map : {A : Type 0} (result : A → List ℕ) (xs : List A) → is_none_yet (map result xs) ≡ is_none_yet xs
+none-map result [] = refl
+none-map result (x ∷ xs) = refl
 
-pub one-result : (is_first : Bool) (item : List ℕ) → break_unless is_first ++ item ≡ next_results is_first (item ∷ [])
-one-result is_first item = ap (λ (bytes : List ℕ). break_unless is_first ++ bytes) (sym (append-nil item))
+-- the result of one element more
+pub one-result-more : {A : Type 0} (result : A → List ℕ) (xs : List A) (i : ℕ) (d : A) (was first : Bool) (start middle new : List ℕ) → i < length xs
+    → middle ≡ start ++ next_results was (map result (take i xs)) → first ≡ (was && is_none_yet (take i xs))
+    → new ≡ middle ++ (break_unless first ++ result (get_or xs i d)) → new ≡ start ++ next_results was (map result (take (i + 1) xs))
+one-result-more {A = A} result xs i d was first start middle new within before first_is is =
+    let here = result (get_or xs i d) in
+    let done : List (List ℕ) = map result (take i xs) in
+    let more : map result (take (i + 1) xs) ≡ done ++ here ∷ [] =
+    ap (λ (ys : List A). map result ys) (take_more xs i d within) ∙ map-append result (take i xs) (get_or xs i d ∷ []) in
+    let now : first ≡ (was && is_none_yet done) = first_is ∙ ap (λ (b : Bool). was && b) (sym (none-map result (take i xs))) in
+    is ∙ (ap (λ (ys : List ℕ). ys ++ (break_unless first ++ here)) before
+    ∙ (append_assoc start (next_results was done) (break_unless first ++ here)
+    ∙ ap (λ (ys : List ℕ). start ++ ys) (ap (λ (b : Bool). next_results was done ++ (break_unless b ++ here)) now
+    ∙ (ap (λ (ys : List ℕ). next_results was done ++ (break_unless (was && is_none_yet done) ++ ys)) (sym (append-nil here))
+    ∙ (sym (results-more was done (here ∷ [])) ∙ ap (λ (items : List (List ℕ)). next_results was items) (sym more))))))
+
+-- after it there is one
+pub none-left : {A : Type 0} (was : Bool) (xs : List A) (i : ℕ) → i < length xs → false ≡ (was && is_none_yet (take (i + 1) xs))
+none-left was [] i within = absurd (omega arith)
+none-left was (x ∷ xs) i within = rw add-one (sym (and-false was))

@@ -1,5 +1,5 @@
--- The lines of a summary about rules, kinds of warning and causes: one for each that is counted.
-use Rattle.std.specs.Prelude.{◌≡◌, ◌<◌, ℕ, ◌-◌, List, [], ◌∷◌, ◌++◌, length, take, codes, if◌then◌else◌, nat_eq, get_or}
+-- The lines of a summary about rules, kinds of warning and causes, and the calls that explain them: one for each that is counted.
+use Rattle.std.specs.Prelude.{◌≡◌, ◌<◌, ℕ, ◌-◌, Bool, ◌||◌, List, [], ◌∷◌, ◌++◌, length, take, codes, if◌then◌else◌, nat_eq, nat_lt, get_or}
 use Rattle.std.specs.Fmt.{decimal}
 use Rattle.std.specs.List.{flat_map}
 use Rattle.geolint_report.specs.declared.texts.Code.{Code}
@@ -34,3 +34,18 @@ code_lines count = flat_map (code_line count) ALL
 -- the counts lie in the slots of their codes
 abbrev pub AreCounts : List ℕ → (Code → ℕ) → Type 0
 AreCounts counts count = (code : Code) → slot_of code < CODES → get_or counts (slot_of code) 0 ≡ count code
+
+-- ---- the calls that explain codes
+
+unfoldable pub call_line : Code → List ℕ
+call_line code = codes "geolint-files --explain " ++ (code_name code ++ codes "\n")
+
+abbrev pub call_line_if : Bool → Code → List ℕ
+call_line_if is_told code = if is_told then call_line code else []
+
+-- by its counts of files, and of features and records
+abbrev pub call_of : (Code → ℕ) → (Code → ℕ) → Code → List ℕ
+call_of of_files of_items code = call_line_if (nat_lt 0 (of_files code) || nat_lt 0 (of_items code)) code
+
+unfoldable pub call_lines : (Code → ℕ) → (Code → ℕ) → List ℕ
+call_lines of_files of_items = flat_map (call_of of_files of_items) ALL

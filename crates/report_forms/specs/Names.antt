@@ -43,6 +43,10 @@ begins_command (byte ∷ more) = nat_eq byte 32 || (nat_eq byte 35 || nat_eq byt
 unfoldable pub shown_name : List ℕ → List ℕ
 shown_name name = if begins_command name then by_number (get_or name 0 0) ++ shown_bytes (drop 1 name) else shown_bytes name
 
+-- what stands for a byte of a text in a JSON string, where LF is the only control character
+abbrev pub in_string : ℕ → List ℕ
+in_string byte = if nat_eq byte 34 then codes "\\\"" else if nat_eq byte 92 then codes "\\\\" else if nat_eq byte 10 then codes "\\n" else byte ∷ []
+
 -- what is said on standard error of a file that could not be opened or read
 unfoldable pub unread_line : List ℕ → List ℕ → List ℕ
 unread_line name reason = codes "geolint-files: " ++ (shown_name name ++ (codes ": " ++ (reason ++ codes "\n")))

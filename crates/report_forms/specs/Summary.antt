@@ -1,11 +1,13 @@
--- The bytes of a summary of files: how many are what, and of how many each rule, kind of warning and cause is reported.
+-- The bytes of a summary of files: how many are what, and of how many each rule, kind of warning and cause is reported; and the calls that explain these.
 use Rattle.std.specs.Prelude.{ℕ, Bool, List, [], ◌++◌, Option, is_none, codes, if◌then◌else◌, nat_lt}
 use Rattle.std.specs.Fmt.{decimal}
 use Rattle.std.specs.Io.Iter.{u64_saturate}
 use Rattle.std.specs.List.{count_by}
+use Rattle.geolint_report.specs.declared.every.tally.Tally.{Tally}
 use Rattle.geolint_report.specs.declared.judge.Finding.{Finding}
 use Rattle.geolint_report.specs.declared.texts.Code.{Code}
-use Rattle.report_forms.specs.CodeLines.{code_lines}
+use Rattle.geolint_report.specs.Tallies.{total, count_of}
+use Rattle.report_forms.specs.CodeLines.{call_lines, code_lines}
 use Rattle.report_forms.specs.Counts.{is_valid, is_warned, is_broken, is_refused, is_not_valid, tells}
 
 -- how many of the files are of a kind, as far as a u64 goes
@@ -35,3 +37,7 @@ files_line files =
 
 unfoldable pub summary_of : List (Option Finding) → List ℕ
 summary_of files = files_line files ++ code_lines (λ (code : Code). counted (tells code) files)
+
+-- of these files, and of their features and records where these are counted
+unfoldable pub calls_of : List (Option Finding) → List Tally → List ℕ
+calls_of files tallies = call_lines (λ (code : Code). counted (tells code) files) (λ (code : Code). total (count_of code) tallies)

@@ -3,6 +3,7 @@
 pub mod entry;
 pub mod forms;
 pub mod github;
+pub mod gitlab;
 pub mod json;
 pub mod lines;
 pub mod sarif;

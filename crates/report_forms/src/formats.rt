@@ -3,19 +3,20 @@ ghost use Rattle.std.specs.Prelude.{◌≡◌, ◌<◌, OnOk};
 ghost use Rattle.std.specs.List.{flat_map};
 ghost use Rattle.gj_json.specs.Path.{steps_of};
 ghost use Rattle.geolint_report.specs.Line.{Adds};
-ghost use Rattle.report_forms.specs.Forms.Messages.{and_record, and_times, and_hint, hint_on, path_behind, and_path, level_of, step_text, steps_text, path_text};
-ghost use Rattle.report_forms.specs.Names.{shown_name, shown_bytes, begins_command, shown_text, shown_char, by_number, digit_in, unread_line};
+ghost use Rattle.report_forms.specs.Forms.Messages.{and_record, and_times, path_behind, and_path, level_of, step_text, steps_text, path_text};
+ghost use Rattle.report_forms.specs.Names.{shown_name, shown_bytes, begins_command, in_string, shown_text, shown_char, by_number, digit_in, unread_line};
 
 pub mod github;
+pub mod gitlab;
+mod hints;
+pub mod issues;
 pub mod json;
 pub mod lines;
+mod pointer;
 pub mod sarif;
 pub mod text;
 
 use geolint_report::line::{put, put_all};
-use geolint_report::texts::Code;
-use gj_coords::Kind;
-use gj_hints::Hint;
 use gj_json::{Path, PathStep};
 use gj_places::is_harmful;
 use itoa::Buffer;
@@ -96,27 +97,6 @@ fn put_path_behind(path: &Path, line: &mut Vec<u8>) -> Result<(), AllocError>
     put_path(path, line)
 }
 
-/// The hint on what is reported.
-pub fn hint_on(code: Code, hint: Option<Hint>) -> Option<Hint>
-    ensures { result ≡ hint_on code hint }
-{
-    match code {
-        Code::Kind(Kind::W5) => hint,
-        Code::Kind(_) => None,
-        _ => hint,
-    }
-}
-
-/// Puts the hint of a message, where there is one. No byte of it is one that a message or a JSON string escapes.
-pub fn put_and_hint(hint: Option<Hint>, line: &mut Vec<u8>) -> Result<(), AllocError>
-    ensures { OnOk result (Adds line.old line.new (and_hint hint)) }
-{
-    match hint {
-        Some(hint) => put_all(line, &[b"; hint: ", hint.text().as_bytes()]),
-        None => Ok(()),
-    }
-}
-
 /// The level of a warning.
 pub fn level(fails: bool) -> &'static [u8]
     ensures { result.now ≡ level_of fails }
@@ -156,6 +136,27 @@ fn put_bytes(name: &[u8], line: &mut Vec<u8>) -> Result<(), AllocError>
         put_numbers(chunk.invalid(), line)?;
     }
     Ok(())
+}
+
+/// Puts a text between the quotation marks of a JSON string. Of control characters it has LF alone.
+pub fn put_in_string(text: &[u8], line: &mut Vec<u8>) -> Result<(), AllocError>
+    ensures { OnOk result (Adds line.old line.new (flat_map in_string text.now)) }
+{
+    for byte in text {
+        put_byte_in_string(*byte, line)?;
+    }
+    Ok(())
+}
+
+fn put_byte_in_string(byte: u8, line: &mut Vec<u8>) -> Result<(), AllocError>
+    ensures { OnOk result (Adds line.old line.new (in_string byte)) }
+{
+    match byte {
+        b'"' => line.extend_from_slice(b"\\\""),
+        b'\\' => line.extend_from_slice(b"\\\\"),
+        b'\n' => line.extend_from_slice(b"\\n"),
+        other => line.extend_from_slice(&[other]),
+    }
 }
 
 /// Puts the line on standard error about a file that could not be opened or read.

@@ -1,4 +1,4 @@
-//! The forms of a report: for people, for programs, for GitHub and as a log in SARIF, and the summary of files.
+//! The forms of a report: for people, for programs, for GitHub, for GitLab and as a log in SARIF, and the summary of files.
 //!
 //! Each form appends what it says of a file to the bytes of a line. What these bytes are, the definitions of `specs/Forms/`
 //! say: `put_report` of each form in [`formats`] adds the report of a file, `put_entry` of each in [`every`] the line on a

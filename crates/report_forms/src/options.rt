@@ -13,6 +13,7 @@ pub enum Format {
     Lines,
     Json,
     Github,
+    Gitlab,
     Sarif,
 }
 

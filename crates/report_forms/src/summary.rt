@@ -3,7 +3,8 @@ ghost use Rattle.std.specs.Prelude.{OnOk};
 ghost use Rattle.geolint_report.specs.Line.{Adds as Appends};
 ghost use Rattle.report_forms.specs.Summary.{and_not_valid};
 
-use crate::code_lines::put_codes;
+use crate::code_lines::{put_calls, put_codes};
+use geolint_report::every::tally::Tally;
 use geolint_report::judge::Finding;
 use geolint_report::line::{put, put_all, put_number};
 use geolint_report::texts::{CODES, Code, has};
@@ -27,13 +28,15 @@ pub struct Summary {
 impl Summary {
     ghost use Rattle.std.specs.Prelude.{◌≡◌, ◌↔◌, ◌++◌, ◌∷◌, [], IsTrue, List, Option, Some, None, true, false, not};
     ghost use Rattle.gj_coords.specs.Internal.KeptWarnings.{none_in};
+    ghost use Rattle.geolint_report.specs.declared.every.tally.Tally.{Tally};
     ghost use Rattle.geolint_report.specs.declared.judge.Finding.{Finding};
     ghost use Rattle.geolint_report.specs.Slots.{same};
+    ghost use Rattle.geolint_report.specs.Tallies.{IsTotal};
     ghost use Rattle.geolint_report.specs.Texts.{is_cause};
     ghost use Rattle.report_forms.specs.Counts.{warns};
     ghost use Rattle.report_forms.specs.FileCounts.{Counts};
     ghost use Rattle.report_forms.specs.Internal.AddedFiles.{Adds};
-    ghost use Rattle.report_forms.specs.Summary.{files_line, summary_of};
+    ghost use Rattle.report_forms.specs.Summary.{calls_of, files_line, summary_of};
 
     pub fn new() -> Summary
         ensures { Counts result [] }
@@ -122,6 +125,14 @@ impl Summary {
     {
         self.put_files(line)?;
         put_codes(&self.counts, line)
+    }
+
+    /// Puts the call that explains each code that is reported of a file, or counted of its features and records.
+    pub fn put_calls(&self, tally: &Tally, line: &mut Vec<u8>) -> Result<(), AllocError>
+        ensures { (files : List (Option Finding)) (tallies : List Tally) → Counts self.now files → IsTotal tally.now tallies
+            → OnOk result (Appends line.old line.new (calls_of files tallies)) }
+    {
+        put_calls(&self.counts, &tally.counts, line)
     }
 
     fn put_files(&self, line: &mut Vec<u8>) -> Result<(), AllocError>

@@ -4,6 +4,7 @@ import java.io.ByteArrayInputStream;
 import java.io.IOException;
 import java.io.InputStream;
 import java.nio.ByteBuffer;
+import java.nio.file.Path;
 import java.util.Objects;
 import java.util.concurrent.ArrayBlockingQueue;
 
@@ -106,6 +107,20 @@ public final class Geolint {
         } finally {
             give(linter);
         }
+    }
+
+    /**
+     * Checks a file by several threads, which pays where it is a FeatureCollection of tens of megabytes. The verdict is that of one reading,
+     * whatever the file is.
+     *
+     * @param file where it is
+     * @param jobs how many threads check it, 1 or more
+     * @param limits how deep and how long it may be
+     * @return what it is
+     * @throws IOException where it cannot be read, or changed while it was read
+     */
+    public static Verdict check(Path file, int jobs, Limits limits) throws IOException {
+        return Parts.check(file, jobs, limits, Parts.LEAST);
     }
 
     /**

@@ -2,6 +2,7 @@ package geolint;
 
 import java.io.IOException;
 import java.io.InputStream;
+import java.nio.ByteBuffer;
 import java.nio.file.Files;
 import java.nio.file.Path;
 import java.util.ArrayList;
@@ -72,6 +73,26 @@ final class Native {
 
     /** Ends the text and writes its report. */
     static native void finishFeatures(long features, long[] report);
+
+    /** The memory of the run that begins at a place of a text, and that of a join; 0 where there is none. */
+    static native long newRun(int maxDepth, long place);
+
+    static native long newJoin(int maxDepth, long maxBytes);
+
+    static native void freePart(long part);
+
+    /** Feeds a run bytes of a direct buffer, and writes where it ends, how many features it has, and 1 where a broken one follows. */
+    static native int feedRun(long run, ByteBuffer bytes, int length, long[] sum);
+
+    /** After how many of the bytes of a direct buffer a run may begin; 0 where there is no such place. */
+    static native int likely(ByteBuffer bytes, int length);
+
+    static native int feedJoin(long join, ByteBuffer bytes, int length);
+
+    /** Passes over a run, where a feature has ended right before it. */
+    static native boolean passOver(long join, long run);
+
+    static native void finishJoin(long join, long[] report);
 
     static native String ruleText(int rule);
 

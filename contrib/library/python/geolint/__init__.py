@@ -12,7 +12,7 @@
 
     >>> verdict = await geolint.acheck(request.stream())
 
-`python -m geolint` checks files and folders as geolint-files does. `geolint.django` and `geolint.starlette` have validators for
+`python -m geolint` runs the program geolint-files, where it is installed. `geolint.django` and `geolint.starlette` have validators for
 these frameworks. `geolint.dask` checks files, and one large text sequence in parts, on a cluster.
 
 It needs Python 3.8 and nothing but the shared object `libgeolint.so`: the one that the variable GEOLINT_LIBRARY names, otherwise

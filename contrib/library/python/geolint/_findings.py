@@ -151,6 +151,14 @@ def _framing(framing: str) -> int:
     return _FRAMINGS[framing]
 
 
+def framing_of(name: bytes) -> Optional[str]:
+    """The framing of a file of this name, if its ending says one."""
+    name = name.lower()
+    if name.endswith((b".geojsons", b".geojsonseq")):
+        return "sequence"
+    return "newlines" if name.endswith((b".ndjson", b".ndgeojson", b".geojsonl", b".jsonl")) else None
+
+
 def features(source: Source, max_depth: Optional[int] = None, max_bytes: Optional[int] = None) -> Features:
     """What is found in each feature of a text, as soon as the feature has ended: an iterator of `Finding`.
 

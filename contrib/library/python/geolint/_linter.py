@@ -2,9 +2,12 @@
 
 from __future__ import annotations
 
+import os
+import stat
 from typing import TYPE_CHECKING, Any, AsyncIterable, AsyncIterator, Iterable, Iterator, NoReturn, Optional, TypeVar
 
 from ._native import ENDED, REFUSED, address, library, room
+from ._parts import check_in_parts
 from ._sources import async_pieces_of, pieces_of, runs, size_of
 from ._verdict import Ended, Verdict, limits_of, verdict_of
 
@@ -105,17 +108,35 @@ class Linter:
             self.finish()
 
 
-def check(source: Source, max_depth: Optional[int] = None, max_bytes: Optional[int] = None) -> Verdict:
+def check(
+    source: Source, max_depth: Optional[int] = None, max_bytes: Optional[int] = None, *, jobs: Optional[int] = None
+) -> Verdict:
     """The verdict of a text: of bytes and other buffers (bytearray, memoryview, mmap), of a `str`, which stands for its bytes in
     UTF-8, of the file that an os.PathLike names, of a file (one opened as "rb", an upload, a response), or of pieces of bytes.
 
     A file is read from where it stands, a mapped file is checked whole. A text that is refused is read no further. TypeError
     and ValueError say what a source or a limit should be; OSError comes from reading.
+
+    With `jobs` a file that an os.PathLike names is checked by so many threads at once, which pays where it is a FeatureCollection of
+    tens of megabytes. The verdict is the same. OSError says also that the file changed meanwhile.
     """
     limits = limits_of(max_depth, max_bytes)
+    if jobs is not None:
+        return _check_in_parts(source, jobs, max_depth, max_bytes)
     if isinstance(source, bytes):
         return verdict_of(library.geolint_check(address(source), len(source), *limits))
     return check_open(source, max_depth, max_bytes)[0]
+
+
+def _check_in_parts(source: Source, jobs: int, max_depth: Optional[int], max_bytes: Optional[int]) -> Verdict:
+    if not isinstance(source, os.PathLike):
+        raise TypeError(f"jobs is for a file that a path names, not for {type(source).__name__}")
+    if jobs < 1:
+        raise ValueError("jobs is 1 or more")
+    with open(source, "rb", buffering=0) as file:
+        if stat.S_ISREG(os.fstat(file.fileno()).st_mode):
+            return check_in_parts(file, jobs, max_depth, max_bytes)
+        return check_open(file, max_depth, max_bytes)[0]
 
 
 def check_open(source: Source, max_depth: Optional[int] = None, max_bytes: Optional[int] = None) -> tuple[Verdict, int]:

@@ -70,6 +70,22 @@ class Whole(ctypes.Structure):
     _fields_ = [("report", Report), ("number", ctypes.c_uint64)]
 
 
+class Sum(ctypes.Structure):
+    status: int
+    ended: int
+    begin: int
+    end: int
+    features: int
+    _fields_ = [
+        ("status", ctypes.c_uint32),
+        ("ended", ctypes.c_uint32),
+        ("begin", ctypes.c_uint64),
+        ("end", ctypes.c_uint64),
+        ("features", ctypes.c_uint64),
+        ("warnings", Warned * 9),
+    ]
+
+
 class Step(ctypes.Structure):
     size: int
     bytes: bytes
@@ -127,6 +143,16 @@ def load() -> Any:
         ("records_next", Finding, [address]),
         ("records_offset", u64, [address]),
         ("records_finish", Whole, [address]),
+        ("run_size", size, []),
+        ("run_begin", u32, [address, u32, u64]),
+        ("run_feed", u32, [address, address, size]),
+        ("run_sum", Sum, [address]),
+        ("run_likely", size, [address, size]),
+        ("join_size", size, []),
+        ("join_begin", u32, [address, u32, u64]),
+        ("join_feed", u32, [address, address, size]),
+        ("join_pass_over", u32, [address, ctypes.POINTER(Sum)]),
+        ("join_finish", Report, [address]),
         ("locator_size", size, []),
         ("locator_begin", u32, [address, u32, u64]),
         ("locator_feed", u32, [address, address, size]),

@@ -1,4 +1,4 @@
-"""geolint for Dask: checks many files, or one large text sequence or file of lines in parts, on the workers of a cluster.
+"""geolint for Dask: checks many files, or one large file in parts, on the workers of a cluster.
 
     client = distributed.Client("scheduler:8786")
     found = geolint.dask.check("/data/roads.geojsons", parts=512)           # one file of records, cut by bytes
@@ -33,7 +33,7 @@ def check(
 ) -> List[Dict[str, Any]]:
     """What is found in each file, as `geolint-files --format json` says it.
 
-    One path is a text sequence, or newline-delimited texts. It is checked in `parts` ranges of its bytes, four for each thread of the workers where the number is
+    One path is checked in `parts` ranges of its bytes, four for each thread of the workers where the number is
     not given, and what is found is what one reading of it finds. Many paths are checked each as a whole, by as many tasks. Names that
     are not absolute begin at the current folder of this process.
 

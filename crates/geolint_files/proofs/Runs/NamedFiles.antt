@@ -1,6 +1,7 @@
 -- Which files are told of names.
 use Rattle.geolint_files.proofs.Common.{arith, ◌≡◌, ◌-◌, ◌++◌, ◌∷◌, [], List, ℕ, length, refl, sym, subst, ap, ◌∙◌, Bool, map, Option, Some, None, Vec, Global, Reading}
-use Rattle.std.proofs.Common.{true, false, append_assoc, append-nil, reverse, inl, inr, ◌<◌, ◌≤◌, ◌^◌}
+use Rattle.std.proofs.Common.{true, false, append_assoc, append-nil, reverse, inl, inr, ◌+◌, ◌<◌, ◌≤◌, ◌^◌}
+use Rattle.std.specs.Io.Iter.{u64_saturate}
 use Rattle.std.specs.Prelude.{Ok, ⊤}
 use Rattle.std.proofs.lemmas.List.{map-append, reverse-append, reverse-reverse}
 use Rattle.gj_json.specs.Limits.{Allowed}
@@ -38,6 +39,11 @@ twice-named None most reading limits name had text failed now_failed (listed rep
 twice-named (Some asked) most reading limits name had text failed now_failed (judged report) is = is.1.0
 twice-named (Some asked) most reading limits name had text failed now_failed (not_read told reason) is = is.0
 twice-named (Some asked) most reading limits name had text failed now_failed (listed report lines tally) is = is.1
+
+pub unread-twice : (asked : Option Asked) (most : ℕ) (reading : Reading) (limits : Allowed) (name reason : List ℕ) (had text : Option (List ℕ)) (failed : ℕ)
+    → IsTwiceBy asked most reading limits name had text failed (u64_saturate (failed + 1)) (not_read name reason)
+unread-twice None most reading limits name reason had text failed = (refl, refl)
+unread-twice (Some asked) most reading limits name reason had text failed = (refl, refl)
 
 -- a file of this name, and what is told of the names after it
 pub file-first : (endings : List (Vec ℕ Global)) (file : ToldFile) (name : List ℕ) (is_given : Bool) (names : List (List ℕ × Bool)) (files : List ToldFile)

@@ -19,7 +19,7 @@ use geolint_report::source::{Rewind, Source};
 use geolint_report::texts::Code;
 use gj_json::Limits;
 use report_forms::every::entry::Entry;
-use report_forms::every::{github, json, lines, sarif, text};
+use report_forms::every::{github, gitlab, json, lines, sarif, text};
 use report_forms::options::{Every, Format, Options};
 use std::alloc::AllocError;
 use std::io::Write;
@@ -213,8 +213,9 @@ impl<'a, W: Write + Drop> Run<'a, W> {
         }
     }
 
-    /// Reports a text that is refused. The linter of the run is fed what comes before, since the hint depends on it.
-    fn tell_refused<S: Rewind>(
+    /// Reports what another linter has found. Where it is a text that is refused, the linter of the run is fed what comes before, since
+    /// the hint depends on it.
+    pub fn tell_refused<S: Rewind>(
         &mut self,
         name: &[u8],
         finding: Finding,
@@ -425,6 +426,13 @@ impl<'a, W: Write + Drop> Run<'a, W> {
             Format::Lines => lines::put_entry(entry, self.style, &mut self.line),
             Format::Json => json::put_entry(alloc, entry, &mut self.line),
             Format::Github => github::put_entry(alloc, entry, &self.options, &mut self.line),
+            Format::Gitlab => gitlab::put_entry(
+                alloc,
+                entry,
+                &self.options,
+                &mut self.log,
+                &mut self.line,
+            ),
             Format::Sarif => self
                 .log
                 .put_entry(alloc, entry, &self.options, &mut self.line),
@@ -465,6 +473,9 @@ impl<'a, W: Write + Drop> Run<'a, W> {
             Format::Lines => lines::put_more(name, count, self.style, &mut self.line),
             Format::Json => json::put_more(alloc, name, count, &mut self.line),
             Format::Github => github::put_more(alloc, name, count, &mut self.line),
+            Format::Gitlab => {
+                gitlab::put_more(alloc, name, count, &mut self.log, &mut self.line)
+            }
             Format::Sarif => self.log.put_more(name, count, &mut self.line),
         }
     }

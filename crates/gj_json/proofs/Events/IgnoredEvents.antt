@@ -1,6 +1,6 @@
 -- Events that do not matter, one after another.
 use Rattle.gj_json.proofs.Common.{Applied, Array, Close, Ending, Err, Event, Exact, FeedsAll, FeedsTo, FeedsWithin, Go, JsonFault, Leaves}
-use Rattle.gj_json.proofs.Common.{Level, List, Mode, Move, Null, NumberOn, NumberTurn, Object, Ok, Open, Option, Reader, Refuse, Result, Takes}
+use Rattle.gj_json.proofs.Common.{Level, List, Mode, Move, Null, NumberOn, NumberTurn, Object, OfPrefix, Ok, Open, Option, Reader, Refuse, Result, Takes}
 use Rattle.gj_json.proofs.Common.{above, ap, arith, emitted, ending_event, inl, inr, length, move_by, number_events, option_to_list, outer_of, refl}
 use Rattle.gj_json.proofs.Common.{subst, suc, sym, told_by, told_on, zero, ℕ, [], ◌++◌, ◌+◌, ◌-◌, ◌<◌, ◌∷◌, ◌≡◌, ◌≤◌}
 use Rattle.std.specs.Prelude.{MatchResult, take}
@@ -178,10 +178,10 @@ to_more floor first next last given fault f =
 
 pub ignored_by : (before after : List Event → Type 0) (m n : ℕ) (old new : Reader) (piece : List ℕ) (result : Result ℕ JsonFault)
     → ((events inner : List Event) → before events → Leaves m inner n → after (events ++ inner))
-    → MatchResult result (λ k. FeedsAll (λ events. events ≡ []) (λ events. Leaves m events n) old new (take k piece))
+    → MatchResult result (OfPrefix (FeedsAll (λ events. events ≡ []) (λ events. Leaves m events n) old new) piece)
     (FeedsTo (λ events. events ≡ []) (λ events. Leaves m events n) old new piece)
-    → MatchResult result (λ k. FeedsAll before after old new (take k piece)) (FeedsTo before after old new piece)
-ignored_by before after m n old new piece (Ok k) p f = all_as m n old new (take k piece) p f
+    → MatchResult result (OfPrefix (FeedsAll before after old new) piece) (FeedsTo before after old new piece)
+ignored_by before after m n old new piece (Ok k) p f = record { within = f.within; holds = all_as m n old new (take k piece) p f.holds }
 ignored_by before after m n old new piece (Err fault) p f = to_as m n old new piece fault p f
 
 -- the innermost level has closed

@@ -20,6 +20,7 @@ use Rattle.gj_json.proofs.Pieces.QuietModes.{quiet_white}
 use Rattle.gj_json.proofs.Pieces.SkippedRuns.{leads_skips}
 use Rattle.gj_json.proofs.Pieces.TakenFlats.{mid_of, to_mid, from_mid}
 use Rattle.gj_json.proofs.Pieces.TakenTokens.{closes_value, named_taken, text_taken}
+use Rattle.gj_json.proofs.Readers.CallsInTurn.{of_prefix}
 use Rattle.gj_json.proofs.Pieces.TokensInLevels.{from_none, first_byte, any_level, any_constant, any_goes, any_closes, any_then, any_skipped, number_token}
 use Rattle.gj_json.proofs.Pieces.TokensInLevels.{ended_token}
 
@@ -39,6 +40,7 @@ with_names old names sound within small nested = record {
   fault = old.fault;
   names = names;
   positions = old.positions;
+  alone = old.alone;
   sound = sound;
   within = within;
   small = small;
@@ -215,8 +217,8 @@ module _ (old new : Reader) (piece : List ℕ) (n : ℕ) (live : old.fault ≡ N
       let P : List ℕ → Type 0 = λ xs. Leads NameDue xs NameDue in
       let leads : Leads NameDue (take 1 rest) NameDue = subst P (sym one) (NameDue, quiet_white NameDue refl space refl, refl) in
       let q : Passed 1 NameDue before_space new = from_mid old new n 1 (n + 1) NameDue NameDue name_mode before_room refl p in
-      any_skipped old before_space new piece n 1 NameDue live room (omega arith) to_space (omega arith)
-      (leads_skips before_space new (take 1 rest) 1 NameDue (rw one refl) q leads refl refl) f
+      (any_skipped old before_space new piece n 1 NameDue (live, room) to_space
+      (of_prefix (omega arith) (leads_skips before_space new (take 1 rest) 1 NameDue (rw one refl) q leads refl refl)) (of_prefix (omega arith) f)).holds
 
 -- ---- a name, the value after it, and the byte after that
 

@@ -287,6 +287,7 @@ mid_of old n mode sound room = record {
   fault = old.fault;
   names = old.names;
   positions = old.positions;
+  alone = old.alone;
   sound = sound;
   within = room;
   small = old.small;

@@ -33,10 +33,10 @@ heard_less {before} {after} {less} old new given fed says = record {
   offset = fed.offset;
 }
 
--- ---- what is in its room for positions says nothing of a reader
+-- ---- what is in its room for positions, and how it looks for them, says nothing of a reader
 
-abbrev pub with_room : (r : Reader) → List CutPosition → IsMode r.mode → r.offset ≤ r.limits.bytes → r.limits.bytes ≤ 2 ^ 60 → length (levels_in r.levels) ≤ r.limits.depth → Reader
-with_room r ps sound within small nested = record {
+abbrev pub with_room : (r : Reader) → List CutPosition → ℕ → IsMode r.mode → r.offset ≤ r.limits.bytes → r.limits.bytes ≤ 2 ^ 60 → length (levels_in r.levels) ≤ r.limits.depth → Reader
+with_room r ps alone sound within small nested = record {
   limits = r.limits;
   offset = r.offset;
   start = r.start;
@@ -47,16 +47,17 @@ with_room r ps sound within small nested = record {
   fault = r.fault;
   names = r.names;
   positions = ps;
+  alone = alone;
   sound = sound;
   within = within;
   small = small;
   nested = nested;
 }
 
-module _ (old new : Reader) {ps : List CutPosition} where
+module _ (old new : Reader) {ps : List CutPosition} {alone : ℕ} where
   pub room_filled : {before after : List Event → Type 0} (given : List ℕ) {sound : IsMode new.mode} {within : new.offset ≤ new.limits.bytes} {small : new.limits.bytes ≤ 2 ^ 60}
       {nested : length (levels_in new.levels) ≤ new.limits.depth} → FeedsAll before after old new given
-      → FeedsAll before after old (with_room new ps sound within small nested) given
+      → FeedsAll before after old (with_room new ps alone sound within small nested) given
   room_filled given fed = record {
     feeds = record { limits = fed.feeds.limits; on = fed.feeds.on; stands = fed.feeds.stands; told = fed.feeds.told };
     live = fed.live;
@@ -64,7 +65,7 @@ module _ (old new : Reader) {ps : List CutPosition} where
   }
 
   pub room_passed : {count : ℕ} {mode : Mode} {sound : IsMode old.mode} {within : old.offset ≤ old.limits.bytes} {small : old.limits.bytes ≤ 2 ^ 60}
-      {nested : length (levels_in old.levels) ≤ old.limits.depth} → Passed count mode (with_room old ps sound within small nested) new → Passed count mode old new
+      {nested : length (levels_in old.levels) ≤ old.limits.depth} → Passed count mode (with_room old ps alone sound within small nested) new → Passed count mode old new
   room_passed p = record {
     limits = p.limits;
     fault = p.fault;

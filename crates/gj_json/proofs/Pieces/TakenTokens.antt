@@ -2,7 +2,7 @@
 -- the mode, the levels and the offset.
 use Rattle.gj_json.proofs.Common.{Allowed, Array, BegunAs, Bool, Class, Close, ColonDue, Completed, Constant, EdgeAt, Ending, Event, Exact, False}
 use Rattle.gj_json.proofs.Common.{FeedsAll, FitsBroken, FitsName, Go, HasValue, InTime, IsMode, IsNumber, IsQuoted, IsString, IsText, Lands, LeafAs}
-use Rattle.gj_json.proofs.Common.{Level, List, Mode, Move, NameDue, NameOn, None, Null, NumberOn, NumberTurn, Object, Open, Option, Passed, Plain}
+use Rattle.gj_json.proofs.Common.{Level, List, Mode, Move, NameDue, NameOn, None, Null, NumberOn, NumberTurn, Object, OfPrefix, Open, Option, Passed, Plain}
 use Rattle.gj_json.proofs.Common.{Reader, Refuse, Skips, Some, StandsAs, StandsWell, StringState, TextDue, Timed, Tree, True, Turns, ValueDone}
 use Rattle.gj_json.proofs.Common.{ValueDue, What, Words, after_move, ap, append_assoc, arith, awaits, begin_value, closing_of, constant, depth}
 use Rattle.gj_json.proofs.Common.{done_members, drop, emitted, ending_event, event_at, events_by, false, get_or, in_number, inl, inner_of, inr}
@@ -36,7 +36,7 @@ use Rattle.gj_json.proofs.Grammar.CharacterPrefixes.{StringTo}
 use Rattle.gj_json.proofs.Grammar.ClassOfBytes.{class_is, starts_number, number_classes}
 use Rattle.gj_json.proofs.Machine.BytesUnderWay.{mode_under, mode_state}
 use Rattle.gj_json.proofs.Machine.Completions.{Goes}
-use Rattle.gj_json.proofs.Readers.CallsInTurn.{live_offset, feeds_all_on, piece_all, rest_all, skip_feeds}
+use Rattle.gj_json.proofs.Readers.CallsInTurn.{live_offset, feeds_all_on, piece_all, prefix_as, rest_all, skip_feeds}
 use Rattle.gj_json.proofs.Pieces.TakenFlats.{mid_of, to_mid, from_mid, is_due, value_well, seen_between}
 use Rattle.gj_json.proofs.Machine.ValuePaths.{Leads, at, leads_none, leads_byte, leads_on, run_from-append}
 use Rattle.gj_json.proofs.Readers.NumberUnderWay.{own_turn, own_turns, own_value, own_has, own_words, own_has_words, keeps_none}
@@ -125,8 +125,19 @@ lands_feeds {before} {after} old new given mode levels es live p free moved hear
   offset = p.offset;
 }
 
+-- also where the levels have changed before
+pub pushed_lands : {count : ℕ} {mode : Mode} {levels : List Level} {mid new : Reader} (old : Reader) → Passed count mode mid new
+    → mid.limits ≡ old.limits → mid.fault ≡ old.fault → mid.offset ≡ old.offset → levels_in mid.levels ≡ levels → Lands count mode levels old new
+pushed_lands {count} old p l f o e = record {
+  limits = p.limits ∙ l;
+  fault = p.fault ∙ f;
+  offset = p.offset ∙ ap (λ n. n + count) o;
+  mode_is = p.mode_is;
+  levels_are = ap levels_in p.levels ∙ e;
+}
+
 pub passed_lands : (count : ℕ) (mode : Mode) (old new : Reader) → Passed count mode old new → Lands count mode (levels_in old.levels) old new
-passed_lands count mode old new p = record { limits = p.limits; fault = p.fault; offset = p.offset; mode_is = p.mode_is; levels_are = ap levels_in p.levels }
+passed_lands count mode old new p = pushed_lands old p refl refl refl refl
 
 -- ---- one byte
 
@@ -681,8 +692,9 @@ named_taken {before} {after} old new piece n k live due room w q few leads p hea
     piece_all old mid new piece n k fed (rest_all mid new piece n k rest)
 
 -- nothing, and then a token
-pub nothing_then : {before middle after : List Event → Type 0} (old mid new : Reader) (piece : List ℕ) (n m : ℕ) → n ≡ 0
-    → FeedsAll before middle old mid (take n piece) → FeedsAll middle after mid new (take m piece) → FeedsAll before after old new (take m piece)
-nothing_then {before} {middle} {after} old mid new piece n m e f g =
+pub nothing_then : {before middle after : List Event → Type 0} {old mid new : Reader} {piece : List ℕ} {n m : ℕ}
+    → OfPrefix (FeedsAll before middle old mid) piece n → OfPrefix (FeedsAll middle after mid new) piece m → n ≡ 0
+    → OfPrefix (FeedsAll before after old new) piece m
+nothing_then {before} {middle} {after} {old} {mid} {new} {piece} {n} {m} f g e =
     let P : ℕ → Type 0 = λ k. FeedsAll before middle old mid (take k piece) in
-    feeds_all_on old mid new [] (take m piece) (subst P e f) g
+    prefix_as g (λ given h. feeds_all_on old mid new [] given (subst P e f.holds) h)

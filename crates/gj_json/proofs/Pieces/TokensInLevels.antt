@@ -1,6 +1,6 @@
 -- Tokens within levels that are open: of the events that one completes, the last alone may close a level.
-use Rattle.gj_json.proofs.Common.{Array, Bool, Close, Constant, Ending, Event, Exact, FeedsAll, FeedsAny, FeedsWithin, Go, IsNumber, IsString}
-use Rattle.gj_json.proofs.Common.{Lands, Leaves, Level, List, Mode, NameDue, None, Null, Object, Option, Passed, Reader, Skips, Some, ValueDone}
+use Rattle.gj_json.proofs.Common.{Array, Bool, Close, Constant, Ending, Event, Exact, FeedsAll, FeedsAny, FeedsWithin, Go, IsNumber, IsOpenFor, IsString}
+use Rattle.gj_json.proofs.Common.{Lands, Leaves, Level, List, Mode, NameDue, None, Null, Object, OfPrefix, Option, Passed, Reader, Skips, Some, ValueDone}
 use Rattle.gj_json.proofs.Common.{What, above, after_move, ap, arith, awaits, closing_of, drop, event_at, false, get_or, get_or-drop, inner_of, is_white, length}
 use Rattle.gj_json.proofs.Common.{letters_of, opened, opening_of, outer_of, refl, subst, suc, sym, take-add, take_more, true, value_of, what_of, zero, ℕ, []}
 use Rattle.gj_json.proofs.Common.{◌++◌, ◌+◌, ◌-◌, ◌<◌, ◌∙◌, ◌∷◌, ◌≡◌, ◌≤◌}
@@ -15,10 +15,10 @@ use Rattle.gj_json.specs.Internal.OpenLevels.{levels_in}
 use Rattle.gj_json.specs.Internal.QuietBytes.{Reads}
 use Rattle.gj_json.specs.Internal.WholeTokens.{end_of}
 use Rattle.gj_json.proofs.Grammar.ClassOfBytes.{class_is}
-use Rattle.gj_json.proofs.Readers.CallsInTurn.{feeds_nothing, front_skipped, piece_all, rest_all}
+use Rattle.gj_json.proofs.Readers.CallsInTurn.{feeds_nothing, front_skipped, of_prefix, piece_all, prefix_as, rest_all, then_all}
 use Rattle.gj_json.proofs.Events.IgnoredEvents.{outer_length, all_by, all_more}
 use Rattle.gj_json.proofs.Machine.ValuePaths.{at}
-use Rattle.gj_json.proofs.Pieces.PieceRests.{rest_of}
+use Rattle.gj_json.proofs.Pieces.PieceRests.{more_within, rest_of}
 use Rattle.gj_json.proofs.Pieces.QuietModes.{class_white, reads_more}
 use Rattle.gj_json.proofs.Pieces.TakenTokens.{Closes, closes_empty, constant_taken, end_goes, end_closes, number_then, number_closed}
 
@@ -110,10 +110,9 @@ any_constant old new piece n which live due room w p e =
 pub none_any : (reader : Reader) (piece : List ℕ) → reader.fault ≡ None → FeedsAny reader reader (take 0 piece)
 none_any reader piece live = any_level reader reader [] [] (feeds_nothing {heard = λ events. events ≡ []} reader live) (λ k. refl) refl
 
-pub skips_any : (old new : Reader) (piece : List ℕ) (n : ℕ) → old.fault ≡ None → n ≤ length piece → old.offset + length piece ≤ old.limits.bytes
-    → Skips old new (take n piece) → FeedsAny old new (take n piece)
-skips_any old new piece n live w room s =
-    any_level old new (take n piece) [] (front_skipped {heard = λ events. events ≡ []} old new piece n live w room s) (λ k. refl) (ap levels_in s.levels)
+pub skips_any : {old new : Reader} {piece : List ℕ} {n : ℕ} → IsOpenFor old piece → OfPrefix (Skips old new) piece n → OfPrefix (FeedsAny old new) piece n
+skips_any {old} {new} takes s =
+    prefix_as (front_skipped {heard = λ events. events ≡ []} takes s) (λ given f. any_level old new given [] f (λ k. refl) (ap levels_in s.holds.levels))
 
 -- ---- the byte after a value
 
@@ -136,9 +135,9 @@ any_closes old new piece level some live room closes p =
 
 -- ---- one token after another
 
-pub both_within : (floor : ℕ) (first next last : Reader) (piece : List ℕ) (at n : ℕ) → FeedsWithin floor first next (take at piece)
-    → FeedsWithin floor next last (take n (take (length piece - at) (drop at piece))) → FeedsWithin floor first last (take (at + n) piece)
-both_within floor first next last piece at n f g = piece_all first next last piece at n f (rest_all next last piece at n (all_more floor first next last _ g))
+pub both_within : (floor : ℕ) (first next last : Reader) {piece : List ℕ} {at n : ℕ} → OfPrefix (FeedsWithin floor first next) piece at
+    → OfPrefix (FeedsWithin floor next last) (take (length piece - at) (drop at piece)) n → OfPrefix (FeedsWithin floor first last) piece (at + n)
+both_within floor first next last f g = then_all f (prefix_as g (λ given h. all_more floor first next last given h))
 
 pub any_then : (first next last : Reader) (piece : List ℕ) (at n : ℕ) → length (levels_in first.levels) ≤ length (levels_in next.levels)
     → FeedsAny first next (take at piece) → FeedsAny next last (take n (take (length piece - at) (drop at piece))) → FeedsAny first last (take (at + n) piece)
@@ -149,30 +148,31 @@ any_then first next last piece at n w f g =
       limits = g.limits ∙ f.limits;
       live = g.live;
       offset = omega (arith, f.offset, g.offset, ap length e, length-append (take at piece) rest);
-      within = λ floor v. both_within floor first next last piece at n (f.within floor v) (g.within floor (omega (arith, v, w)));
+      within = λ floor v. piece_all first next last piece at n (f.within floor v)
+          (rest_all next last piece at n (all_more floor first next last rest (g.within floor (omega (arith, v, w)))));
       one = omega (arith, w, g.one);
       named = λ m. omega (arith, w, g.named m);
     }
 
+pub then_any : {first next last : Reader} {piece : List ℕ} {at n : ℕ} → OfPrefix (FeedsAny first next) piece at
+    → OfPrefix (FeedsAny next last) (take (length piece - at) (drop at piece)) n → length (levels_in first.levels) ≤ length (levels_in next.levels)
+    → OfPrefix (FeedsAny first last) piece (at + n)
+then_any {first} {next} {last} {piece} {at} {n} f g w =
+    of_prefix (more_within piece at n f.within g.within) (any_then first next last piece at n w f.holds g.holds)
+
 -- so many bytes that were passed over, and after them what completes nothing
-module _ (old mid new : Reader) (piece : List ℕ) (at n : ℕ) (next : Mode) (live : old.fault ≡ None) (room : old.offset + length piece ≤ old.limits.bytes)
-    (some : at ≤ length piece) (p : Passed at next old mid) (w : n ≤ length (take (length piece - at) (drop at piece)))
-    (s : Skips mid new (take n (take (length piece - at) (drop at piece)))) where
-  mid_live : mid.fault ≡ None
-  mid_live = p.fault ∙ live
+module _ (old mid new : Reader) (piece : List ℕ) (at n : ℕ) (next : Mode) (takes : IsOpenFor old piece) (p : Passed at next old mid)
+    (s : OfPrefix (Skips mid new) (take (length piece - at) (drop at piece)) n) where
+  rest_takes : at ≤ length piece → IsOpenFor mid (take (length piece - at) (drop at piece))
+  rest_takes some =
+      (p.fault ∙ takes.0, omega (arith, some, takes.1, p.offset, ap (λ l. l.bytes) p.limits, ap length (rest_of piece at), length-drop at piece))
 
-  rest_room : mid.offset + length (take (length piece - at) (drop at piece)) ≤ mid.limits.bytes
-  rest_room = omega (arith, room, p.offset, ap (λ l. l.bytes) p.limits, ap length (rest_of piece at), length-drop at piece)
+  pub then_skipped : {before after : List Event → Type 0} → OfPrefix (FeedsAll before after old mid) piece at
+      → OfPrefix (FeedsAll before after old new) piece (at + n)
+  then_skipped f = then_all f (front_skipped (rest_takes f.within) s)
 
-  pub then_skipped : {before after : List Event → Type 0} → FeedsAll before after old mid (take at piece) → FeedsAll before after old new (take (at + n) piece)
-  then_skipped {before} {after} f =
-      piece_all old mid new piece at n f
-      (rest_all mid new piece at n (front_skipped {heard = after} mid new (take (length piece - at) (drop at piece)) n mid_live w rest_room s))
-
-  pub any_skipped : FeedsAny old mid (take at piece) → FeedsAny old new (take (at + n) piece)
-  any_skipped f =
-      any_then old mid new piece at n (omega (arith, ap (λ ls. length (levels_in ls)) p.levels)) f
-      (skips_any mid new (take (length piece - at) (drop at piece)) n mid_live w rest_room s)
+  pub any_skipped : OfPrefix (FeedsAny old mid) piece at → OfPrefix (FeedsAny old new) piece (at + n)
+  any_skipped f = then_any f (skips_any (rest_takes f.within) s) (omega (arith, ap (λ ls. length (levels_in ls)) p.levels))
 
 pub token_of : (hears : Bool) {before after : List Event → Type 0} (old new : Reader) (given : List ℕ)
     → (hears ≡ true → FeedsAll before after old new given) → (hears ≡ false → FeedsAny old new given) → FeedsToken hears before after old new given
@@ -183,12 +183,17 @@ pub token_none : (hears : Bool) (heard : List Event → Type 0) (reader : Reader
 token_none hears heard reader live =
     token_of hears {before = heard} {after = heard} reader reader [] (λ h. feeds_nothing {heard = heard} reader live) (λ h. none_any reader [] live)
 
-pub token_then : (hears : Bool) (before middle after : List Event → Type 0) (first next last : Reader) (piece : List ℕ) (at n : ℕ)
-    → length (levels_in first.levels) ≤ length (levels_in next.levels) → FeedsToken hears before middle first next (take at piece)
-    → FeedsToken hears middle after next last (take n (take (length piece - at) (drop at piece)))
-    → FeedsToken hears before after first last (take (at + n) piece)
-token_then true before middle after first next last piece at n w f g = piece_all first next last piece at n f (rest_all next last piece at n g)
-token_then false before middle after first next last piece at n w f g = any_then first next last piece at n w f g
+pub token_both : (hears : Bool) (before after : List Event → Type 0) (old new : Reader) {piece : List ℕ} {n : ℕ}
+    → OfPrefix (FeedsAll before after old new) piece n → OfPrefix (FeedsAny old new) piece n → OfPrefix (FeedsToken hears before after old new) piece n
+token_both true before after old new f g = f
+token_both false before after old new f g = g
+
+pub token_then : (hears : Bool) (before middle after : List Event → Type 0) (first next last : Reader) {piece : List ℕ} {at n : ℕ}
+    → OfPrefix (FeedsToken hears before middle first next) piece at
+    → OfPrefix (FeedsToken hears middle after next last) (take (length piece - at) (drop at piece)) n
+    → length (levels_in first.levels) ≤ length (levels_in next.levels) → OfPrefix (FeedsToken hears before after first last) piece (at + n)
+token_then true before middle after first next last f g w = then_all f g
+token_then false before middle after first next last f g w = then_any f g w
 
 -- an opening bracket, the closing one, and the byte after it
 module _ (hears : Bool) (before middle after : List Event → Type 0) (old mid new : Reader) (piece : List ℕ) (level : Level) (at n : ℕ) (one : at ≡ 1)
@@ -211,22 +216,22 @@ module _ (hears : Bool) (before middle after : List Event → Type 0) (old mid n
   left : mid.offset + length rest ≤ mid.limits.bytes
   left = omega (arith, room, some, one, long, opens.offset, ap (λ l. l.bytes) opens.limits)
 
-  empty_token : FeedsToken hears before middle old mid (take at piece) → FeedsToken hears before after old new (take (at + n) piece)
+  empty_token : OfPrefix (FeedsToken hears before middle old mid) piece at → OfPrefix (FeedsToken hears before after old new) piece (at + n)
   empty_token f =
       let l : length (levels_in mid.levels) ≡ length (levels_in old.levels) + 1 = ap length opens.levels_are ∙ omega arith in
       let w : 0 < length rest = omega (arith, some, one, long) in
       rw same
-      (token_then hears before middle after old mid new piece at 1 (omega (arith, l)) f
-      (token_of hears {before = middle} {after = after} mid new (take 1 rest)
+      (token_then hears before middle after old mid new f
+      (of_prefix {Holds = FeedsToken hears middle after mid new} w (token_of hears {before = middle} {after = after} mid new (take 1 rest)
       (λ h. end_closes {before = middle} {after = after} mid new rest level w (opens.fault ∙ live) left closing closes heard)
-      (λ h. any_closes mid new rest level w (opens.fault ∙ live) left closing closes)))
+      (λ h. any_closes mid new rest level w (opens.fault ∙ live) left closing closes))) (omega (arith, l)))
 
-  pub container_token : (finally : List Event → Type 0) (last : Reader) (m : ℕ) → FeedsToken hears before middle old mid (take at piece)
-      → FeedsToken hears after finally new last (take m (take (length piece - (at + n)) (drop (at + n) piece)))
-      → FeedsToken hears before finally old last (take (at + n + m) piece)
+  pub container_token : (finally : List Event → Type 0) (last : Reader) (m : ℕ) → OfPrefix (FeedsToken hears before middle old mid) piece at
+      → OfPrefix (FeedsToken hears after finally new last) (take (length piece - (at + n)) (drop (at + n) piece)) m
+      → OfPrefix (FeedsToken hears before finally old last) piece (at + n + m)
   container_token finally last m f g =
-      token_then hears before after finally old new last piece (at + n) m
-      (omega (arith, ap length (closes.levels_are ∙ ap outer_of opens.levels_are))) (empty_token f) g
+      token_then hears before after finally old new last (empty_token f) g
+      (omega (arith, ap length (closes.levels_are ∙ ap outer_of opens.levels_are)))
 
 -- ---- a number, and the byte after it
 

@@ -1,6 +1,6 @@
 -- What a call that takes bytes leaves, one call after another.
-use Rattle.gj_json.proofs.Common.{Allowed, Applied, Cause, Close, Completed, Depth, Err, Event, FeedsAll, FeedsTo, Go, IsRefusal, IsText, JsonFault}
-use Rattle.gj_json.proofs.Common.{Length, Level, List, Mode, Move, None, Ok, Open, Option, PassesTo, Reader, Refuse, RefusesWith, Result, Skips, Some}
+use Rattle.gj_json.proofs.Common.{Allowed, Applied, Cause, Close, Completed, Depth, Err, Event, FeedsAll, FeedsTo, Go, IsOpenFor, IsRefusal, IsText, JsonFault}
+use Rattle.gj_json.proofs.Common.{Length, Level, List, Mode, Move, None, OfPrefix, Ok, Open, Option, PassesTo, Reader, Refuse, RefusesWith, Result, Skips, Some}
 use Rattle.gj_json.proofs.Common.{StandsFor, StandsOpen, StandsRefused, Syntax, Takes, ValueDone, ap, append_assoc, arith, drop, eqb_tells, events_by}
 use Rattle.gj_json.proofs.Common.{get_or, inl, inr, length, length-take-le, move_by, opened, outer_of, refl, subst, sym, take-add, take-append-drop}
 use Rattle.gj_json.proofs.Common.{take_more, told_by, told_on, under_of, ℕ, [], ◌++◌, ◌+◌, ◌-◌, ◌<◌, ◌∙◌, ◌∷◌, ◌≡◌, ◌≤◌}
@@ -18,7 +18,7 @@ use Rattle.gj_json.specs.Internal.ReaderStep.{IsRefusedWith}
 use Rattle.gj_json.proofs.Readers.ReadBytes.{pushed, completed, stop, well_viable, well_of, open_of, refuses_on, lasts}
 use Rattle.gj_json.proofs.Events.EventsOfSteps.{emitted_few}
 use Rattle.gj_json.proofs.Pieces.QuietRuns.{quiet_run, digits_run, text_run}
-use Rattle.gj_json.proofs.Pieces.PieceRests.{take_all_of, rest_of, left_at}
+use Rattle.gj_json.proofs.Pieces.PieceRests.{take_all_of, rest_of, left_at, more_within}
 
 -- ---- what a reader that stands for bytes says of them
 
@@ -333,34 +333,41 @@ feeds_to_on first next last xs ys more fault f g =
 
 -- ---- quiet bytes and then a byte, from the start of a piece
 
-pub front_skipped : {heard : List Event → Type 0} (old mid : Reader) (piece : List ℕ) (n : ℕ) → old.fault ≡ None → n ≤ length piece
-    → old.offset + length piece ≤ old.limits.bytes → Skips old mid (take n piece) → FeedsAll heard heard old mid (take n piece)
-front_skipped old mid piece n live w room s = skip_feeds old mid (take n piece) live (omega (arith, length-take-le n piece w)) s
+pub of_prefix : {Holds : List ℕ → Type 0} {piece : List ℕ} {count : ℕ} → count ≤ length piece → Holds (take count piece) → OfPrefix Holds piece count
+of_prefix within holds = record { within = within; holds = holds }
+
+pub prefix_as : {P Q : List ℕ → Type 0} {piece : List ℕ} {count : ℕ} → OfPrefix P piece count → ((given : List ℕ) → P given → Q given)
+    → OfPrefix Q piece count
+prefix_as f h = record { within = f.within; holds = h _ f.holds }
+
+pub front_skipped : {heard : List Event → Type 0} {old mid : Reader} {piece : List ℕ} {n : ℕ} → IsOpenFor old piece → OfPrefix (Skips old mid) piece n
+    → OfPrefix (FeedsAll heard heard old mid) piece n
+front_skipped {heard} {old} {mid} {piece} {n} takes s =
+    of_prefix s.within (skip_feeds old mid (take n piece) takes.0 (omega (arith, takes.1, length-take-le n piece s.within)) s.holds)
 
 byte_taken : (piece : List ℕ) (n : ℕ) → n < length piece → take n piece ++ get_or piece n 0 ∷ [] ≡ take (n + 1) piece
 byte_taken piece n w = sym (take_more piece n 0 w)
 
 -- a prefix of a piece that was taken, and the byte after it
-module _ {before middle after : List Event → Type 0} (old mid new : Reader) (piece : List ℕ) (n : ℕ) (result : Result Move JsonFault) (w : n < length piece)
-    (room : old.offset + length piece ≤ old.limits.bytes) (f : FeedsAll before middle old mid (take n piece))
-    (t : Takes middle after mid new (get_or piece n 0) result) where
+module _ {before middle after : List Event → Type 0} {old mid new : Reader} {piece : List ℕ} {n : ℕ} {result : Result Move JsonFault} (w : n < length piece)
+    (takes : IsOpenFor old piece) (f : OfPrefix (FeedsAll before middle old mid) piece n) (t : Takes middle after mid new (get_or piece n 0) result) where
   mid_room : mid.offset < mid.limits.bytes
   mid_room = let e : mid.limits.bytes ≡ old.limits.bytes =
-      ap (λ (a : Allowed). a.bytes) f.feeds.limits in omega (arith, f.offset, length-take-le n piece (omega arith))
+      ap (λ (a : Allowed). a.bytes) f.holds.feeds.limits in omega (arith, takes.1, f.holds.offset, length-take-le n piece f.within)
 
-  pub some_all : (x : Move) → result ≡ Ok x → FeedsAll before after old new (take (n + 1) piece)
+  pub some_all : (x : Move) → result ≡ Ok x → OfPrefix (FeedsAll before after old new) piece (n + 1)
   some_all x e =
-      let g : FeedsAll middle after mid new (get_or piece n 0 ∷ []) = byte_all mid new (get_or piece n 0) result x f.live mid_room mid.nested t e in
+      let g : FeedsAll middle after mid new (get_or piece n 0 ∷ []) = byte_all mid new (get_or piece n 0) result x f.holds.live mid_room mid.nested t e in
       let P : List ℕ → Type 0 = λ xs. FeedsAll before after old new xs in
-      subst P (byte_taken piece n w) (feeds_all_on old mid new (take n piece) (get_or piece n 0 ∷ []) f g)
+      of_prefix (omega arith) (subst P (byte_taken piece n w) (feeds_all_on old mid new (take n piece) (get_or piece n 0 ∷ []) f.holds g))
 
   pub some_to : (fault : JsonFault) → result ≡ Err fault → FeedsTo before after old new piece fault
   some_to fault e =
-      let g : FeedsTo middle after mid new (get_or piece n 0 ∷ []) fault = byte_to mid new (get_or piece n 0) result fault f.live mid_room mid.nested t e in
+      let g : FeedsTo middle after mid new (get_or piece n 0 ∷ []) fault = byte_to mid new (get_or piece n 0) result fault f.holds.live mid_room mid.nested t e in
       let P : List ℕ → Type 0 = λ xs. FeedsTo before after old new xs fault in
       let k : (take n piece ++ get_or piece n 0 ∷ []) ++ drop (n + 1) piece ≡ piece =
       ap (λ xs. xs ++ drop (n + 1) piece) (byte_taken piece n w) ∙ take-append-drop (n + 1) piece in
-      subst P k (feeds_to_on old mid new (take n piece) (get_or piece n 0 ∷ []) (drop (n + 1) piece) fault f g)
+      subst P k (feeds_to_on old mid new (take n piece) (get_or piece n 0 ∷ []) (drop (n + 1) piece) fault f.holds g)
 
 -- ---- one prefix of a piece after another
 
@@ -370,12 +377,6 @@ pub piece_all : {before middle after : List Event → Type 0} (first next last :
 piece_all {before} {middle} {after} first next last piece at n f g =
     let P : List ℕ → Type 0 = λ xs. FeedsAll before after first last xs in
     subst P (sym (take-add at n piece)) (feeds_all_on first next last (take at piece) (take n (drop at piece)) f g)
-
-pub piece_to : {before middle after : List Event → Type 0} (first next last : Reader) (piece : List ℕ) (at : ℕ) (fault : JsonFault)
-    → FeedsAll before middle first next (take at piece) → FeedsTo middle after next last (drop at piece) fault → FeedsTo before after first last piece fault
-piece_to {before} {middle} {after} first next last piece at fault f g =
-    let P : List ℕ → Type 0 = λ xs. FeedsTo before after first last xs fault in
-    subst P (append-nil (take at piece ++ drop at piece) ∙ take-append-drop at piece) (feeds_to_on first next last (take at piece) (drop at piece) [] fault f g)
 
 -- the same, of a rest of the piece
 pub piece_left : {before middle after : List Event → Type 0} (first next last : Reader) (piece rest : List ℕ) (n : ℕ) → length rest ≤ length piece
@@ -391,16 +392,30 @@ pub rest_all : {before after : List Event → Type 0} (old new : Reader) (piece 
     → FeedsAll before after old new (take n (take (length piece - at) (drop at piece))) → FeedsAll before after old new (take n (drop at piece))
 rest_all {before} {after} old new piece at n f = let P : List ℕ → Type 0 = λ xs. FeedsAll before after old new (take n xs) in subst P (rest_of piece at) f
 
-pub rest_to : {before after : List Event → Type 0} (old new : Reader) (piece : List ℕ) (at : ℕ) (fault : JsonFault)
-    → FeedsTo before after old new (take (length piece - at) (drop at piece)) fault → FeedsTo before after old new (drop at piece) fault
-rest_to {before} {after} old new piece at fault f = let P : List ℕ → Type 0 = λ xs. FeedsTo before after old new xs fault in subst P (rest_of piece at) f
+pub then_all : {before middle after : List Event → Type 0} {first next last : Reader} {piece : List ℕ} {at n : ℕ}
+    → OfPrefix (FeedsAll before middle first next) piece at
+    → OfPrefix (FeedsAll middle after next last) (take (length piece - at) (drop at piece)) n → OfPrefix (FeedsAll before after first last) piece (at + n)
+then_all {before} {middle} {after} {first} {next} {last} {piece} {at} {n} f g =
+    of_prefix (more_within piece at n f.within g.within) (piece_all first next last piece at n f.holds (rest_all next last piece at n g.holds))
 
--- quiet bytes, and what was taken of the rest
-pub skipped_and : {before after : List Event → Type 0} (old mid new : Reader) (piece : List ℕ) (quiet n : ℕ) → old.fault ≡ None → quiet ≤ length piece
-    → old.offset + length piece ≤ old.limits.bytes → Skips old mid (take quiet piece)
-    → FeedsAll before after mid new (take n (take (length piece - quiet) (drop quiet piece))) → FeedsAll before after old new (take (quiet + n) piece)
-skipped_and old mid new piece quiet n live w room s f =
-    piece_all old mid new piece quiet n (front_skipped old mid piece quiet live w room s) (rest_all mid new piece quiet n f)
+-- and where that was no byte
+pub then_none : {before middle after : List Event → Type 0} {first next last : Reader} {piece : List ℕ} {at n : ℕ}
+    → OfPrefix (FeedsAll before middle first next) piece at
+    → OfPrefix (FeedsAll middle after next last) (take (length piece - at) (drop at piece)) n → n ≡ 0
+    → OfPrefix (FeedsAll before after first last) piece at
+then_none {before} {middle} {after} {first} {next} {last} {piece} {at} {n} f g none =
+    let P : ℕ → Type 0 = λ k. OfPrefix (FeedsAll before after first last) piece k in
+    let e : at + n ≡ at = omega (arith, none) in
+    subst P e (then_all f g)
+
+pub then_to : {before middle after : List Event → Type 0} {first next last : Reader} {piece : List ℕ} {at : ℕ} {fault : JsonFault}
+    → OfPrefix (FeedsAll before middle first next) piece at
+    → FeedsTo middle after next last (take (length piece - at) (drop at piece)) fault → FeedsTo before after first last piece fault
+then_to {before} {middle} {after} {first} {next} {last} {piece} {at} {fault} f g =
+    let rest : List ℕ = take (length piece - at) (drop at piece) in
+    let P : List ℕ → Type 0 = λ xs. FeedsTo before after first last xs fault in
+    let e : take at piece ++ rest ≡ piece = ap (λ xs. take at piece ++ xs) (rest_of piece at) ∙ take-append-drop at piece in
+    subst P (append-nil (take at piece ++ rest) ∙ e) (feeds_to_on first next last (take at piece) rest [] fault f.holds g)
 
 -- ---- a piece that is longer than allowed
 

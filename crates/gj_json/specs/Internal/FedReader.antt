@@ -1,5 +1,5 @@
 -- What a call that takes bytes leaves of a reader and of a sink.
-use Rattle.std.specs.Prelude.{◌≡◌, ℕ, ◌+◌, ◌-◌, ◌≤◌, ◌<◌, ◌⊎◌, Bool, true, false, List, [], ◌∷◌, ◌++◌, length, take, Some, None}
+use Rattle.std.specs.Prelude.{◌≡◌, ℕ, ◌+◌, ◌-◌, ◌≤◌, ◌<◌, ◌⊎◌, Bool, true, false, List, [], ◌∷◌, ◌++◌, get_or, length, take, Some, None}
 use Rattle.gj_number.specs.Grammar.{BeginsNumber}
 use Rattle.gj_number.specs.Literal.{StandsFor as LiteralStandsFor}
 use Rattle.gj_json.specs.declared.mode.Mode.TheVariants.{NumberOn, StringOn, NameOn, NameDue}
@@ -22,6 +22,24 @@ GoesOn mode first next last = ((mode ≡ StringOn first) × (next ≡ StringOn l
 -- It has refused no byte, and the limit on the bytes allows these.
 abbrev pub IsOpenFor : Reader → List ℕ → Type 0
 IsOpenFor reader piece = (reader.fault ≡ None) × (reader.offset + length piece ≤ reader.limits.bytes)
+
+-- They are some, and what is tested of the mode holds.
+pub record IsReady (test : Mode → Bool) (reader : Reader) (piece : List ℕ) : Type 0 where
+  pub some : 0 < length piece
+  pub takes : IsOpenFor reader piece
+  pub due : test reader.mode ≡ true
+
+-- and this is the first
+pub record IsReadyFor (test : Mode → Bool) (byte : ℕ) (reader : Reader) (piece : List ℕ) : Type 0 where
+  pub some : 0 < length piece
+  pub begins : get_or piece 0 0 ≡ byte
+  pub takes : IsOpenFor reader piece
+  pub due : test reader.mode ≡ true
+
+-- A piece has so many bytes at its start, and this holds of them.
+pub record OfPrefix (Holds : List ℕ → Type 0) (piece : List ℕ) (count : ℕ) : Type 0 where
+  pub within : count ≤ length piece
+  pub holds : Holds (take count piece)
 
 -- Bytes that complete nothing: they lead to another mode with no number and no string under way, or they go on in a number
 -- or in a string.
@@ -86,7 +104,7 @@ abbrev pub above : ℕ → Reader → ℕ
 above floor reader = length (levels_in reader.levels) - floor
 
 abbrev pub FeedsWithin : ℕ → Reader → Reader → List ℕ → Type 0
-FeedsWithin floor old new given = FeedsAll (λ events. events ≡ []) (λ events. Leaves (above floor old) events (above floor new)) old new given
+FeedsWithin floor old new = FeedsAll (λ events. events ≡ []) (λ events. Leaves (above floor old) events (above floor new)) old new
 
 abbrev pub FeedsWithinTo : ℕ → Reader → Reader → List ℕ → JsonFault → Type 0
 FeedsWithinTo floor old new given fault = FeedsTo (λ events. events ≡ []) (λ events. Leaves (above floor old) events (above floor new)) old new given fault
@@ -103,5 +121,5 @@ pub record FeedsAny (old new : Reader) (given : List ℕ) : Type 0 where
 
 -- The reader was given these bytes, and a sink that hears tokens has heard of them what was taken.
 abbrev pub FeedsToken : Bool → (List Event → Type 0) → (List Event → Type 0) → Reader → Reader → List ℕ → Type 0
-FeedsToken true heard_before heard_after old new given = FeedsAll heard_before heard_after old new given
-FeedsToken false heard_before heard_after old new given = FeedsAny old new given
+FeedsToken true heard_before heard_after old new = FeedsAll heard_before heard_after old new
+FeedsToken false heard_before heard_after old new = FeedsAny old new

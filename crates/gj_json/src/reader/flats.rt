@@ -1,6 +1,6 @@
 //! Arrays of numbers, taken at once.
 
-ghost use Rattle.std.specs.Prelude.{◌≡◌, ◌+◌, ◌-◌, ◌^◌, ◌≤◌, ◌<◌, true, length, take, drop, get_or, None, Some, IsTrue};
+ghost use Rattle.std.specs.Prelude.{◌≡◌, ◌+◌, ◌-◌, ◌^◌, ◌≤◌, ◌<◌, true, length, drop, get_or, None, Some, IsTrue};
 ghost use Rattle.gj_json.specs.Bytes.{open_bracket};
 ghost use Rattle.gj_json.specs.Internal.FlatParts.{awaits, IsDueAt};
 ghost use Rattle.gj_json.specs.Internal.OpenLevels.{levels_in, inner_of};
@@ -36,12 +36,11 @@ pub(super) fn begins_array(piece: &[u8]) -> bool
 }
 
 impl Reader {
-    ghost use Rattle.gj_json.specs.Internal.FedReader.{IsOpenFor};
-    ghost use Rattle.gj_json.specs.Internal.FedReader.{FeedsAll};
+    ghost use Rattle.gj_json.specs.Internal.FedReader.{IsOpenFor, FeedsAll, OfPrefix};
 
     /// Whether the innermost level is an array.
     #[inline(always)]
-    fn is_in_array(&self) -> bool
+    pub(super) fn is_in_array(&self) -> bool
         ensures { IsTrue result → inner_of (levels_in self.now.levels) ≡ Some Array }
     {
         match self.levels.inner() {
@@ -64,8 +63,7 @@ impl Reader {
     #[inline(never)]
     pub(super) fn take_flats<S: EventSink>(&mut self, piece: &[u8], sink: &mut S) -> usize
         requires takes { IsOpenFor self.old piece.now }
-        ensures within { result ≤ length piece.now }
-        ensures feeds { FeedsAll (S.heard sink.old) (S.heard sink.new) self.old self.new (take result piece.now) }
+        ensures { OfPrefix (FeedsAll (S.heard sink.old) (S.heard sink.new) self.old self.new) piece.now result }
     {
         if !begins_array(piece) || !self.may_open() {
             return 0;
@@ -83,8 +81,7 @@ impl Reader {
         requires next { IsDueAt self.old.mode piece.now }
         requires takes { IsOpenFor self.old piece.now }
         requires deep { length (levels_in self.old.levels) < self.old.limits.depth }
-        ensures within { result ≤ length piece.now }
-        ensures feeds { FeedsAll (S.heard sink.old) (S.heard sink.new) self.old self.new (take result piece.now) }
+        ensures { OfPrefix (FeedsAll (S.heard sink.old) (S.heard sink.new) self.old self.new) piece.now result }
     {
         let mut flat = Flat::blank();
         let Some(count) = read_lone_flat(piece, self.offset, &mut flat) else {
@@ -111,10 +108,9 @@ impl Reader {
         requires takes { IsOpenFor self.old piece.now }
         requires deep { length (levels_in self.old.levels) < self.old.limits.depth }
         requires inner { inner_of (levels_in self.old.levels) ≡ Some Array }
-        ensures within { result ≤ length piece.now }
         ensures next { IsDueAt self.new.mode (drop result piece.now) }
         ensures levels { self.new.levels ≡ self.old.levels }
-        ensures feeds { FeedsAll (S.heard sink.old) (S.heard sink.new) self.old self.new (take result piece.now) }
+        ensures taken { OfPrefix (FeedsAll (S.heard sink.old) (S.heard sink.new) self.old self.new) piece.now result }
     {
         if *left > 0 {
             *left -= 1;
@@ -125,6 +121,7 @@ impl Reader {
         };
         let many = self.take_positions(piece, &separators, sink);
         *left = arrays_before_next(many);
+        self.alone = (*left).min(1);
         many
     }
 
@@ -135,13 +132,12 @@ impl Reader {
         requires takes { IsOpenFor self.old piece.now }
         requires deep { length (levels_in self.old.levels) < self.old.limits.depth }
         requires inner { inner_of (levels_in self.old.levels) ≡ Some Array }
-        ensures within { result ≤ length piece.now }
-        ensures feeds { FeedsAll (S.heard sink.old) (S.heard sink.new) self.old self.new (take result piece.now) }
+        ensures { OfPrefix (FeedsAll (S.heard sink.old) (S.heard sink.new) self.old self.new) piece.now result }
     {
         let mut flat = Flat::blank();
         let mut rest = piece;
         let mut begins = true;
-        let mut left = 0;
+        let mut left = self.alone;
         while begins {
             let Some(count) = read_flat(rest, self.offset, &mut flat) else {
                 return piece.len() - rest.len();

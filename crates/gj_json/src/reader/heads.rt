@@ -1,6 +1,6 @@
 //! The beginnings of features and geometries, taken at once.
 
-ghost use Rattle.std.specs.Prelude.{◌≡◌, ◌+◌, ◌^◌, ◌≤◌, ◌<◌, true, length, take, get_or, None};
+ghost use Rattle.std.specs.Prelude.{◌≡◌, ◌+◌, ◌^◌, ◌≤◌, ◌<◌, true, length, None};
 ghost use Rattle.gj_json.specs.Bytes.{open_bracket, open_brace};
 ghost use Rattle.gj_json.specs.Internal.FlatParts.{awaits};
 ghost use Rattle.gj_json.specs.Internal.OpenLevels.{levels_in};
@@ -83,19 +83,14 @@ fn point_end(piece: &[u8], at: usize, start: u64, flat: &mut Flat) -> usize
 }
 
 impl Reader {
-    ghost use Rattle.gj_json.specs.Internal.FedReader.{IsOpenFor};
-    ghost use Rattle.gj_json.specs.Internal.FedReader.{FeedsAll};
+    ghost use Rattle.gj_json.specs.Internal.FedReader.{IsOpenFor, FeedsAll, OfPrefix, IsReady, IsReadyFor};
 
     /// Takes the bracket that opens an object, and its type where it begins by a usual one: how many bytes, or 0 where it opens one
     /// level too many.
     #[inline(never)]
     fn take_typed<S: EventSink>(&mut self, piece: &[u8], sink: &mut S) -> usize
-        requires some { 0 < length piece.now }
-        requires begins { get_or piece.now 0 0 ≡ open_brace }
-        requires takes { IsOpenFor self.old piece.now }
-        requires due { awaits self.old.mode ≡ true }
-        ensures within { result ≤ length piece.now }
-        ensures feeds { FeedsAll (S.heard sink.old) (S.heard sink.new) self.old self.new (take result piece.now) }
+        requires { IsReadyFor awaits open_brace self.old piece.now }
+        ensures { OfPrefix (FeedsAll (S.heard sink.old) (S.heard sink.new) self.old self.new) piece.now result }
     {
         let typed = usual_typed(piece);
         if typed.count == 0 || self.levels.len() >= self.limits.depth() {
@@ -114,12 +109,8 @@ impl Reader {
     /// Takes the beginning of an object. A look at two bytes mostly shows whether it may begin by its type.
     #[inline(always)]
     pub(super) fn take_object<S: EventSink>(&mut self, piece: &[u8], sink: &mut S) -> usize
-        requires some { 0 < length piece.now }
-        requires begins { get_or piece.now 0 0 ≡ open_brace }
-        requires takes { IsOpenFor self.old piece.now }
-        requires due { awaits self.old.mode ≡ true }
-        ensures within { result ≤ length piece.now }
-        ensures feeds { FeedsAll (S.heard sink.old) (S.heard sink.new) self.old self.new (take result piece.now) }
+        requires { IsReadyFor awaits open_brace self.old piece.now }
+        ensures { OfPrefix (FeedsAll (S.heard sink.old) (S.heard sink.new) self.old self.new) piece.now result }
     {
         if may_be_typed(piece) {
             return self.take_typed(piece, sink);
@@ -134,8 +125,7 @@ impl Reader {
         requires some { 0 < length piece.now }
         requires takes { IsOpenFor self.old piece.now }
         requires done { self.old.mode ≡ ValueDone }
-        ensures within { result ≤ length piece.now }
-        ensures feeds { FeedsAll (S.heard sink.old) (S.heard sink.new) self.old self.new (take result piece.now) }
+        ensures { OfPrefix (FeedsAll (S.heard sink.old) (S.heard sink.new) self.old self.new) piece.now result }
     {
         if piece[0] != b'}' || !self.levels.is_in_feature() {
             return self.take_end(piece, sink);
@@ -150,8 +140,7 @@ impl Reader {
         requires some { 0 < length piece.now }
         requires takes { IsOpenFor self.old piece.now }
         requires done { self.old.mode ≡ ValueDone }
-        ensures within { result ≤ length piece.now }
-        ensures feeds { FeedsAll (S.heard sink.old) (S.heard sink.new) self.old self.new (take result piece.now) }
+        ensures { OfPrefix (FeedsAll (S.heard sink.old) (S.heard sink.new) self.old self.new) piece.now result }
     {
         if may_end_feature(piece) {
             return self.take_next_feature(piece, sink);
@@ -163,11 +152,8 @@ impl Reader {
     /// object if their events do not matter to the sink: how many bytes, or 0.
     #[inline(never)]
     fn take_properties<S: EventSink>(&mut self, piece: &[u8], sink: &mut S) -> usize
-        requires some { 0 < length piece.now }
-        requires takes { IsOpenFor self.old piece.now }
-        requires due { names self.old.mode ≡ true }
-        ensures within { result ≤ length piece.now }
-        ensures feeds { FeedsAll (S.heard sink.old) (S.heard sink.new) self.old self.new (take result piece.now) }
+        requires { IsReady names self.old piece.now }
+        ensures { OfPrefix (FeedsAll (S.heard sink.old) (S.heard sink.new) self.old self.new) piece.now result }
     {
         let count = properties_run(piece);
         if count == 0 || self.levels.len() >= self.limits.depth() {
@@ -187,8 +173,7 @@ impl Reader {
     fn take_feature_end<S: EventSink>(&mut self, piece: &[u8], sink: &mut S) -> usize
         requires takes { IsOpenFor self.old piece.now }
         requires done { self.old.mode ≡ ValueDone }
-        ensures within { result ≤ length piece.now }
-        ensures feeds { FeedsAll (S.heard sink.old) (S.heard sink.new) self.old self.new (take result piece.now) }
+        ensures { OfPrefix (FeedsAll (S.heard sink.old) (S.heard sink.new) self.old self.new) piece.now result }
     {
         let next = following_typed(piece);
         if next.typed.count == 0 || !self.levels.is_in_element() {
@@ -243,8 +228,7 @@ impl Reader {
         requires deep { length (levels_in self.old.levels) < self.old.limits.depth }
         requires shallow { self.old.limits.depth ≤ MOST_LEVELS }
         requires found { IsFound piece.now usual.now }
-        ensures within { result ≤ length piece.now }
-        ensures feeds { FeedsAll (S.heard sink.old) (S.heard sink.new) self.old self.new (take result piece.now) }
+        ensures { OfPrefix (FeedsAll (S.heard sink.old) (S.heard sink.new) self.old self.new) piece.now result }
     {
         sink.tell_head(Head::Geometry(self.located_here(usual)));
         self.levels.push(Level::Object);
@@ -266,8 +250,7 @@ impl Reader {
         requires shallow { self.old.limits.depth ≤ MOST_LEVELS }
         requires found { IsFound piece.now usual.now }
         requires point { usual.now.word ≡ Word.Point }
-        ensures within { result ≤ length piece.now }
-        ensures feeds { FeedsAll (S.heard sink.old) (S.heard sink.new) self.old self.new (take result piece.now) }
+        ensures { OfPrefix (FeedsAll (S.heard sink.old) (S.heard sink.new) self.old self.new) piece.now result }
     {
         let mut flat = Flat::blank();
         let end = point_end(piece, usual.count, self.offset, &mut flat);
@@ -283,11 +266,8 @@ impl Reader {
     /// none, a name of plain characters and its colon are taken.
     #[inline(never)]
     fn take_late_point<S: EventSink>(&mut self, piece: &[u8], sink: &mut S) -> usize
-        requires some { 0 < length piece.now }
-        requires takes { IsOpenFor self.old piece.now }
-        requires due { names self.old.mode ≡ true }
-        ensures within { result ≤ length piece.now }
-        ensures feeds { FeedsAll (S.heard sink.old) (S.heard sink.new) self.old self.new (take result piece.now) }
+        requires { IsReady names self.old piece.now }
+        ensures { OfPrefix (FeedsAll (S.heard sink.old) (S.heard sink.new) self.old self.new) piece.now result }
     {
         if self.levels.len() + 1 >= self.limits.depth() {
             return self.take_plain_name(piece, sink);
@@ -304,11 +284,8 @@ impl Reader {
     /// how many bytes, or 0.
     #[inline(never)]
     fn take_geometry<S: EventSink>(&mut self, piece: &[u8], sink: &mut S) -> usize
-        requires some { 0 < length piece.now }
-        requires takes { IsOpenFor self.old piece.now }
-        requires due { names self.old.mode ≡ true }
-        ensures within { result ≤ length piece.now }
-        ensures feeds { FeedsAll (S.heard sink.old) (S.heard sink.new) self.old self.new (take result piece.now) }
+        requires { IsReady names self.old piece.now }
+        ensures { OfPrefix (FeedsAll (S.heard sink.old) (S.heard sink.new) self.old self.new) piece.now result }
     {
         let usual = usual_located(piece);
         if usual.count == 0 && may_be_late_point(piece) {
@@ -327,11 +304,8 @@ impl Reader {
     /// bytes, or 0.
     #[inline(always)]
     pub(super) fn take_member<S: EventSink>(&mut self, piece: &[u8], sink: &mut S) -> usize
-        requires some { 0 < length piece.now }
-        requires takes { IsOpenFor self.old piece.now }
-        requires due { names self.old.mode ≡ true }
-        ensures within { result ≤ length piece.now }
-        ensures feeds { FeedsAll (S.heard sink.old) (S.heard sink.new) self.old self.new (take result piece.now) }
+        requires { IsReady names self.old piece.now }
+        ensures { OfPrefix (FeedsAll (S.heard sink.old) (S.heard sink.new) self.old self.new) piece.now result }
     {
         if may_be_geometry(piece) {
             return self.take_geometry(piece, sink);

@@ -1,6 +1,6 @@
 //! Bytes whose events do not matter to the sink: their tokens are taken for one that drops the events.
 
-ghost use Rattle.std.specs.Prelude.{◌≡◌, ◌+◌, ◌^◌, ◌≤◌, ◌<◌, [], length, take, IfOk, MatchResult, None};
+ghost use Rattle.std.specs.Prelude.{◌≡◌, ◌+◌, ◌^◌, ◌≤◌, ◌<◌, [], length, MatchResult, None};
 ghost use Rattle.gj_json.specs.Internal.OpenLevels.{levels_in};
 
 use super::Reader;
@@ -9,17 +9,15 @@ use crate::mode::Mode;
 use crate::sink::{EventSink, NoEvents};
 
 impl Reader {
-    ghost use Rattle.gj_json.specs.Internal.FedReader.{IsOpenFor};
     ghost use Rattle.gj_json.specs.Ignored.{Leaves};
-    ghost use Rattle.gj_json.specs.Internal.FedReader.{FeedsAll, FeedsAny, FeedsTo, FeedsWithin, FeedsWithinTo};
+    ghost use Rattle.gj_json.specs.Internal.FedReader.{IsOpenFor, FeedsAll, FeedsAny, FeedsTo, FeedsWithin, FeedsWithinTo, OfPrefix};
 
     /// Takes white space, or tokens that are whole at the start of the piece: how many bytes.
     #[inline(always)]
     fn pass_token(&mut self, piece: &[u8]) -> usize
         requires some { 0 < length piece.now }
         requires takes { IsOpenFor self.old piece.now }
-        ensures within { result ≤ length piece.now }
-        ensures feeds { FeedsAny self.old self.new (take result piece.now) }
+        ensures { OfPrefix (FeedsAny self.old self.new) piece.now result }
     {
         if piece[0] <= b' ' {
             return self.take_white(piece, &mut NoEvents);
@@ -38,9 +36,8 @@ impl Reader {
     fn pass_tokens(&mut self, piece: &[u8], floor: u16) -> usize
         requires takes { IsOpenFor self.old piece.now }
         requires above { floor ≤ length (levels_in self.old.levels) }
-        ensures within { result ≤ length piece.now }
         ensures floor { floor ≤ length (levels_in self.new.levels) }
-        ensures feeds { FeedsWithin floor self.old self.new (take result piece.now) }
+        ensures taken { OfPrefix (FeedsWithin floor self.old self.new) piece.now result }
     {
         let mut at = 0;
         while at < piece.len() {
@@ -61,9 +58,9 @@ impl Reader {
         requires takes { IsOpenFor self.old piece.now }
         requires some { 0 < length piece.now }
         requires above { floor < length (levels_in self.old.levels) }
-        ensures within { IfOk result (λ n. (0 < n) × (n ≤ length piece.now)) }
         ensures floor { floor ≤ length (levels_in self.new.levels) }
-        ensures feeds { MatchResult result (λ n. FeedsWithin floor self.old self.new (take n piece.now)) (FeedsWithinTo floor self.old self.new piece.now) }
+        ensures taken { MatchResult result (λ n. (0 < n) × OfPrefix (FeedsWithin floor self.old self.new) piece.now n)
+            (FeedsWithinTo floor self.old self.new piece.now) }
     {
         let quiet = self.skip_front(piece);
         if quiet == piece.len() {
@@ -79,9 +76,9 @@ impl Reader {
     fn take_within(&mut self, piece: &[u8], floor: u16) -> Result<usize, JsonFault>
         requires takes { IsOpenFor self.old piece.now }
         requires above { floor ≤ length (levels_in self.old.levels) }
-        ensures within { IfOk result (λ n. n ≤ length piece.now) }
         ensures floor { floor ≤ length (levels_in self.new.levels) }
-        ensures feeds { MatchResult result (λ n. FeedsWithin floor self.old self.new (take n piece.now)) (FeedsWithinTo floor self.old self.new piece.now) }
+        ensures taken { MatchResult result (OfPrefix (FeedsWithin floor self.old self.new) piece.now)
+            (FeedsWithinTo floor self.old self.new piece.now) }
     {
         let mut at = 0;
         while at < piece.len() {
@@ -107,8 +104,7 @@ impl Reader {
     #[inline(never)]
     pub(super) fn pass_ignored<S: EventSink>(&mut self, piece: &[u8], sink: &mut S) -> usize
         requires takes { IsOpenFor self.old piece.now }
-        ensures within { result ≤ length piece.now }
-        ensures feeds { FeedsAll (S.heard sink.old) (S.heard sink.new) self.old self.new (take result piece.now) }
+        ensures { OfPrefix (FeedsAll (S.heard sink.old) (S.heard sink.new) self.old self.new) piece.now result }
     {
         let ignored = sink.ignored();
         let open = self.levels.len();
@@ -130,8 +126,7 @@ impl Reader {
         sink: &mut S,
     ) -> Result<usize, JsonFault>
         requires takes { IsOpenFor self.old piece.now }
-        ensures within { IfOk result (λ n. n ≤ length piece.now) }
-        ensures feeds { MatchResult result (λ n. FeedsAll (S.heard sink.old) (S.heard sink.new) self.old self.new (take n piece.now))
+        ensures { MatchResult result (OfPrefix (FeedsAll (S.heard sink.old) (S.heard sink.new) self.old self.new) piece.now)
             (FeedsTo (S.heard sink.old) (S.heard sink.new) self.old self.new piece.now) }
     {
         let ignored = sink.ignored();
@@ -153,8 +148,7 @@ impl Reader {
         sink: &mut S,
     ) -> Result<usize, JsonFault>
         requires takes { IsOpenFor self.old piece.now }
-        ensures within { IfOk result (λ n. n ≤ length piece.now) }
-        ensures feeds { MatchResult result (λ n. FeedsAll (S.heard sink.old) (S.heard sink.new) self.old self.new (take n piece.now))
+        ensures { MatchResult result (OfPrefix (FeedsAll (S.heard sink.old) (S.heard sink.new) self.old self.new) piece.now)
             (FeedsTo (S.heard sink.old) (S.heard sink.new) self.old self.new piece.now) }
     {
         match self.mode {
@@ -166,8 +160,7 @@ impl Reader {
     /// Takes the bytes of the piece up to the end of the innermost array or object: how many, or 0 where it does not end there.
     fn take_innermost(&mut self, piece: &[u8]) -> usize
         requires takes { IsOpenFor self.old piece.now }
-        ensures within { result ≤ length piece.now }
-        ensures feeds { 0 < result → FeedsAll (λ events. events ≡ []) (λ events. Leaves 1 events 0) self.old self.new (take result piece.now) }
+        ensures { 0 < result → OfPrefix (FeedsAll (λ events. events ≡ []) (λ events. Leaves 1 events 0) self.old self.new) piece.now result }
     {
         let open = self.levels.len();
         if open == 0 {
@@ -184,8 +177,7 @@ impl Reader {
     #[inline(never)]
     fn take_missed<S: EventSink>(&mut self, piece: &[u8], sink: &mut S) -> usize
         requires takes { IsOpenFor self.old piece.now }
-        ensures within { result ≤ length piece.now }
-        ensures feeds { FeedsAll (S.heard sink.old) (S.heard sink.new) self.old self.new (take result piece.now) }
+        ensures { OfPrefix (FeedsAll (S.heard sink.old) (S.heard sink.new) self.old self.new) piece.now result }
     {
         let before = *self;
         let count = self.take_innermost(piece);
@@ -208,8 +200,7 @@ impl Reader {
         sink: &mut S,
     ) -> usize
         requires takes { IsOpenFor self.old piece.now }
-        ensures within { result ≤ length piece.now }
-        ensures feeds { FeedsAll (S.heard sink.old) (S.heard sink.new) self.old self.new (take result piece.now) }
+        ensures { OfPrefix (FeedsAll (S.heard sink.old) (S.heard sink.new) self.old self.new) piece.now result }
     {
         if piece.len() < *least || !self.may_be_missed(sink) {
             return 0;

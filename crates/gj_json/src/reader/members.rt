@@ -1,6 +1,6 @@
 //! Members of objects in which no event matters to the sink: where they are written as most are, each is taken at once.
 
-ghost use Rattle.std.specs.Prelude.{◌≡◌, ◌⊎◌, ◌+◌, ◌^◌, ◌≤◌, ◌<◌, true, length, take, get_or, None};
+ghost use Rattle.std.specs.Prelude.{◌≡◌, ◌⊎◌, ◌+◌, ◌^◌, ◌<◌, true, length, take, get_or, None};
 ghost use Rattle.gj_json.specs.Bytes.{quote, colon, space};
 ghost use Rattle.gj_json.specs.Internal.FlatParts.{awaits};
 ghost use Rattle.gj_json.specs.Internal.WholeTokens.{names, IsString};
@@ -12,23 +12,19 @@ use crate::lanes::LANES;
 use crate::levels::Level;
 use crate::mode::Mode;
 use crate::sink::NoEvents;
-use crate::tokens::{begins_quoted, near_quoted_run, scalar_run};
+use crate::tokens::{begins_quoted, quoted_run, scalar_run};
 
 /// A piece of fewer bytes has no room for a short name, what comes after it, and what is looked at of the value.
 const ROOM: usize = 2 * LANES + 8;
 
 impl Reader {
-    ghost use Rattle.gj_json.specs.Internal.FedReader.{IsOpenFor};
-    ghost use Rattle.gj_json.specs.Internal.FedReader.{FeedsAny};
+    ghost use Rattle.gj_json.specs.Internal.FedReader.{IsOpenFor, FeedsAny, OfPrefix, IsReady, IsReadyFor};
 
     /// Takes a value that is whole with the byte after it, or the bracket that opens one: how many bytes, or 0.
     #[inline(never)]
     fn pass_value(&mut self, piece: &[u8]) -> usize
-        requires some { 0 < length piece.now }
-        requires takes { IsOpenFor self.old piece.now }
-        requires due { awaits self.old.mode ≡ true }
-        ensures within { result ≤ length piece.now }
-        ensures feeds { FeedsAny self.old self.new (take result piece.now) }
+        requires { IsReady awaits self.old piece.now }
+        ensures { OfPrefix (FeedsAny self.old self.new) piece.now result }
     {
         self.take_value::<NoEvents, false>(piece, &mut NoEvents)
     }
@@ -37,12 +33,8 @@ impl Reader {
     /// that opens it: how many bytes, or 0.
     #[inline(never)]
     fn pass_any_member(&mut self, piece: &[u8]) -> usize
-        requires some { 0 < length piece.now }
-        requires begins { get_or piece.now 0 0 ≡ quote }
-        requires takes { IsOpenFor self.old piece.now }
-        requires due { names self.old.mode ≡ true }
-        ensures within { result ≤ length piece.now }
-        ensures feeds { FeedsAny self.old self.new (take result piece.now) }
+        requires { IsReadyFor names quote self.old piece.now }
+        ensures { OfPrefix (FeedsAny self.old self.new) piece.now result }
     {
         let name = self.pass_name(piece);
         if name == 0 || name == piece.len() {
@@ -61,8 +53,7 @@ impl Reader {
         requires between { (value ≡ name + 1) ⊎ ((value ≡ name + 2) × (get_or piece.now (name + 1) 0 ≡ space)) }
         requires takes { IsOpenFor self.old piece.now }
         requires due { names self.old.mode ≡ true }
-        ensures within { result ≤ length piece.now }
-        ensures feeds { FeedsAny self.old self.new (take result piece.now) }
+        ensures { OfPrefix (FeedsAny self.old self.new) piece.now result }
     {
         let end = value + scalar_run(&piece[value..]);
         if end > value && self.levels.is_in_object() {
@@ -84,19 +75,15 @@ impl Reader {
         value + self.pass_value(&piece[value..])
     }
 
-    /// As `pass_any_member`, at once where the name is short, with one space after its colon or none. How long it is, is noted.
+    /// As `pass_any_member`, at once where the name has its colon after it, with one space after that or none. How long it is, is noted.
     // The two calls at the end let the processor foresee which it is: the place of the value does not wait for that byte.
     #[inline(never)]
-    fn pass_short_member(&mut self, piece: &[u8]) -> usize
-        requires long { ROOM ≤ length piece.now }
-        requires begins { get_or piece.now 0 0 ≡ quote }
-        requires takes { IsOpenFor self.old piece.now }
-        requires due { names self.old.mode ≡ true }
-        ensures within { result ≤ length piece.now }
-        ensures feeds { FeedsAny self.old self.new (take result piece.now) }
+    fn pass_near_member(&mut self, piece: &[u8]) -> usize
+        requires { IsReadyFor names quote self.old piece.now }
+        ensures { OfPrefix (FeedsAny self.old self.new) piece.now result }
     {
-        let name = near_quoted_run(piece);
-        if name == 0 || piece[name] != b':' {
+        let name = quoted_run(piece);
+        if name == 0 || name + 2 + LANES >= piece.len() || piece[name] != b':' {
             return self.pass_any_member(piece);
         }
         self.names.note(name - 2);
@@ -106,17 +93,13 @@ impl Reader {
         self.pass_named(piece, name, name + 1)
     }
 
-    /// As `pass_short_member`. Mostly the name is as long as the last one at its place. Its end is then known before its characters
+    /// As `pass_near_member`. Mostly the name is as long as the last one at its place. Its end is then known before its characters
     /// are looked at, so that what is read after it does not wait for that.
-    // As in `pass_short_member`, there are two calls at the end.
+    // As in `pass_near_member`, there are two calls at the end.
     #[inline(always)]
     fn pass_member(&mut self, piece: &[u8]) -> usize
-        requires some { 0 < length piece.now }
-        requires begins { get_or piece.now 0 0 ≡ quote }
-        requires takes { IsOpenFor self.old piece.now }
-        requires due { names self.old.mode ≡ true }
-        ensures within { result ≤ length piece.now }
-        ensures feeds { FeedsAny self.old self.new (take result piece.now) }
+        requires { IsReadyFor names quote self.old piece.now }
+        ensures { OfPrefix (FeedsAny self.old self.new) piece.now result }
     {
         if piece.len() < ROOM {
             return self.pass_any_member(piece);
@@ -124,7 +107,7 @@ impl Reader {
         let count = self.names.expect_next();
         let name = count + 2;
         if !begins_quoted(piece, count) || piece[name] != b':' {
-            return self.pass_short_member(piece);
+            return self.pass_near_member(piece);
         }
         if piece[name + 1] == b' ' {
             return self.pass_named(piece, name, name + 2);
@@ -135,11 +118,8 @@ impl Reader {
     /// Takes a member at the start of the piece, or the white space there: how many bytes.
     #[inline(always)]
     fn pass_member_or_white(&mut self, piece: &[u8]) -> usize
-        requires some { 0 < length piece.now }
-        requires takes { IsOpenFor self.old piece.now }
-        requires due { names self.old.mode ≡ true }
-        ensures within { result ≤ length piece.now }
-        ensures feeds { FeedsAny self.old self.new (take result piece.now) }
+        requires { IsReady names self.old piece.now }
+        ensures { OfPrefix (FeedsAny self.old self.new) piece.now result }
     {
         if piece[0] == b'"' {
             self.pass_member(piece)
@@ -154,8 +134,7 @@ impl Reader {
     pub(super) fn pass_members(&mut self, piece: &[u8]) -> usize
         requires takes { IsOpenFor self.old piece.now }
         requires due { names self.old.mode ≡ true }
-        ensures within { result ≤ length piece.now }
-        ensures feeds { FeedsAny self.old self.new (take result piece.now) }
+        ensures { OfPrefix (FeedsAny self.old self.new) piece.now result }
     {
         let mut at = 0;
         while at < piece.len() {

@@ -1,6 +1,6 @@
 //! Bytes in a row, from what the reader keeps.
 
-ghost use Rattle.std.specs.Prelude.{◌≡◌, ◌+◌, ◌^◌, ◌≤◌, ◌<◌, true, length, take, IfOk, MatchResult, None};
+ghost use Rattle.std.specs.Prelude.{◌≡◌, ◌+◌, ◌^◌, ◌≤◌, ◌<◌, true, length, MatchResult, None};
 ghost use Rattle.gj_json.specs.Internal.QuietBytes.{awaits_token};
 ghost use Rattle.gj_json.specs.Internal.Transitions.{IsMode};
 ghost use Rattle.gj_json.specs.declared.mode.Mode.TheVariants.{NumberOn};
@@ -12,8 +12,7 @@ use crate::runs::{is_white, quiet_run, string_run};
 use crate::sink::EventSink;
 
 impl Reader {
-    ghost use Rattle.gj_json.specs.Internal.FedReader.{IsOpenFor};
-    ghost use Rattle.gj_json.specs.Internal.FedReader.{Passed, Skips, FeedsAll, FeedsTo};
+    ghost use Rattle.gj_json.specs.Internal.FedReader.{IsOpenFor, Passed, Skips, FeedsAll, FeedsTo, OfPrefix};
 
     /// Passes over `count` bytes, after which this is the mode.
     pub(super) fn skip(&mut self, count: usize, mode: Mode) -> usize
@@ -31,8 +30,7 @@ impl Reader {
     fn skip_number(&mut self, piece: &[u8]) -> usize
         requires room { self.old.offset + length piece.now ≤ self.old.limits.bytes }
         requires number { self.old.mode ≡ NumberOn }
-        ensures within { result ≤ length piece.now }
-        ensures skips { Skips self.old self.new (take result piece.now) }
+        ensures { OfPrefix (Skips self.old self.new) piece.now result }
     {
         let count = self.literal.push_piece(piece);
         self.skip(count, Mode::NumberOn)
@@ -41,8 +39,7 @@ impl Reader {
     /// Takes the bytes at the start of the piece that complete nothing and open or close nothing: how many.
     pub(super) fn skip_quiet(&mut self, piece: &[u8]) -> usize
         requires room { self.old.offset + length piece.now ≤ self.old.limits.bytes }
-        ensures within { result ≤ length piece.now }
-        ensures skips { Skips self.old self.new (take result piece.now) }
+        ensures { OfPrefix (Skips self.old self.new) piece.now result }
     {
         match self.mode {
             Mode::StringOn(state) => {
@@ -62,8 +59,7 @@ impl Reader {
     #[inline(always)]
     pub(super) fn skip_white(&mut self, piece: &[u8]) -> usize
         requires room { self.old.offset + length piece.now ≤ self.old.limits.bytes }
-        ensures within { result ≤ length piece.now }
-        ensures skips { Skips self.old self.new (take result piece.now) }
+        ensures { OfPrefix (Skips self.old self.new) piece.now result }
     {
         match self.mode {
             Mode::StringOn(_) | Mode::NameOn(_) | Mode::NumberOn => self.skip_quiet(piece),
@@ -77,8 +73,7 @@ impl Reader {
     pub(super) fn skip_space(&mut self, piece: &[u8]) -> usize
         requires due { awaits_token self.old.mode ≡ true }
         requires room { self.old.offset + length piece.now ≤ self.old.limits.bytes }
-        ensures within { result ≤ length piece.now }
-        ensures skips { Skips self.old self.new (take result piece.now) }
+        ensures { OfPrefix (Skips self.old self.new) piece.now result }
     {
         if piece.is_empty() || piece[0] != b' ' {
             return 0;
@@ -91,8 +86,7 @@ impl Reader {
     pub(super) fn skip_front(&mut self, piece: &[u8]) -> usize
         requires some { 0 < length piece.now }
         requires room { self.old.offset + length piece.now ≤ self.old.limits.bytes }
-        ensures within { result ≤ length piece.now }
-        ensures skips { Skips self.old self.new (take result piece.now) }
+        ensures { OfPrefix (Skips self.old self.new) piece.now result }
     {
         match self.mode {
             Mode::StringOn(_) | Mode::NameOn(_) | Mode::NumberOn => self.skip_quiet(piece),
@@ -110,8 +104,7 @@ impl Reader {
     fn take_some<S: EventSink>(&mut self, piece: &[u8], sink: &mut S) -> Result<usize, JsonFault>
         requires takes { IsOpenFor self.old piece.now }
         requires some { 0 < length piece.now }
-        ensures within { IfOk result (λ n. (0 < n) × (n ≤ length piece.now)) }
-        ensures feeds { MatchResult result (λ n. FeedsAll (S.heard sink.old) (S.heard sink.new) self.old self.new (take n piece.now))
+        ensures { MatchResult result (λ n. (0 < n) × OfPrefix (FeedsAll (S.heard sink.old) (S.heard sink.new) self.old self.new) piece.now n)
             (FeedsTo (S.heard sink.old) (S.heard sink.new) self.old self.new piece.now) }
     {
         let quiet = self.skip_front(piece);
@@ -137,8 +130,7 @@ impl Reader {
         sink: &mut S,
     ) -> Result<usize, JsonFault>
         requires takes { IsOpenFor self.old piece.now }
-        ensures within { IfOk result (λ n. n ≤ length piece.now) }
-        ensures feeds { MatchResult result (λ n. FeedsAll (S.heard sink.old) (S.heard sink.new) self.old self.new (take n piece.now))
+        ensures { MatchResult result (OfPrefix (FeedsAll (S.heard sink.old) (S.heard sink.new) self.old self.new) piece.now)
             (FeedsTo (S.heard sink.old) (S.heard sink.new) self.old self.new piece.now) }
     {
         if sink.ignored() == 0 {
@@ -154,7 +146,7 @@ impl Reader {
         sink: &mut S,
     ) -> Result<(), JsonFault>
         requires takes { IsOpenFor self.old piece.now }
-        ensures feeds { MatchResult result (λ done. FeedsAll (S.heard sink.old) (S.heard sink.new) self.old self.new piece.now)
+        ensures { MatchResult result (λ done. FeedsAll (S.heard sink.old) (S.heard sink.new) self.old self.new piece.now)
             (FeedsTo (S.heard sink.old) (S.heard sink.new) self.old self.new piece.now) }
     {
         let mut at = match self.take_if_ignored(piece, sink) {

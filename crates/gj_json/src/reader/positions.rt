@@ -1,6 +1,6 @@
 //! Positions, taken as their cut values.
 
-ghost use Rattle.std.specs.Prelude.{◌≡◌, ◌+◌, ◌^◌, ◌≤◌, ◌<◌, length, take, drop, None, Some};
+ghost use Rattle.std.specs.Prelude.{◌≡◌, ◌+◌, ◌^◌, ◌<◌, length, drop, None, Some};
 ghost use Rattle.gj_json.specs.Internal.FlatParts.{IsDueAt};
 ghost use Rattle.gj_json.specs.Internal.OpenLevels.{levels_in, inner_of};
 ghost use Rattle.gj_json.specs.declared.levels.Level.TheVariants.{Array};
@@ -21,8 +21,7 @@ pub(super) fn arrays_before_next(count: usize) -> u8 {
 }
 
 impl Reader {
-    ghost use Rattle.gj_json.specs.Internal.FedReader.{IsOpenFor};
-    ghost use Rattle.gj_json.specs.Internal.FedReader.{FeedsAll};
+    ghost use Rattle.gj_json.specs.Internal.FedReader.{IsOpenFor, FeedsAll, OfPrefix};
     ghost use Rattle.gj_json.specs.Internal.SpelledPositions.{AreSeparators, HasHead};
 
     /// Takes the positions at the start of the piece whose arrays have these separators, each with a comma and another array after
@@ -40,10 +39,9 @@ impl Reader {
         requires takes { IsOpenFor self.old piece.now }
         requires deep { length (levels_in self.old.levels) < self.old.limits.depth }
         requires inner { inner_of (levels_in self.old.levels) ≡ Some Array }
-        ensures within { result ≤ length piece.now }
         ensures next { IsDueAt self.new.mode (drop result piece.now) }
         ensures levels { self.new.levels ≡ self.old.levels }
-        ensures feeds { FeedsAll (S.heard sink.old) (S.heard sink.new) self.old self.new (take result piece.now) }
+        ensures taken { OfPrefix (FeedsAll (S.heard sink.old) (S.heard sink.new) self.old self.new) piece.now result }
     {
         let mut rest = piece;
         let mut taken = MOST_POSITIONS;

@@ -1,6 +1,6 @@
 //! Arrays of numbers that are not reported at once: of one number or of four and more, or of unusual ones.
 
-ghost use Rattle.std.specs.Prelude.{◌≡◌, ◌+◌, ◌^◌, ◌≤◌, ◌<◌, true, length, take, get_or, None, Some, IsTrue};
+ghost use Rattle.std.specs.Prelude.{◌≡◌, ◌+◌, ◌^◌, ◌<◌, true, length, get_or, None, Some, IsTrue};
 ghost use Rattle.gj_json.specs.Bytes.{open_bracket};
 ghost use Rattle.gj_json.specs.Internal.FlatParts.{awaits};
 ghost use Rattle.gj_json.specs.Internal.OpenLevels.{levels_in, inner_of};
@@ -34,12 +34,6 @@ fn is_row(numbers: u8) -> bool {
     numbers < 2 || numbers >= MANY
 }
 
-/// Whether a number stands at the start of the piece, by its first byte.
-#[inline(always)]
-fn begins_number(piece: &[u8]) -> bool {
-    !piece.is_empty() && matches!(piece[0], b'0'..=b'9' | b'-')
-}
-
 /// What was taken of an array of numbers: how many bytes, and whether it has closed and is none that is reported at once.
 #[derive(Clone, Copy)]
 struct Row {
@@ -48,8 +42,7 @@ struct Row {
 }
 
 impl Reader {
-    ghost use Rattle.gj_json.specs.Internal.FedReader.{IsOpenFor};
-    ghost use Rattle.gj_json.specs.Internal.FedReader.{FeedsAll};
+    ghost use Rattle.gj_json.specs.Internal.FedReader.{IsOpenFor, FeedsAll, OfPrefix, IsReadyFor};
 
     /// Takes the numbers of an array that has just been opened, and its closing bracket.
     #[inline(always)]
@@ -57,19 +50,24 @@ impl Reader {
         requires takes { IsOpenFor self.old piece.now }
         requires due { awaits self.old.mode ≡ true }
         requires inner { inner_of (levels_in self.old.levels) ≡ Some Array }
-        ensures within { result.count ≤ length piece.now }
-        ensures feeds { FeedsAll (S.heard sink.old) (S.heard sink.new) self.old self.new (take result.count piece.now) }
+        ensures { OfPrefix (FeedsAll (S.heard sink.old) (S.heard sink.new) self.old self.new) piece.now result.count }
     {
         let mut at = 0;
         let mut numbers = 0;
         let mut value = Short::zero().decimal();
-        while at < piece.len() {
+        while at < piece.len() && piece[at] > b' ' {
             let count = read_decimal(&piece[at..], &mut value);
             if count == 0 {
-                return Row {
-                    count: at,
-                    goes_on: false,
-                };
+                let any = self.take_any_number::<S, true>(&piece[at..], sink);
+                at += any;
+                if any == 0 || !is_due(self.mode) || !self.is_in_array() {
+                    return Row {
+                        count: at,
+                        goes_on: any > 0,
+                    };
+                }
+                numbers = MANY;
+                continue;
             }
             let end = piece[at + count];
             if end != b',' && end != b']' {
@@ -100,21 +98,11 @@ impl Reader {
     /// Takes an array of numbers.
     #[inline(always)]
     fn take_row<S: EventSink>(&mut self, piece: &[u8], sink: &mut S) -> Row
-        requires some { 0 < length piece.now }
-        requires begins { get_or piece.now 0 0 ≡ open_bracket }
-        requires takes { IsOpenFor self.old piece.now }
-        requires due { awaits self.old.mode ≡ true }
-        ensures within { result.count ≤ length piece.now }
-        ensures feeds { FeedsAll (S.heard sink.old) (S.heard sink.new) self.old self.new (take result.count piece.now) }
+        requires { IsReadyFor awaits open_bracket self.old piece.now }
+        ensures { OfPrefix (FeedsAll (S.heard sink.old) (S.heard sink.new) self.old self.new) piece.now result.count }
     {
         let opened = self.take_open(Level::Array, piece, sink);
-        if opened == 0 || !begins_number(&piece[opened..]) {
-            return Row {
-                count: opened,
-                goes_on: false,
-            };
-        }
-        if self.is_ignored(sink) || self.may_be_missed(sink) {
+        if opened == 0 || self.is_ignored(sink) || self.may_be_missed(sink) {
             return Row {
                 count: opened,
                 goes_on: false,
@@ -142,8 +130,7 @@ impl Reader {
     #[inline(never)]
     pub(super) fn take_rows<S: EventSink>(&mut self, piece: &[u8], sink: &mut S) -> usize
         requires takes { IsOpenFor self.old piece.now }
-        ensures within { result ≤ length piece.now }
-        ensures feeds { FeedsAll (S.heard sink.old) (S.heard sink.new) self.old self.new (take result piece.now) }
+        ensures { OfPrefix (FeedsAll (S.heard sink.old) (S.heard sink.new) self.old self.new) piece.now result }
     {
         let mut at = 0;
         while self.begins_row(&piece[at..]) {

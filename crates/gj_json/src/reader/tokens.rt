@@ -2,7 +2,7 @@
 //! usual kind. Where `HEARS` is false, no event matters: what strings, names and numbers say is then not looked for, and a string or
 //! a name may have any characters.
 
-ghost use Rattle.std.specs.Prelude.{◌≡◌, ◌+◌, ◌-◌, ◌^◌, ◌≤◌, ◌<◌, ◌++◌, ◌∷◌, [], true, List, length, take, get_or, None, Some};
+ghost use Rattle.std.specs.Prelude.{◌≡◌, ◌+◌, ◌-◌, ◌^◌, ◌≤◌, ◌<◌, ◌++◌, ◌∷◌, [], true, List, length, take, None, Some};
 ghost use Rattle.gj_number.specs.Grammar.{IsNumber};
 ghost use Rattle.gj_number.specs.Value.{value_of};
 ghost use Rattle.gj_json.specs.Internal.QuietBytes.{Leads};
@@ -29,7 +29,7 @@ use crate::names::{name_of, type_of};
 use crate::sink::EventSink;
 use crate::tokens::{constant_run, plain_quoted_run, quoted_run};
 use crate::usual::{usual_name, usual_text};
-use gj_number::{Decimal, Literal, Short, read_decimal, read_short};
+use gj_number::{Decimal, Literal, Short, number_run, read_decimal};
 
 /// A piece of fewer bytes is taken byte by byte.
 const SHORTEST: usize = 16;
@@ -83,21 +83,16 @@ fn closing_bracket(level: Level) -> u8
 }
 
 impl Reader {
-    ghost use Rattle.gj_json.specs.Internal.FedReader.{IsOpenFor};
     ghost use Rattle.gj_json.specs.declared.event.Event.{Event};
-    ghost use Rattle.gj_json.specs.Internal.FedReader.{Passed, FeedsAll, FeedsAny, FeedsToken};
+    ghost use Rattle.gj_json.specs.Internal.FedReader.{IsOpenFor, Passed, FeedsAll, FeedsAny, FeedsToken, OfPrefix, IsReady, IsReadyFor};
     ghost use Rattle.gj_json.specs.Internal.WholeTokens.{Lands};
 
     /// Takes a string of plain characters that is a value: how many bytes, or 0.
     #[inline(never)]
     fn take_plain_text<S: EventSink>(&mut self, piece: &[u8], sink: &mut S) -> usize
-        requires some { 0 < length piece.now }
-        requires begins { get_or piece.now 0 0 ≡ quote }
-        requires takes { IsOpenFor self.old piece.now }
-        requires due { awaits self.old.mode ≡ true }
-        ensures within { result ≤ length piece.now }
+        requires { IsReadyFor awaits quote self.old piece.now }
         ensures passed { 0 < result → Passed result ValueDone self.old self.new }
-        ensures feeds { FeedsAll (S.heard sink.old) (S.heard sink.new) self.old self.new (take result piece.now) }
+        ensures taken { OfPrefix (FeedsAll (S.heard sink.old) (S.heard sink.new) self.old self.new) piece.now result }
     {
         let count = plain_quoted_run(piece);
         if count == 0 {
@@ -113,13 +108,9 @@ impl Reader {
     /// As `take_plain_text`, at once where the string is a usual one.
     #[inline(always)]
     fn take_text<S: EventSink>(&mut self, piece: &[u8], sink: &mut S) -> usize
-        requires some { 0 < length piece.now }
-        requires begins { get_or piece.now 0 0 ≡ quote }
-        requires takes { IsOpenFor self.old piece.now }
-        requires due { awaits self.old.mode ≡ true }
-        ensures within { result ≤ length piece.now }
+        requires { IsReadyFor awaits quote self.old piece.now }
         ensures passed { 0 < result → Passed result ValueDone self.old self.new }
-        ensures feeds { FeedsAll (S.heard sink.old) (S.heard sink.new) self.old self.new (take result piece.now) }
+        ensures taken { OfPrefix (FeedsAll (S.heard sink.old) (S.heard sink.new) self.old self.new) piece.now result }
     {
         let usual = usual_text(piece);
         if usual.count == 0 {
@@ -135,13 +126,9 @@ impl Reader {
     /// Takes a string of any characters that is a value: how many bytes, or 0.
     #[inline(always)]
     fn pass_text(&mut self, piece: &[u8]) -> usize
-        requires some { 0 < length piece.now }
-        requires begins { get_or piece.now 0 0 ≡ quote }
-        requires takes { IsOpenFor self.old piece.now }
-        requires due { awaits self.old.mode ≡ true }
-        ensures within { result ≤ length piece.now }
+        requires { IsReadyFor awaits quote self.old piece.now }
         ensures passed { 0 < result → Passed result ValueDone self.old self.new }
-        ensures feeds { FeedsAny self.old self.new (take result piece.now) }
+        ensures taken { OfPrefix (FeedsAny self.old self.new) piece.now result }
     {
         let count = quoted_run(piece);
         if count == 0 {
@@ -153,13 +140,9 @@ impl Reader {
     /// Takes a string that is a value, and where events matter, only one of plain characters: how many bytes, or 0.
     #[inline(always)]
     fn take_string<S: EventSink, const HEARS: bool>(&mut self, piece: &[u8], sink: &mut S) -> usize
-        requires some { 0 < length piece.now }
-        requires begins { get_or piece.now 0 0 ≡ quote }
-        requires takes { IsOpenFor self.old piece.now }
-        requires due { awaits self.old.mode ≡ true }
-        ensures within { result ≤ length piece.now }
+        requires { IsReadyFor awaits quote self.old piece.now }
         ensures passed { 0 < result → Passed result ValueDone self.old self.new }
-        ensures feeds { FeedsToken HEARS (S.heard sink.old) (S.heard sink.new) self.old self.new (take result piece.now) }
+        ensures taken { OfPrefix (FeedsToken HEARS (S.heard sink.old) (S.heard sink.new) self.old self.new) piece.now result }
     {
         if HEARS {
             self.take_text(piece, sink)
@@ -171,12 +154,9 @@ impl Reader {
     /// Takes a name of plain characters and its colon, with the white space around that: how many bytes, or 0.
     #[inline(never)]
     pub(super) fn take_plain_name<S: EventSink>(&mut self, piece: &[u8], sink: &mut S) -> usize
-        requires some { 0 < length piece.now }
-        requires takes { IsOpenFor self.old piece.now }
-        requires due { names self.old.mode ≡ true }
-        ensures within { result ≤ length piece.now }
+        requires { IsReady names self.old piece.now }
         ensures mode { 0 < result → self.new.mode ≡ ValueDue }
-        ensures feeds { FeedsAll (S.heard sink.old) (S.heard sink.new) self.old self.new (take result piece.now) }
+        ensures taken { OfPrefix (FeedsAll (S.heard sink.old) (S.heard sink.new) self.old self.new) piece.now result }
     {
         if piece[0] != b'"' {
             return 0;
@@ -199,14 +179,10 @@ impl Reader {
     /// Takes a name of any characters and its colon, with the white space around that: how many bytes, or 0.
     #[inline(always)]
     pub(super) fn pass_name(&mut self, piece: &[u8]) -> usize
-        requires some { 0 < length piece.now }
-        requires begins { get_or piece.now 0 0 ≡ quote }
-        requires takes { IsOpenFor self.old piece.now }
-        requires due { names self.old.mode ≡ true }
-        ensures within { result ≤ length piece.now }
+        requires { IsReadyFor names quote self.old piece.now }
         ensures mode { 0 < result → self.new.mode ≡ ValueDue }
         ensures levels { self.new.levels ≡ self.old.levels }
-        ensures feeds { FeedsAny self.old self.new (take result piece.now) }
+        ensures taken { OfPrefix (FeedsAny self.old self.new) piece.now result }
     {
         let name = quoted_run(piece);
         if name == 0 {
@@ -222,12 +198,9 @@ impl Reader {
     /// As `take_plain_name`, at once where the name is a usual one with its colon after it.
     #[inline(always)]
     pub(super) fn take_named<S: EventSink>(&mut self, piece: &[u8], sink: &mut S) -> usize
-        requires some { 0 < length piece.now }
-        requires takes { IsOpenFor self.old piece.now }
-        requires due { names self.old.mode ≡ true }
-        ensures within { result ≤ length piece.now }
+        requires { IsReady names self.old piece.now }
         ensures mode { 0 < result → self.new.mode ≡ ValueDue }
-        ensures feeds { FeedsAll (S.heard sink.old) (S.heard sink.new) self.old self.new (take result piece.now) }
+        ensures taken { OfPrefix (FeedsAll (S.heard sink.old) (S.heard sink.new) self.old self.new) piece.now result }
     {
         let usual = usual_name(piece);
         if usual.count == 0 {
@@ -246,9 +219,8 @@ impl Reader {
     fn take_constant<S: EventSink>(&mut self, which: Constant, piece: &[u8], sink: &mut S) -> usize
         requires takes { IsOpenFor self.old piece.now }
         requires due { awaits self.old.mode ≡ true }
-        ensures within { result ≤ length piece.now }
-        ensures feeds { FeedsAll (S.heard sink.old) (S.heard sink.new) self.old self.new (take result piece.now) }
-        ensures any { FeedsAny self.old self.new (take result piece.now) }
+        ensures all { OfPrefix (FeedsAll (S.heard sink.old) (S.heard sink.new) self.old self.new) piece.now result }
+        ensures any { OfPrefix (FeedsAny self.old self.new) piece.now result }
     {
         let count = constant_run(which, piece);
         if count == 0 {
@@ -270,14 +242,10 @@ impl Reader {
         piece: &[u8],
         sink: &mut S,
     ) -> usize
-        requires some { 0 < length piece.now }
-        requires begins { get_or piece.now 0 0 ≡ bracket_of level }
-        requires takes { IsOpenFor self.old piece.now }
-        requires due { may_begin self.old.mode ≡ true }
-        ensures within { result ≤ length piece.now }
+        requires { IsReadyFor may_begin (bracket_of level) self.old piece.now }
         ensures lands { 0 < result → Lands 1 (opened level) (level ∷ levels_in self.old.levels) self.old self.new }
-        ensures feeds { FeedsAll (S.heard sink.old) (S.heard sink.new) self.old self.new (take result piece.now) }
-        ensures any { FeedsAny self.old self.new (take result piece.now) }
+        ensures all { OfPrefix (FeedsAll (S.heard sink.old) (S.heard sink.new) self.old self.new) piece.now result }
+        ensures any { OfPrefix (FeedsAny self.old self.new) piece.now result }
     {
         if self.levels.len() >= self.limits.depth() {
             return 0;
@@ -298,13 +266,9 @@ impl Reader {
         piece: &[u8],
         sink: &mut S,
     ) -> usize
-        requires some { 0 < length piece.now }
-        requires begins { get_or piece.now 0 0 ≡ bracket_of level }
-        requires takes { IsOpenFor self.old piece.now }
-        requires due { may_begin self.old.mode ≡ true }
-        ensures within { result ≤ length piece.now }
-        ensures feeds { FeedsAll (S.heard sink.old) (S.heard sink.new) self.old self.new (take result piece.now) }
-        ensures any { FeedsAny self.old self.new (take result piece.now) }
+        requires { IsReadyFor may_begin (bracket_of level) self.old piece.now }
+        ensures all { OfPrefix (FeedsAll (S.heard sink.old) (S.heard sink.new) self.old self.new) piece.now result }
+        ensures any { OfPrefix (FeedsAny self.old self.new) piece.now result }
     {
         let opened = self.take_open(level, piece, sink);
         if opened == 0 || piece.len() < 2 || piece[1] != closing_bracket(level) {
@@ -352,8 +316,7 @@ impl Reader {
         requires value { HEARS ≡ true → value_of (take count piece.now) ≡ value }
         requires takes { IsOpenFor self.old piece.now }
         requires due { awaits self.old.mode ≡ true }
-        ensures within { result ≤ length piece.now }
-        ensures feeds { FeedsToken HEARS (S.heard sink.old) (S.heard sink.new) self.old self.new (take result piece.now) }
+        ensures { OfPrefix (FeedsToken HEARS (S.heard sink.old) (S.heard sink.new) self.old self.new) piece.now result }
     {
         let event = Event {
             place: self.offset,
@@ -387,16 +350,18 @@ impl Reader {
 
     /// Takes a number of any style and the byte after it: how many bytes, or 0.
     #[inline(never)]
-    fn take_any_number<S: EventSink, const HEARS: bool>(
+    pub(super) fn take_any_number<S: EventSink, const HEARS: bool>(
         &mut self,
         piece: &[u8],
         sink: &mut S,
     ) -> usize
         requires takes { IsOpenFor self.old piece.now }
         requires due { awaits self.old.mode ≡ true }
-        ensures within { result ≤ length piece.now }
-        ensures feeds { FeedsToken HEARS (S.heard sink.old) (S.heard sink.new) self.old self.new (take result piece.now) }
+        ensures { OfPrefix (FeedsToken HEARS (S.heard sink.old) (S.heard sink.new) self.old self.new) piece.now result }
     {
+        if is_cut(piece) {
+            return 0;
+        }
         let mut literal = Literal::new();
         let count = literal.push_piece(piece);
         if count == piece.len() || !literal.may_end() {
@@ -410,19 +375,14 @@ impl Reader {
     fn take_number<S: EventSink, const HEARS: bool>(&mut self, piece: &[u8], sink: &mut S) -> usize
         requires takes { IsOpenFor self.old piece.now }
         requires due { awaits self.old.mode ≡ true }
-        ensures within { result ≤ length piece.now }
-        ensures feeds { FeedsToken HEARS (S.heard sink.old) (S.heard sink.new) self.old self.new (take result piece.now) }
+        ensures { OfPrefix (FeedsToken HEARS (S.heard sink.old) (S.heard sink.new) self.old self.new) piece.now result }
     {
         if !HEARS {
-            let mut number = Short::zero();
-            let count = read_short(piece, &mut number);
+            let count = number_run(piece);
             if count == 0 {
-                return self.take_any_number::<S, HEARS>(piece, sink);
+                return 0;
             }
             return self.end_number::<S, HEARS>(count, None, piece, sink);
-        }
-        if is_cut(piece) {
-            return 0;
         }
         let mut value = Short::zero().decimal();
         let count = read_decimal(piece, &mut value);
@@ -439,9 +399,8 @@ impl Reader {
         requires some { 0 < length piece.now }
         requires takes { IsOpenFor self.old piece.now }
         requires done { self.old.mode ≡ ValueDone }
-        ensures within { result ≤ length piece.now }
-        ensures feeds { FeedsAll (S.heard sink.old) (S.heard sink.new) self.old self.new (take result piece.now) }
-        ensures any { FeedsAny self.old self.new (take result piece.now) }
+        ensures all { OfPrefix (FeedsAll (S.heard sink.old) (S.heard sink.new) self.old self.new) piece.now result }
+        ensures any { OfPrefix (FeedsAny self.old self.new) piece.now result }
     {
         if piece[0] == b',' {
             return match self.levels.inner() {
@@ -464,9 +423,8 @@ impl Reader {
     #[inline(always)]
     pub(super) fn take_next_end<S: EventSink>(&mut self, piece: &[u8], sink: &mut S) -> usize
         requires takes { IsOpenFor self.old piece.now }
-        ensures within { result ≤ length piece.now }
-        ensures feeds { FeedsAll (S.heard sink.old) (S.heard sink.new) self.old self.new (take result piece.now) }
-        ensures any { FeedsAny self.old self.new (take result piece.now) }
+        ensures all { OfPrefix (FeedsAll (S.heard sink.old) (S.heard sink.new) self.old self.new) piece.now result }
+        ensures any { OfPrefix (FeedsAny self.old self.new) piece.now result }
     {
         if piece.is_empty() {
             return 0;
@@ -480,12 +438,8 @@ impl Reader {
     /// Takes an array of numbers, or the bracket that opens an array: how many bytes, or 0.
     #[inline(always)]
     fn take_array<S: EventSink>(&mut self, piece: &[u8], sink: &mut S) -> usize
-        requires some { 0 < length piece.now }
-        requires begins { get_or piece.now 0 0 ≡ open_bracket }
-        requires takes { IsOpenFor self.old piece.now }
-        requires due { awaits self.old.mode ≡ true }
-        ensures within { result ≤ length piece.now }
-        ensures feeds { FeedsAll (S.heard sink.old) (S.heard sink.new) self.old self.new (take result piece.now) }
+        requires { IsReadyFor awaits open_bracket self.old piece.now }
+        ensures { OfPrefix (FeedsAll (S.heard sink.old) (S.heard sink.new) self.old self.new) piece.now result }
     {
         if begins_otherwise(piece) {
             return self.take_container(Level::Array, piece, sink);
@@ -504,11 +458,8 @@ impl Reader {
         piece: &[u8],
         sink: &mut S,
     ) -> usize
-        requires some { 0 < length piece.now }
-        requires takes { IsOpenFor self.old piece.now }
-        requires due { awaits self.old.mode ≡ true }
-        ensures within { result ≤ length piece.now }
-        ensures feeds { FeedsToken HEARS (S.heard sink.old) (S.heard sink.new) self.old self.new (take result piece.now) }
+        requires { IsReady awaits self.old piece.now }
+        ensures { OfPrefix (FeedsToken HEARS (S.heard sink.old) (S.heard sink.new) self.old self.new) piece.now result }
     {
         match piece[0] {
             b'"' => {
@@ -545,9 +496,8 @@ impl Reader {
     pub(super) fn take_white<S: EventSink>(&mut self, piece: &[u8], sink: &mut S) -> usize
         requires some { 0 < length piece.now }
         requires takes { IsOpenFor self.old piece.now }
-        ensures within { result ≤ length piece.now }
-        ensures feeds { FeedsAll (S.heard sink.old) (S.heard sink.new) self.old self.new (take result piece.now) }
-        ensures any { FeedsAny self.old self.new (take result piece.now) }
+        ensures all { OfPrefix (FeedsAll (S.heard sink.old) (S.heard sink.new) self.old self.new) piece.now result }
+        ensures any { OfPrefix (FeedsAny self.old self.new) piece.now result }
     {
         if piece.len() > 1 {
             return self.skip_white(piece);
@@ -561,8 +511,7 @@ impl Reader {
     fn take_token<S: EventSink>(&mut self, piece: &[u8], sink: &mut S) -> usize
         requires some { 0 < length piece.now }
         requires takes { IsOpenFor self.old piece.now }
-        ensures within { result ≤ length piece.now }
-        ensures feeds { FeedsAll (S.heard sink.old) (S.heard sink.new) self.old self.new (take result piece.now) }
+        ensures { OfPrefix (FeedsAll (S.heard sink.old) (S.heard sink.new) self.old self.new) piece.now result }
     {
         if piece[0] <= b' ' {
             return self.take_white(piece, sink);
@@ -612,8 +561,7 @@ impl Reader {
     #[inline(never)]
     pub(super) fn take_tokens<S: EventSink>(&mut self, piece: &[u8], sink: &mut S) -> usize
         requires takes { IsOpenFor self.old piece.now }
-        ensures within { result ≤ length piece.now }
-        ensures feeds { FeedsAll (S.heard sink.old) (S.heard sink.new) self.old self.new (take result piece.now) }
+        ensures { OfPrefix (FeedsAll (S.heard sink.old) (S.heard sink.new) self.old self.new) piece.now result }
     {
         let mut at = 0;
         while at < piece.len() {
@@ -634,8 +582,7 @@ impl Reader {
     fn take_beginning<S: EventSink>(&mut self, piece: &[u8], sink: &mut S) -> usize
         requires some { 0 < length piece.now }
         requires takes { IsOpenFor self.old piece.now }
-        ensures within { result ≤ length piece.now }
-        ensures feeds { FeedsAll (S.heard sink.old) (S.heard sink.new) self.old self.new (take result piece.now) }
+        ensures { OfPrefix (FeedsAll (S.heard sink.old) (S.heard sink.new) self.old self.new) piece.now result }
     {
         match self.mode {
             Mode::TextDue => {
@@ -654,8 +601,7 @@ impl Reader {
     #[inline(always)]
     pub(super) fn take_if_token<S: EventSink>(&mut self, piece: &[u8], sink: &mut S) -> usize
         requires takes { IsOpenFor self.old piece.now }
-        ensures within { result ≤ length piece.now }
-        ensures feeds { FeedsAll (S.heard sink.old) (S.heard sink.new) self.old self.new (take result piece.now) }
+        ensures { OfPrefix (FeedsAll (S.heard sink.old) (S.heard sink.new) self.old self.new) piece.now result }
     {
         if piece.len() < SHORTEST || is_on(self.mode) {
             return 0;

@@ -10,7 +10,7 @@ use Rattle.gj_number.proofs.Grammar.ScanPaths.{state-taken, reaches_part}
 use Rattle.gj_number.proofs.Grammar.StateMoves.{other_ends}
 use Rattle.gj_number.proofs.Literals.LiteralBytes.{begins as scan_begins, number_scan, may_end_is}
 
-none_after : (bytes : List ℕ) → state_after None bytes ≡ None
+pub none_after : (bytes : List ℕ) → state_after None bytes ≡ None
 none_after [] = refl
 none_after (b ∷ bytes) = refl
 

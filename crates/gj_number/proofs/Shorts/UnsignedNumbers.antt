@@ -1,5 +1,6 @@
 -- A number without a sign is found whole, up to its exponent.
-use Rattle.gj_number.proofs.Common.{All-from_recursion, Fits, IsDigit, IsFirstDigit, IsFraction, IsNatural, IsRun, List, ap, append-nil, append_assoc}
+use Rattle.gj_number.proofs.Common.{All-from_recursion, Fits, IsDigit, IsFirstDigit, IsFraction, IsNatural, IsNumberByte, IsRun, List, SpellsUnsigned}
+use Rattle.gj_number.proofs.Common.{ap, append-nil, append_assoc}
 use Rattle.gj_number.proofs.Common.{arith, cases_lt, count_trailing_zeros, decimal_point, drop, drop-cons, drop-drop, get_or, get_or-drop, inl, inr}
 use Rattle.gj_number.proofs.Common.{lane_of, leading, leb, length, length-drop, length-take-le, map, mask_l, refl, subst, suc, sym, take}
 use Rattle.gj_number.proofs.Common.{take-append-drop, w8, ℕ, [], ◌++◌, ◌+◌, ◌-◌, ◌/◌, ◌<◌, ◌^◌, ◌∙◌, ◌∷◌, ◌≡◌, ◌≤◌, ◌⊎◌}
@@ -9,7 +10,7 @@ use Rattle.std.proofs.Math.Seq.{drop-append_seam}
 use Rattle.std.proofs.lemmas.Simd.{leading_from_mask_l}
 use Rattle.gj_number.specs.Short.{StartsUnsigned}
 use Rattle.gj_number.proofs.Grammar.FoundParts.{natural_digits, all_digits}
-use Rattle.gj_number.proofs.Shorts.OrdinaryNumbers.{after_all, run_of, some_digits, point_no_digit}
+use Rattle.gj_number.proofs.Shorts.OrdinaryNumbers.{IsLaid, after_all, run_of, some_digits, point_no_digit}
 use Rattle.gj_number.proofs.Shorts.RunEnds.{digit_at, run_found}
 use Rattle.gj_number.proofs.Shorts.SixteenLanes.{lanes_long, leading_none, first_spell, first_other, next_other, next_small}
 use Rattle.gj_number.proofs.Shorts.SixteenLanes.{mask_after, lane_ends, lanes_end, two_spell}
@@ -173,3 +174,34 @@ module _ (piece lanes : List ℕ) (long : 16 ≤ length piece) (fits : (k : ℕ)
             let is : after ≡ runs.fraction =
             run_found (drop (before + 1) piece) after runs.fraction (omega (arith, length-drop (before + 1) piece)) k (λ h. after_ends) on.2 in
             omega arith
+
+-- ---- an ordinary number is found whole
+
+pub unsigned_ends : (piece : List ℕ) (first natural fraction : ℕ) → IsLaid piece first natural fraction → (n m bytes value : ℕ)
+    → SpellsUnsigned (drop first piece) n m bytes value → (IsDigit (get_or (drop first piece) n 0) → ⊥) → (IsDigit (get_or (drop first piece) bytes 0) → ⊥)
+    → (m ≡ 0 → get_or (drop first piece) n 0 ≡ decimal_point → ⊥) → bytes ≤ length (drop first piece) → IsNumberByte (get_or piece (first + bytes) 0) → ⊥
+unsigned_ends piece first natural fraction l n m bytes value k ends last point within found =
+    let xs : List ℕ = drop first piece in
+    let B : ℕ → Type 0 = λ b. IsNumberByte b in
+    let byte : IsNumberByte (get_or xs bytes 0) = subst B (sym (get_or-drop first piece bytes 0)) found in
+    let some : n ≤ length xs = elim k.shape [ inl s ↦ (let e = s.1 in omega arith) | inr s ↦ (let e = s.2 in omega arith) ] in
+    let is : n ≡ natural = run_found xs n natural some k.natural_digits (λ h. ends) l.digits in
+    let at : get_or xs n 0 ≡ get_or xs natural 0 = ap (λ i. get_or xs i 0) is in
+    elim l.rest [
+      | inl h ↦ elim k.shape [
+        | inl s ↦ h (subst B (ap (λ i. get_or xs i 0) s.1 ∙ at) byte)
+        | inr s ↦ h (inr (inr (inr (inl (sym at ∙ s.1)))))
+      ]
+      | inr h ↦ elim k.shape [
+        | inl s ↦ point s.0 (at ∙ h.0)
+        | inr s ↦
+            let e = s.2 in
+            let Q : ℕ → Type 0 = λ i. IsRun (drop (i + 1) xs) fraction in
+            let D : ℕ → Type 0 = λ b. IsDigit b in
+            let here : get_or (drop (n + 1) xs) m 0 ≡ get_or xs bytes 0 = get_or-drop (n + 1) xs m 0 ∙ ap (λ i. get_or xs i 0) (sym e) in
+            let f : m ≡ fraction =
+            run_found (drop (n + 1) xs) m fraction (omega (arith, length-drop (n + 1) xs)) k.fraction_digits (λ h. λ d. last (subst D here d)) (subst Q (sym is) h.2) in
+            let end : natural + 1 + fraction ≡ bytes = omega arith in
+            h.3 (subst B (sym (get_or-drop (natural + 1) xs fraction 0 ∙ ap (λ i. get_or xs i 0) end)) byte)
+      ]
+    ]

@@ -1,9 +1,9 @@
 //! The ordinary number that a piece starts with, read at once.
 //!
-//! Nearly all are read as sixteen bytes in lanes ([`short_number`]). A longer one, or one before an unusual byte, is
+//! Nearly all are read as sixteen bytes in lanes ([`near_number`]). A longer one is
 //! read by its runs of digits ([`long_number`]), so that each ordinary number is read. An exponent moves the point of
 //! the digits before it, so a number with a small exponent is read as the ordinary number that it is equal to.
-ghost use Rattle.std.specs.Prelude.{◌≡◌, ◌↔◌, ℕ, ◌+◌, ◌-◌, ◌*◌, ◌^◌, ◌<◌, ◌≤◌, ◌⊎◌, ◌∷◌, [], length, take, get_or, IsTrue};
+ghost use Rattle.std.specs.Prelude.{◌≡◌, ◌↔◌, ℕ, ◌+◌, ◌-◌, ◌*◌, ◌^◌, ◌<◌, ◌≤◌, ◌⊎◌, ◌∷◌, [], length, take, get_or, IfSome, IsTrue};
 ghost use Rattle.gj_number.specs.Bytes.{zero_digit, IsDigit, IsFirstDigit, IsExponentLetter, IsNumberByte};
 ghost use Rattle.gj_number.specs.Short.{exact_of, StartsWithNumber, StartsOrdinary};
 ghost use Rattle.gj_number.specs.Internal.DigitRuns.{IsRun, SpellsOn, StartsSigned};
@@ -26,7 +26,7 @@ const MOST_EXPONENT_DIGITS: usize = 3;
 
 /// The least length of a piece, so that nothing is read past its end: a sign, the digits before the point, the point,
 /// and as many bytes as the digits after it are read with.
-const ROOM: usize = 40;
+pub(crate) const ROOM: usize = 40;
 
 /// Digits that were read: how many, and the number that they spell after those before them.
 #[derive(Clone, Copy)]
@@ -60,11 +60,13 @@ fn read_there(piece: &[u8], number: &mut Short) -> usize
     ensures taken { (n : ℕ) → StartsOrdinary piece.now n → 0 < result }
 {
     let negative = piece[0] == b'-';
-    let count = short_number(piece, negative, number);
-    if count > 0 {
-        return count;
+    let Some(end) = near_number(piece, negative, number) else {
+        return other_number(piece, negative, number);
+    };
+    if is_behind(piece[end]) {
+        return end;
     }
-    other_number(piece, negative, number)
+    with_exponent(piece, end, number)
 }
 
 /// Reads the number of a piece that is too short to be read where it stands, in a copy with room after it. That of a piece
@@ -91,24 +93,33 @@ pub(crate) fn short_number(piece: &[u8], negative: bool, number: &mut Short) -> 
     requires sign { StartsSigned piece.now negative }
     ensures { 0 < result → StartsWithNumber piece.now (exact_of number.new) result }
 {
-    let first = negative as usize;
-    let Some(found) = unsigned_prefix(&piece[first..]) else {
-        return 0;
-    };
-    if !leads(piece[first], found.natural) {
-        return 0;
+    match near_number(piece, negative, number) {
+        Some(end) if is_behind(piece[end]) => end,
+        _ => 0,
     }
-    let end = first + found.length;
-    if !is_behind(piece[end]) {
-        return 0;
+}
+
+/// Reads the number up to its exponent, where that stands among the sixteen bytes after its sign. It returns the number of its bytes.
+#[inline(always)]
+fn near_number(piece: &[u8], negative: bool, number: &mut Short) -> Option<usize>
+    requires room { 40 ≤ length piece.now }
+    requires sign { StartsSigned piece.now negative }
+    ensures few { IfSome result (λ end. (0 < end) × (end ≤ 16)) }
+    ensures plain { IfSome result (λ end. SpellsPlain piece.now number.new.negative number.new.digits number.new.places end) }
+    ensures taken { IfSome result (λ end. (n : ℕ) → StartsOrdinary piece.now n → IsNumberByte (get_or piece.now end 0) → ⊥) }
+{
+    let first = negative as usize;
+    let found = unsigned_prefix(&piece[first..])?;
+    if !leads(piece[first], found.natural) {
+        return None;
     }
     number.digits = found.value;
     number.places = found.fraction as u8;
     number.negative = negative;
-    end
+    Some(first + found.length)
 }
 
-/// Reads the number that is longer or has an exponent.
+/// Reads the number that is longer.
 #[inline(never)]
 fn other_number(piece: &[u8], negative: bool, number: &mut Short) -> usize
     requires room { 40 ≤ length piece.now }
@@ -117,8 +128,8 @@ fn other_number(piece: &[u8], negative: bool, number: &mut Short) -> usize
     ensures taken { (n : ℕ) → StartsOrdinary piece.now n → 0 < result }
 {
     let count = long_number(piece, negative, number);
-    if count == 0 || !may_stand(piece[count]) {
-        return count;
+    if count == 0 {
+        return 0;
     }
     with_exponent(piece, count, number)
 }
@@ -159,15 +170,16 @@ fn long_number(piece: &[u8], negative: bool, number: &mut Short) -> usize
 }
 
 /// Reads the exponent after a number that ends at `end`, and moves the number's point by it. It returns the number of
-/// bytes of both, or 0 where no exponent follows or eighteen digits cannot express the result.
-#[inline(always)]
+/// bytes of both, or 0 where eighteen digits cannot express the result, or another byte of a number follows.
+#[inline(never)]
 fn with_exponent(piece: &[u8], end: usize, number: &mut Short) -> usize
     requires room { end + 8 ≤ length piece.now }
     requires plain { SpellsPlain piece.now number.old.negative number.old.digits number.old.places end }
-    ensures { 0 < result → StartsWithNumber piece.now (exact_of number.new) result }
+    ensures number { 0 < result → StartsWithNumber piece.now (exact_of number.new) result }
+    ensures whole { (IsNumberByte (get_or piece.now end 0) → ⊥) → result ≡ end }
 {
     if !is_letter(piece[end]) {
-        return 0;
+        return if may_stand(piece[end]) { 0 } else { end };
     }
     let sign = sign_of(piece[end + 1]);
     let first = end + 1 + sign.count;

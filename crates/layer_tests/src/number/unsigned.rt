@@ -1,6 +1,6 @@
 //! What no clause says: how many bytes numbers have at the start of a piece, and which are left.
 use crate::checks::equal;
-use gj_number::unsigned_run;
+use gj_number::{number_run, unsigned_run};
 
 /// How many bytes are found at the start of the text with spaces after it.
 fn found(text: &str) -> usize {
@@ -52,5 +52,26 @@ static OTHERS: [(&str, &str); 11] = [
 fn leaves_other_pieces(rt: HostRuntime) {
     for (case, text) in OTHERS.iter() {
         equal(&rt, found(text), 0, case);
+    }
+}
+
+/// A text, how many bytes the number has that it starts with, whole with a byte after it, and what it is.
+static WHOLE: [(&str, usize, &str); 6] = [
+    ("-17,", 3, "a sign"),
+    ("1.5e3]", 5, "an exponent"),
+    (
+        "12345678901234567890123456789012345678.5E-400}",
+        45,
+        "more digits than are read at once",
+    ),
+    ("01,", 1, "a zero before another digit"),
+    ("1.,", 0, "no digit after the point"),
+    ("12", 0, "no byte after it"),
+];
+
+#[test]
+fn counts_any_number(rt: HostRuntime) {
+    for (text, count, case) in WHOLE.iter() {
+        equal(&rt, number_run(text.as_bytes()), *count, case);
     }
 }

@@ -15,6 +15,7 @@ use Rattle.report_forms.specs.declared.options.Strictness.{Strictness}
 use Rattle.geolint_report.specs.declared.sites.Spot.{Spot}
 use Rattle.geolint_report.specs.declared.texts.Code.{Code}
 use Rattle.report_forms.specs.Forms.Github.{escaped_in_message, github_file, github_spot}
+use Rattle.report_forms.specs.Forms.Gitlab.{gitlab_object, severity_of}
 use Rattle.report_forms.specs.Forms.Json.{json_told}
 use Rattle.report_forms.specs.Forms.Lines.{beginning, ending, and_spot, lines_code}
 use Rattle.report_forms.specs.Forms.Messages.{and_path, level_of}
@@ -58,6 +59,17 @@ some_id before id = before ++ shown_name id
 abbrev pub id_behind : List ℕ → List ℕ → List ℕ
 id_behind before id = if is_nothing id then [] else some_id before id
 
+unfoldable pub and_byte : ℕ → List ℕ
+and_byte place = codes ", at byte " ++ decimal place
+
+-- what a message says, as it is read
+unfoldable pub entry_text : Entry → List ℕ
+entry_text entry =
+    code_text entry.note.told.code
+    ++ (codes ", "
+    ++ (item_text entry.note.item
+    ++ (id_behind (codes ", id ") entry.id.now ++ (and_byte entry.note.told.place ++ and_path (path_at entry.mark)))))
+
 -- ---- text
 
 unfoldable pub text_some_spot : Spot → List ℕ
@@ -89,9 +101,6 @@ lines_where style name spot = beginning Part.Name style ++ (shown_name name ++ (
 abbrev pub note_part : Code → Part
 note_part (Code.Kind kind) = Part.Warning
 note_part code = Part.Fault
-
-unfoldable pub and_byte : ℕ → List ℕ
-and_byte place = codes ", at byte " ++ decimal place
 
 -- the offset, where the line is not known
 abbrev pub byte_behind : ℕ → Option Spot → List ℕ
@@ -142,25 +151,27 @@ json_more name count = codes "{\"path\":" ++ (name ++ (codes ",\"more\":" ++ (de
 
 -- ---- github
 
-unfoldable pub github_some_id : List ℕ → List ℕ
-github_some_id id = codes ", id " ++ flat_map escaped_in_message (shown_name id)
-
-abbrev pub github_id : List ℕ → List ℕ
-github_id id = if is_nothing id then [] else github_some_id id
-
-unfoldable pub github_text : Entry → List ℕ
-github_text entry =
-    codes "::"
-    ++ (code_text entry.note.told.code
-    ++ (codes ", "
-    ++ (item_text entry.note.item ++ (github_id entry.id.now ++ (and_byte entry.note.told.place ++ (and_path (path_at entry.mark) ++ codes "\n"))))))
-
 unfoldable pub github_entry : List ℕ → Entry → List ℕ
 github_entry level entry =
-    github_file level entry.name.now ++ (github_spot (spot_at entry.mark) ++ (codes ",title=" ++ (code_name entry.note.told.code ++ github_text entry)))
+    github_file level entry.name.now
+    ++ (github_spot (spot_at entry.mark)
+    ++ (codes ",title="
+    ++ (code_name entry.note.told.code ++ (codes "::" ++ (flat_map escaped_in_message (entry_text entry) ++ codes "\n")))))
 
 unfoldable pub github_more : List ℕ → ℕ → List ℕ
 github_more name count = github_file (codes "notice") name ++ (codes "::" ++ (and_more count ++ codes "\n"))
+
+-- ---- gitlab
+
+abbrev pub severity_in : Strictness → Entry → List ℕ
+severity_in strictness entry = severity_of (note_fails strictness entry.note.told.code)
+
+abbrev pub gitlab_entry : List ℕ → Entry → List ℕ
+gitlab_entry severity entry =
+    gitlab_object severity (code_name entry.note.told.code) (entry_text entry) entry.note.told.place entry.name.now (spot_at entry.mark)
+
+abbrev pub gitlab_more : List ℕ → ℕ → List ℕ
+gitlab_more name count = gitlab_object (codes "info") (codes "more") (and_more count) 0 name None
 
 -- ---- sarif
 
@@ -202,6 +213,7 @@ IsEntry Format.Lines style is_first entry strictness bytes = bytes ≡ lines_ent
 IsEntry Format.Json style is_first entry strictness bytes =
     (name id : List ℕ) × SpellsString entry.name.now name × SpellsString entry.id.now id × (bytes ≡ json_entry name id entry)
 IsEntry Format.Github style is_first entry strictness bytes = bytes ≡ github_entry (level_in strictness entry) entry
+IsEntry Format.Gitlab style is_first entry strictness bytes = bytes ≡ break_unless is_first ++ gitlab_entry (severity_in strictness entry) entry
 IsEntry Format.Sarif style is_first entry strictness bytes =
     (id : List ℕ) × SpellsString entry.id.now id × (bytes ≡ break_unless is_first ++ sarif_entry (level_in strictness entry) id entry)
 
@@ -214,12 +226,14 @@ IsMore Format.Text style is_first name count bytes = bytes ≡ text_more count
 IsMore Format.Lines style is_first name count bytes = bytes ≡ lines_more style name count
 IsMore Format.Json style is_first name count bytes = (spelled : List ℕ) × SpellsString name spelled × (bytes ≡ json_more spelled count)
 IsMore Format.Github style is_first name count bytes = bytes ≡ github_more name count
+IsMore Format.Gitlab style is_first name count bytes = bytes ≡ break_unless is_first ++ gitlab_more name count
 IsMore Format.Sarif style is_first name count bytes = bytes ≡ break_unless is_first ++ sarif_more name count
 
 abbrev pub TellsMore : Format → Style → Bool → List ℕ → ℕ → Vec ℕ Global → Vec ℕ Global → Type 0
 TellsMore format style is_first name count old new = (bytes : List ℕ) × IsMore format style is_first name count bytes × Adds old new bytes
 
--- whether a log has no result yet, once one was reported
+-- whether a log or an array has nothing yet, once one was reported
 abbrev pub first_behind : Format → Bool → Bool
+first_behind Format.Gitlab is_first = false
 first_behind Format.Sarif is_first = false
 first_behind format is_first = is_first

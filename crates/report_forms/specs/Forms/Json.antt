@@ -6,7 +6,6 @@ use Rattle.gj_coords.specs.declared.kind.Kind.{Kind}
 use Rattle.gj_coords.specs.declared.warnings.Warnings.{Warnings}
 use Rattle.gj_coords.specs.Warnings.{kinds}
 use Rattle.gj_hints.specs.declared.kind.Hint.{Hint}
-use Rattle.gj_hints.specs.Texts.{text_of}
 use Rattle.gj_json.specs.declared.path.Path.{Path}
 use Rattle.gj_json.specs.declared.path.PathStep.{PathStep}
 use Rattle.gj_json.specs.Path.{steps_of}
@@ -21,18 +20,21 @@ use Rattle.geolint_report.specs.Found.{found_bytes}
 use Rattle.gj_places.specs.Strings.{SpellsString}
 use Rattle.geolint_report.specs.Report.{warning_of, spot_of, path_of}
 use Rattle.geolint_report.specs.Texts.{code_name, code_text}
+use Rattle.report_forms.specs.Forms.Hints.{hint_text}
 use Rattle.report_forms.specs.Forms.Messages.{path_text}
+use Rattle.report_forms.specs.Forms.Pointers.{pointer_or_null}
+use Rattle.report_forms.specs.Names.{in_string}
 
 abbrev pub json_spot : Option Spot → List ℕ
 json_spot (Some spot) = codes ",\"line\":" ++ (decimal spot.line ++ (codes ",\"column\":" ++ decimal spot.column))
 json_spot None = codes ",\"line\":null,\"column\":null"
 
 unfoldable pub json_path_string : List PathStep → List ℕ
-json_path_string steps = codes ",\"json_path\":\"" ++ (path_text steps ++ codes "\"")
+json_path_string steps = codes ",\"json_path\":\"" ++ (path_text steps ++ (codes "\",\"pointer\":" ++ pointer_or_null steps))
 
 abbrev pub json_path : Option Path → List ℕ
 json_path (Some path) = json_path_string (steps_of path)
-json_path None = codes ",\"json_path\":null"
+json_path None = codes ",\"json_path\":null,\"pointer\":null"
 
 -- the members for a fault or a kind of warning at a place
 unfoldable pub json_told : Told → Option Spot → Option Path → List ℕ
@@ -50,7 +52,7 @@ json_head name finding passes =
 
 -- where no rule is broken
 unfoldable pub json_nothing : List ℕ
-json_nothing = codes ",\"rule\":null,\"text\":null,\"offset\":null,\"line\":null,\"column\":null,\"json_path\":null"
+json_nothing = codes ",\"rule\":null,\"text\":null,\"offset\":null,\"line\":null,\"column\":null,\"json_path\":null,\"pointer\":null"
 
 abbrev pub json_placed : Report → Told → List ℕ
 json_placed report told = json_told told (spot_of report told.place) (path_of report told)
@@ -64,13 +66,13 @@ abbrev pub IsJsonFound : Option Found → List ℕ → Type 0
 IsJsonFound (Some found) bytes = (text : List ℕ) × SpellsString (found_bytes found) text × (bytes ≡ codes ",\"found\":" ++ text)
 IsJsonFound None bytes = bytes ≡ codes ",\"found\":null"
 
-unfoldable pub json_hint_text : Hint → List ℕ
-json_hint_text hint = codes ",\"hint\":\"" ++ (text_of hint ++ codes "\"")
+unfoldable pub json_hint_text : List ℕ → List ℕ
+json_hint_text text = codes ",\"hint\":\"" ++ (flat_map in_string text ++ codes "\"")
 
 -- what the file looks like
-abbrev pub json_hint : Option Hint → List ℕ
-json_hint (Some hint) = json_hint_text hint
-json_hint None = codes ",\"hint\":null"
+abbrev pub json_hint : List ℕ → Option Hint → List ℕ
+json_hint name (Some hint) = json_hint_text (hint_text name hint)
+json_hint name None = codes ",\"hint\":null"
 
 -- the object of a kind of warning, which is given so often
 unfoldable pub json_object : Report → Told → ℕ → List ℕ
@@ -105,11 +107,11 @@ unfoldable pub json_line : List ℕ → List ℕ → Report → List ℕ
 json_line name found report =
     json_head name report.finding report.passes
     ++ (json_fault report (fault_of report.finding)
-    ++ (found ++ (json_hint report.hint ++ (codes ",\"warnings\":[" ++ (json_warnings_of report (warnings_of report.finding) ++ codes "]}\n")))))
+    ++ (found ++ (json_hint report.name.now report.hint ++ (codes ",\"warnings\":[" ++ (json_warnings_of report (warnings_of report.finding) ++ codes "]}\n")))))
 
 -- the line of a file that could not be opened or read
 unfoldable pub json_unread : List ℕ → List ℕ → List ℕ
 json_unread name reason =
     codes "{\"path\":"
     ++ (name ++ (codes ",\"verdict\":\"not read\",\"passes\":false,\"record\":null,\"records\":null,\"rule\":null,\"text\":"
-    ++ (reason ++ codes ",\"offset\":null,\"line\":null,\"column\":null,\"json_path\":null,\"found\":null,\"hint\":null,\"warnings\":[]}\n")))
+    ++ (reason ++ codes ",\"offset\":null,\"line\":null,\"column\":null,\"json_path\":null,\"pointer\":null,\"found\":null,\"hint\":null,\"warnings\":[]}\n")))

@@ -5,9 +5,7 @@ use Rattle.std.specs.List.{flat_map}
 use Rattle.unicode_width.specs.Width.{str_width}
 use Rattle.gj_coords.specs.declared.kind.Kind.{Kind}
 use Rattle.gj_coords.specs.declared.warnings.Warnings.{Warnings}
-use Rattle.gj_coords.specs.Warnings.{kinds}
 use Rattle.gj_hints.specs.declared.kind.Hint.{Hint}
-use Rattle.gj_hints.specs.Texts.{text_of}
 use Rattle.gj_json.specs.declared.path.Path.{Path}
 use Rattle.gj_json.specs.Path.{steps_of}
 use Rattle.gj_places.specs.declared.excerpt.Excerpt.{Excerpt}
@@ -25,6 +23,7 @@ use Rattle.geolint_report.specs.Texts.{code_name, code_text}
 use Rattle.report_forms.specs.declared.formats.lines.Part.{Part}
 use Rattle.report_forms.specs.declared.formats.lines.Style.{Style}
 use Rattle.report_forms.specs.Names.{shown_name}
+use Rattle.report_forms.specs.Forms.Hints.{hint_text}
 use Rattle.report_forms.specs.Forms.Messages.{path_text}
 
 -- ---- colour: what begins a part, after an escape character, and what ends it
@@ -101,8 +100,12 @@ lines_warning style report told count = lines_line style Part.Warning (codes "wa
 abbrev pub lines_kind : Style → Report → Warnings → Kind → List ℕ
 lines_kind style report warnings kind = of_warning (lines_warning style report) (warning_of kind warnings)
 
+-- positions out of range, as metres are, stand before their long numbers
+abbrev pub shown_kinds : List Kind
+shown_kinds = Kind.W1 ∷ Kind.W2 ∷ Kind.W3 ∷ Kind.W5 ∷ Kind.W4 ∷ Kind.W6 ∷ Kind.W7 ∷ Kind.W8 ∷ Kind.W9 ∷ []
+
 unfoldable pub lines_warnings : Style → Report → Warnings → List ℕ
-lines_warnings style report warnings = flat_map (lines_kind style report warnings) kinds
+lines_warnings style report warnings = flat_map (lines_kind style report warnings) shown_kinds
 
 unfoldable pub lines_not_valid : Style → List ℕ → List ℕ
 lines_not_valid style name = beginning Part.Name style ++ (shown_name name ++ (ending style ++ codes ": not valid\n"))
@@ -142,12 +145,12 @@ lines_found None = []
 
 -- ---- what the file looks like
 
-unfoldable pub hint_line : Hint → List ℕ
-hint_line hint = codes "    hint: " ++ (text_of hint ++ codes "\n")
+unfoldable pub hint_line : List ℕ → Hint → List ℕ
+hint_line name hint = codes "    hint: " ++ (hint_text name hint ++ codes "\n")
 
-abbrev pub lines_hint : Option Hint → List ℕ
-lines_hint (Some hint) = hint_line hint
-lines_hint None = []
+abbrev pub lines_hint : List ℕ → Option Hint → List ℕ
+lines_hint name (Some hint) = hint_line name hint
+lines_hint name None = []
 
 -- ---- the lines of a file, before that
 

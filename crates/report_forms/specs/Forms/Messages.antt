@@ -1,9 +1,6 @@
 -- The text of a path, and what a message may say besides its text.
 use Rattle.std.specs.Prelude.{ℕ, Bool, List, [], ◌++◌, Option, Some, None, codes, if◌then◌else◌, nat_lt}
 use Rattle.std.specs.Fmt.{decimal}
-use Rattle.gj_coords.specs.declared.kind.Kind.{Kind}
-use Rattle.gj_hints.specs.declared.kind.Hint.{Hint}
-use Rattle.gj_hints.specs.Texts.{text_of}
 use Rattle.gj_json.specs.declared.path.Path.{Path}
 use Rattle.gj_json.specs.declared.path.PathStep.{PathStep}
 use Rattle.gj_json.specs.Path.{steps_of}
@@ -32,15 +29,10 @@ abbrev pub and_path : Option Path → List ℕ
 and_path (Some path) = path_behind (steps_of path)
 and_path None = []
 
--- a hint is on the fault or, where there is none, on the positions out of range
-abbrev pub hint_on : Code → Option Hint → Option Hint
-hint_on (Code.Kind Kind.W5) hint = hint
-hint_on (Code.Kind kind) hint = None
-hint_on code hint = hint
-
-abbrev pub and_hint : Option Hint → List ℕ
-and_hint (Some hint) = codes "; hint: " ++ text_of hint
-and_hint None = []
+-- none where no place is reported
+abbrev pub if_placed : Code → List ℕ → List ℕ
+if_placed Code.NotValid bytes = []
+if_placed code bytes = bytes
 
 -- of a warning, which fails a file or not
 abbrev pub level_of : Bool → List ℕ

@@ -4,23 +4,21 @@ use Rattle.std.specs.Char.{is_ascii_alphanumeric}
 use Rattle.std.specs.Fmt.{decimal}
 use Rattle.std.specs.List.{flat_map, list_any}
 use Rattle.gj_coords.specs.declared.kind.Kind.{Kind}
-use Rattle.gj_coords.specs.declared.warnings.Warnings.{Warnings}
-use Rattle.gj_coords.specs.Warnings.{kinds}
 use Rattle.gj_json.specs.declared.path.Path.{Path}
 use Rattle.gj_json.specs.declared.path.PathStep.{PathStep}
 use Rattle.gj_json.specs.Path.{steps_of}
 use Rattle.geolint_report.specs.declared.report.Report.{Report}
-use Rattle.geolint_report.specs.declared.report.Told.{Told}
 use Rattle.geolint_report.specs.declared.sites.Spot.{Spot}
 use Rattle.geolint_report.specs.declared.texts.Code.{Code}
-use Rattle.geolint_report.specs.Finding.{record_of, fault_of, warnings_of}
+use Rattle.geolint_report.specs.Finding.{record_of}
 use Rattle.geolint_report.specs.Line.{truth}
-use Rattle.geolint_report.specs.Report.{warning_of, spot_of, path_of}
+use Rattle.geolint_report.specs.Report.{spot_of, path_of}
 use Rattle.geolint_report.specs.Texts.{code_name, code_text}
-use Rattle.report_forms.specs.declared.options.Strictness.{Strictness}
-use Rattle.report_forms.specs.Forms.Messages.{and_record, and_times, and_hint, hint_on, level_of, path_text}
-use Rattle.report_forms.specs.Names.{digit_in}
-use Rattle.report_forms.specs.Passing.{fails}
+use Rattle.gj_manual.specs.Manual.{section_of as manual_of}
+use Rattle.report_forms.specs.declared.formats.issues.Issue.{Issue}
+use Rattle.report_forms.specs.Forms.Hints.{and_hint, hint_on}
+use Rattle.report_forms.specs.Forms.Messages.{and_record, and_times, if_placed, level_of, path_text}
+use Rattle.report_forms.specs.Names.{digit_in, in_string}
 use Rattle.geolint_report.specs.declared.texts.TheConstants.{ALL}
 pub use Rattle.gj_rules.specs.Records.{are_none as is_nothing}
 
@@ -44,9 +42,10 @@ unfoldable pub uri_of : List ℕ → List ℕ
 uri_of name = scheme_of name ++ (flat_map in_uri name ++ codes "\"")
 
 -- ---- a result
-unfoldable pub sarif_message : Report → Told → ℕ → List ℕ
-sarif_message report told count =
-    code_text told.code ++ (and_record (record_of report.finding) ++ (and_times count ++ and_hint (hint_on told.code report.hint)))
+unfoldable pub sarif_message : Report → Issue → List ℕ
+sarif_message report issue =
+    code_text issue.told.code
+    ++ (and_record (record_of report.finding) ++ (and_times issue.count ++ and_hint report.name.now (hint_on issue.told.code report.hint)))
 
 -- where a file is, in what follows a message
 unfoldable pub location : List ℕ → List ℕ
@@ -63,11 +62,6 @@ unfoldable pub region : Report → ℕ → List ℕ
 region report place =
     codes ",\"region\":{" ++ (region_start_of (spot_of report place) ++ (codes "\"byteOffset\":" ++ (decimal place ++ codes ",\"byteLength\":0}")))
 
--- none where no place is reported
-abbrev pub region_if : Code → List ℕ → List ℕ
-region_if Code.NotValid bytes = []
-region_if code bytes = bytes
-
 unfoldable pub logical_location : List PathStep → List ℕ
 logical_location steps = codes ",\"logicalLocations\":[{\"fullyQualifiedName\":\"" ++ (path_text steps ++ codes "\"}]")
 
@@ -75,44 +69,18 @@ abbrev pub logical_location_of : Option Path → List ℕ
 logical_location_of (Some path) = logical_location (steps_of path)
 logical_location_of None = []
 
--- what is reported at a place, so often
-unfoldable pub sarif_result : Report → List ℕ → Told → ℕ → List ℕ
-sarif_result report level told count =
+unfoldable pub sarif_result : Report → Issue → List ℕ
+sarif_result report issue =
     codes "{\"ruleId\":\""
-    ++ (code_name told.code
+    ++ (code_name issue.told.code
     ++ (codes "\",\"level\":\""
-    ++ (level
+    ++ (level_of issue.is_failure
     ++ (codes "\",\"message\":{\"text\":\""
-    ++ (sarif_message report told count
+    ++ (flat_map in_string (sarif_message report issue)
     ++ (codes "\"}"
     ++ (location report.name.now
-    ++ (region_if told.code (region report told.place) ++ (codes "}" ++ (logical_location_of (path_of report told) ++ codes "}]}"))))))))))
-
-abbrev pub not_valid : Told
-not_valid = record { code = Code.NotValid; place = 0 }
-
--- one, or none where there is no warning of the kind
-abbrev pub sarif_results : Report → List ℕ → Option (Told × ℕ) → List (List ℕ)
-sarif_results report level (Some warning) = sarif_result report level warning.0 warning.1 ∷ []
-sarif_results report level None = []
-
-abbrev pub sarif_kind : Report → Strictness → Warnings → Kind → List (List ℕ)
-sarif_kind report strictness warnings kind = sarif_results report (level_of (fails strictness kind)) (warning_of kind warnings)
-
-unfoldable pub sarif_warnings : Report → Strictness → Warnings → List (List ℕ)
-sarif_warnings report strictness warnings = flat_map (sarif_kind report strictness warnings) kinds
-
-abbrev pub sarif_rest : Report → Strictness → Option Warnings → List (List ℕ)
-sarif_rest report strictness (Some warnings) = sarif_warnings report strictness warnings
-sarif_rest report strictness None = sarif_result report (codes "error") not_valid 1 ∷ []
-
-abbrev pub sarif_found : Report → Strictness → Option Told → List (List ℕ)
-sarif_found report strictness (Some told) = sarif_result report (codes "error") told 1 ∷ []
-sarif_found report strictness None = sarif_rest report strictness (warnings_of report.finding)
-
--- the results of a file
-abbrev pub sarif_told : Report → Strictness → List (List ℕ)
-sarif_told report strictness = sarif_found report strictness (fault_of report.finding)
+    ++ (if_placed issue.told.code (region report issue.told.place)
+    ++ (codes "}" ++ (logical_location_of (path_of report issue.told) ++ codes "}]}"))))))))))
 
 -- ---- what stands between two
 
@@ -150,6 +118,14 @@ abbrev pub section_of : Code → List ℕ
 section_of Code.NotValid = codes "what geolint says"
 section_of code = explained code
 
+-- the section itself, for GitHub
+unfoldable pub manual_member : Code → List ℕ
+manual_member code = codes "\",\"markdown\":\"" ++ flat_map in_string (manual_of code)
+
+abbrev pub markdown_of : Code → List ℕ
+markdown_of Code.NotValid = []
+markdown_of code = manual_member code
+
 -- the level of what is reported under a code
 abbrev pub code_level : Code → List ℕ
 code_level (Code.Kind kind) = codes "warning"
@@ -162,7 +138,7 @@ sarif_rule code =
     ++ (codes "\",\"shortDescription\":{\"text\":\""
     ++ (code_text code
     ++ (codes "\"},\"help\":{\"text\":\"docs/rules.md, "
-    ++ (section_of code ++ (codes "\"},\"defaultConfiguration\":{\"level\":\"" ++ (code_level code ++ codes "\"}}")))))))
+    ++ (section_of code ++ (markdown_of code ++ (codes "\"},\"defaultConfiguration\":{\"level\":\"" ++ (code_level code ++ codes "\"}}"))))))))
 
 abbrev pub rule_and_break : Code → List ℕ
 rule_and_break code = sarif_rule code ++ codes ",\n"

@@ -2,7 +2,7 @@
 use Rattle.std.specs.Prelude.{ℕ, Bool, true, false, List, [], ◌∷◌}
 use Rattle.report_forms.specs.Forms.Json.{with_commas, behind_commas}
 
-abbrev pub is_none_yet : List (List ℕ) → Bool
+abbrev pub is_none_yet : {A : Type 0} → List A → Bool
 is_none_yet [] = true
 is_none_yet (item ∷ more) = false
 

@@ -1,10 +1,10 @@
 //! What the forms have in common.
 ghost use Rattle.std.specs.Prelude.{OnOk};
-ghost use Rattle.report_forms.specs.Forms.Features.{item_text, and_more, note_word, path_at, id_behind, some_id, and_byte};
+ghost use Rattle.report_forms.specs.Forms.Features.{item_text, and_more, note_word, path_at, id_behind, some_id, and_byte, entry_text};
 ghost use Rattle.report_forms.specs.Forms.Messages.{and_path};
 ghost use Rattle.geolint_report.specs.Line.{Adds};
 
-use crate::every::entry::{note_word, path_at};
+use crate::every::entry::{Entry, note_word, path_at};
 use crate::formats::{put_and_path, put_name};
 use geolint_report::every::cursor::Mark;
 use geolint_report::every::listing::Item;
@@ -61,6 +61,18 @@ fn put_some_id(before: &[u8], id: &[u8], line: &mut Vec<u8>) -> Result<(), Alloc
 {
     put(line, before)?;
     put_name(id, line)
+}
+
+/// Puts what a message says, as it is read: no character is escaped.
+pub fn put_entry_text(entry: &Entry<'_>, line: &mut Vec<u8>) -> Result<(), AllocError>
+    ensures { OnOk result (Adds line.old line.new (entry_text entry.now)) }
+{
+    entry.note.told.code.put_text(line)?;
+    put(line, b", ")?;
+    put_item(entry.note.item, line)?;
+    put_id_behind(b", id ", entry.id, line)?;
+    put_and_byte(entry.note.told.place, line)?;
+    put_path_at(entry.mark, line)
 }
 
 /// Puts the offset.

@@ -1,12 +1,12 @@
 //! The form `github`: a command for each finding.
 ghost use Rattle.std.specs.Prelude.{OnOk};
 ghost use Rattle.geolint_report.specs.Line.{Adds};
-ghost use Rattle.report_forms.specs.Forms.Features.{github_entry, github_text, github_id, github_some_id, github_more, level_in, spot_at};
+ghost use Rattle.report_forms.specs.Forms.Features.{github_entry, github_more, level_in, spot_at};
 ghost use Rattle.report_forms.specs.Forms.Github.{github_spot};
 
 use crate::every::entry::{Entry, note_fails, spot_at};
-use crate::every::forms::{put_and_byte, put_and_more, put_item, put_path_at};
-use crate::formats::github::{put_file, put_shown, put_spot};
+use crate::every::forms::{put_and_more, put_entry_text};
+use crate::formats::github::{put_file, put_in_message, put_spot};
 use crate::formats::level;
 use crate::options::Options;
 use geolint_report::every::cursor::Mark;
@@ -38,48 +38,21 @@ fn put_command(
 ) -> Result<(), AllocError>
     ensures { OnOk result (Adds line.old line.new (github_entry level.now entry.now)) }
 {
+    let mut text = Vec::new(alloc);
+    put_entry_text(entry, &mut text)?;
     put_file(alloc, level, entry.name, line)?;
     put_spot_at(entry.mark, line)?;
     put(line, b",title=")?;
     entry.note.told.code.put_name(line)?;
-    put_message(alloc, entry, line)
+    put(line, b"::")?;
+    put_in_message(text.as_slice(), line)?;
+    put(line, b"\n")
 }
 
 fn put_spot_at(mark: Option<Mark>, line: &mut Vec<u8>) -> Result<(), AllocError>
     ensures { OnOk result (Adds line.old line.new (github_spot (spot_at mark))) }
 {
     put_spot(spot_at(mark), line)
-}
-
-fn put_message(alloc: Global, entry: &Entry<'_>, line: &mut Vec<u8>) -> Result<(), AllocError>
-    ensures { OnOk result (Adds line.old line.new (github_text entry.now)) }
-{
-    put(line, b"::")?;
-    entry.note.told.code.put_text(line)?;
-    put(line, b", ")?;
-    put_item(entry.note.item, line)?;
-    put_id(alloc, entry.id, line)?;
-    put_and_byte(entry.note.told.place, line)?;
-    put_path_at(entry.mark, line)?;
-    put(line, b"\n")
-}
-
-fn put_id(alloc: Global, id: &[u8], line: &mut Vec<u8>) -> Result<(), AllocError>
-    ensures { OnOk result (Adds line.old line.new (github_id id.now)) }
-{
-    if id.is_empty() {
-        Ok(())
-    } else {
-        put_some_id(alloc, id, line)
-    }
-}
-
-#[tactic(auto, unfolding(crate::specs::Forms::Features::github_some_id))]
-fn put_some_id(alloc: Global, id: &[u8], line: &mut Vec<u8>) -> Result<(), AllocError>
-    ensures { OnOk result (Adds line.old line.new (github_some_id id.now)) }
-{
-    put(line, b", id ")?;
-    put_shown(alloc, id, line)
 }
 
 /// Puts the command on what is not reported.

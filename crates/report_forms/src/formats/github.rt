@@ -1,22 +1,18 @@
 //! Workflow commands of GitHub, which shows them at the line.
 ghost use Rattle.std.specs.Prelude.{◌≡◌, OnOk};
 ghost use Rattle.std.specs.List.{flat_map};
-ghost use Rattle.geolint_report.specs.Finding.{warnings_of};
 ghost use Rattle.geolint_report.specs.Line.{Adds};
-ghost use Rattle.report_forms.specs.Forms.Github.{escaped_in_message, escaped_in_property, github_file, github_spot, github_some_found, github_found, github_advice, github_mark, github_message};
+ghost use Rattle.report_forms.specs.Forms.Github.{escaped_in_message, escaped_in_property, github_file, github_spot, github_title, github_command};
+ghost use Rattle.report_forms.specs.Forms.Github.{github_told, github_unread};
 ghost use Rattle.report_forms.specs.Names.{shown_name};
-ghost use Rattle.report_forms.specs.Forms.Github.{github_command, github_warning, github_warnings, github_not_valid, github_rest, github_told, github_unread};
 
-use crate::formats::{
-    hint_on, level, put_and_hint, put_and_path, put_and_record, put_and_times, put_name,
-};
+use crate::formats::issues::{Issue, issues, put_issue_text};
+use crate::formats::{level, put_name};
 use crate::options::Options;
-use geolint_report::found::Found;
-use geolint_report::line::{put, put_all, put_number};
-use geolint_report::report::{Report, Told, warning};
+use geolint_report::line::{put, put_all};
+use geolint_report::report::Report;
 use geolint_report::sites::Spot;
 use geolint_report::texts::Code;
-use gj_coords::{KINDS, Kind, Warnings};
 use itoa::Buffer;
 use std::alloc::{AllocError, Global};
 
@@ -29,73 +25,38 @@ pub fn put_report(
 ) -> Result<(), AllocError>
     ensures { OnOk result (Adds line.old line.new (github_told report.now options.now.strictness)) }
 {
-    match report.finding.fault() {
-        Some(told) => put_command(alloc, b"error", report, &told, 1, line),
-        None => put_rest(alloc, report, options, line),
-    }
-}
-
-/// The commands where there is no fault to report.
-fn put_rest(
-    alloc: Global,
-    report: &Report<'_>,
-    options: &Options,
-    line: &mut Vec<u8>,
-) -> Result<(), AllocError>
-    ensures { OnOk result (Adds line.old line.new (github_rest report.now options.now.strictness (warnings_of report.now.finding))) }
-{
-    match report.finding.warnings() {
-        Some(warnings) => put_warnings(alloc, report, options, &warnings, line),
-        None => put_not_valid(alloc, report.name, line),
-    }
-}
-
-fn put_warnings(
-    alloc: Global,
-    report: &Report<'_>,
-    options: &Options,
-    warnings: &Warnings,
-    line: &mut Vec<u8>,
-) -> Result<(), AllocError>
-    ensures { OnOk result (Adds line.old line.new (github_warnings report.now options.now.strictness warnings.now)) }
-{
-    for kind in &KINDS {
-        put_warning(alloc, report, options, warnings, *kind, line)?;
+    let issues = issues(alloc, &report.finding, options)?;
+    for issue in issues.as_slice() {
+        put_command(alloc, report, issue, line)?;
     }
     Ok(())
 }
 
-/// The command of a kind of warning, where there is one.
-fn put_warning(
+fn put_command(
     alloc: Global,
     report: &Report<'_>,
-    options: &Options,
-    warnings: &Warnings,
-    kind: Kind,
+    issue: &Issue,
     line: &mut Vec<u8>,
 ) -> Result<(), AllocError>
-    ensures { OnOk result (Adds line.old line.new (github_warning report.now options.now.strictness warnings.now kind)) }
+    ensures { OnOk result (Adds line.old line.new (github_command report.now issue.now)) }
 {
-    match warning(kind, warnings) {
-        Some((told, count)) => {
-            put_command(
-                alloc,
-                level(options.strictness.fails(kind)),
-                report,
-                &told,
-                count,
-                line,
-            )
-        }
-        None => Ok(()),
-    }
+    let mut text = Vec::new(alloc);
+    put_issue_text(alloc, report, issue, &mut text)?;
+    put_file(alloc, level(issue.is_failure), report.name, line)?;
+    put_spot(report.spot(issue.told.place), line)?;
+    put_title(issue.told.code, line)?;
+    put(line, b"::")?;
+    put_in_message(text.as_slice(), line)?;
+    put(line, b"\n")
 }
 
-fn put_not_valid(alloc: Global, name: &[u8], line: &mut Vec<u8>) -> Result<(), AllocError>
-    ensures { OnOk result (Adds line.old line.new (github_not_valid name.now)) }
+fn put_title(code: Code, line: &mut Vec<u8>) -> Result<(), AllocError>
+    ensures { OnOk result (Adds line.old line.new (github_title code)) }
 {
-    put_file(alloc, b"error", name, line)?;
-    put(line, b"::not valid\n")
+    match code {
+        Code::NotValid => Ok(()),
+        code => put_all(line, &[b",title=", code.name().as_bytes()]),
+    }
 }
 
 /// The level and the file, as its name is shown.
@@ -111,23 +72,6 @@ pub fn put_file(
     let mut shown = Vec::new(alloc);
     put_name(name, &mut shown)?;
     put_in_property(shown.as_slice(), line)
-}
-
-fn put_command(
-    alloc: Global,
-    level: &[u8],
-    report: &Report<'_>,
-    told: &Told,
-    count: u32,
-    line: &mut Vec<u8>,
-) -> Result<(), AllocError>
-    ensures { OnOk result (Adds line.old line.new (github_command report.now level.now told.now count)) }
-{
-    put_file(alloc, level, report.name, line)?;
-    put_spot(report.spot(told.place), line)?;
-    put(line, b",title=")?;
-    told.code.put_name(line)?;
-    put_message(alloc, report, told, count, line)
 }
 
 pub fn put_spot(spot: Option<Spot>, line: &mut Vec<u8>) -> Result<(), AllocError>
@@ -148,74 +92,6 @@ pub fn put_spot(spot: Option<Spot>, line: &mut Vec<u8>) -> Result<(), AllocError
             )
         }
         None => Ok(()),
-    }
-}
-
-fn put_message(
-    alloc: Global,
-    report: &Report<'_>,
-    told: &Told,
-    count: u32,
-    line: &mut Vec<u8>,
-) -> Result<(), AllocError>
-    ensures { OnOk result (Adds line.old line.new (github_message report.now told.now count)) }
-{
-    put(line, mark(told.code))?;
-    told.code.put_text(line)?;
-    put_and_record(report.finding.record(), line)?;
-    put_and_times(count, line)?;
-    put(line, b", at byte ")?;
-    put_number(line, told.place)?;
-    put_and_path(report.path(told), line)?;
-    put_advice(alloc, report, told.code, line)
-}
-
-fn put_advice(
-    alloc: Global,
-    report: &Report<'_>,
-    code: Code,
-    line: &mut Vec<u8>,
-) -> Result<(), AllocError>
-    ensures { OnOk result (Adds line.old line.new (github_advice report.now code)) }
-{
-    put_found(alloc, report.found, line)?;
-    put_and_hint(hint_on(code, report.hint), line)?;
-    put(line, b"\n")
-}
-
-fn put_found(alloc: Global, found: Option<Found>, line: &mut Vec<u8>) -> Result<(), AllocError>
-    ensures { OnOk result (Adds line.old line.new (github_found found)) }
-{
-    match found {
-        Some(found) => put_some_found(alloc, &found, line),
-        None => Ok(()),
-    }
-}
-
-#[tactic(auto, unfolding(crate::specs::Forms::Github::github_some_found))]
-fn put_some_found(alloc: Global, found: &Found, line: &mut Vec<u8>) -> Result<(), AllocError>
-    ensures { OnOk result (Adds line.old line.new (github_some_found found.now)) }
-{
-    put(line, b", found: ")?;
-    put_shown(alloc, found.bytes(), line)
-}
-
-/// Puts a name, an `id` or what was found, as a message shows it.
-pub fn put_shown(alloc: Global, name: &[u8], line: &mut Vec<u8>) -> Result<(), AllocError>
-    ensures { OnOk result (Adds line.old line.new (flat_map escaped_in_message (shown_name name.now))) }
-{
-    let mut shown = Vec::new(alloc);
-    put_name(name, &mut shown)?;
-    put_in_message(shown.as_slice(), line)
-}
-
-/// What comes before the text of a message.
-fn mark(code: Code) -> &'static [u8]
-    ensures { result.now ≡ github_mark code }
-{
-    match code {
-        Code::Cause(_) => b"::not JSON: ",
-        _ => b"::",
     }
 }
 
@@ -253,7 +129,7 @@ fn put_byte_in_property(byte: u8, line: &mut Vec<u8>) -> Result<(), AllocError>
     }
 }
 
-fn put_in_message(text: &[u8], line: &mut Vec<u8>) -> Result<(), AllocError>
+pub fn put_in_message(text: &[u8], line: &mut Vec<u8>) -> Result<(), AllocError>
     ensures { OnOk result (Adds line.old line.new (flat_map escaped_in_message text.now)) }
 {
     for byte in text {

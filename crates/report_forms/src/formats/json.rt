@@ -7,10 +7,13 @@ ghost use Rattle.geolint_report.specs.Finding.{word_of, record_of, records_of, f
 ghost use Rattle.geolint_report.specs.Line.{Adds, optional_number};
 ghost use Rattle.report_forms.specs.Forms.Json.{json_spot, json_path, json_path_string, json_told, json_head, json_nothing, json_placed, json_fault};
 ghost use Rattle.report_forms.specs.Forms.Json.{IsJsonFound, json_hint, json_hint_text, json_object, json_kind, json_warnings, json_warnings_of, json_line};
+ghost use Rattle.report_forms.specs.Forms.Hints.{hint_text};
 ghost use Rattle.report_forms.specs.Forms.Json.{json_unread};
 ghost use Rattle.report_forms.specs.Internal.WrittenCommas.{is_none_yet, next_items, comma_unless};
 
-use crate::formats::put_path;
+use crate::formats::hints::put_hint_text;
+use crate::formats::pointer::put_pointer_or_null;
+use crate::formats::{put_in_string, put_path};
 use geolint_report::found::Found;
 use geolint_report::judge::Finding;
 use geolint_report::line::{put, put_all, put_number, put_optional, put_truth};
@@ -44,7 +47,7 @@ fn put_line(
     put_head(name, &report.finding, report.passes, line)?;
     put_fault(report, line)?;
     put_found(alloc, report.found, line)?;
-    put_hint(report.hint, line)?;
+    put_hint(alloc, report.name, report.hint, line)?;
     put(line, b",\"warnings\":[")?;
     put_all_warnings(report, line)?;
     put(line, b"]}\n")
@@ -76,21 +79,34 @@ fn put_found_text(alloc: Global, found: &Found, line: &mut Vec<u8>) -> Result<()
     put_all(line, &[b",\"found\":", text.as_bytes()])
 }
 
-/// What the file looks like, where its bytes show it. The text has no character that a JSON string escapes.
-fn put_hint(hint: Option<Hint>, line: &mut Vec<u8>) -> Result<(), AllocError>
-    ensures { OnOk result (Adds line.old line.new (json_hint hint)) }
+/// What the file looks like, where its bytes show it.
+fn put_hint(
+    alloc: Global,
+    name: &[u8],
+    hint: Option<Hint>,
+    line: &mut Vec<u8>,
+) -> Result<(), AllocError>
+    ensures { OnOk result (Adds line.old line.new (json_hint name.now hint)) }
 {
     match hint {
-        Some(hint) => put_hint_text(hint, line),
+        Some(hint) => put_some_hint(alloc, name, hint, line),
         None => put(line, b",\"hint\":null"),
     }
 }
 
-#[tactic(auto, unfolding(crate::specs::Forms::Json::json_hint_text))]
-fn put_hint_text(hint: Hint, line: &mut Vec<u8>) -> Result<(), AllocError>
-    ensures { OnOk result (Adds line.old line.new (json_hint_text hint)) }
+fn put_some_hint(
+    alloc: Global,
+    name: &[u8],
+    hint: Hint,
+    line: &mut Vec<u8>,
+) -> Result<(), AllocError>
+    ensures { OnOk result (Adds line.old line.new (json_hint_text (hint_text name.now hint))) }
 {
-    put_all(line, &[b",\"hint\":\"", hint.text().as_bytes(), b"\""])
+    let mut text = Vec::new(alloc);
+    put_hint_text(alloc, name, hint, &mut text)?;
+    put(line, b",\"hint\":\"")?;
+    put_in_string(text.as_slice(), line)?;
+    put(line, b"\"")
 }
 
 /// The members where no rule is broken.
@@ -100,7 +116,7 @@ fn put_nothing(line: &mut Vec<u8>) -> Result<(), AllocError>
 {
     put(
         line,
-        b",\"rule\":null,\"text\":null,\"offset\":null,\"line\":null,\"column\":null,\"json_path\":null",
+        b",\"rule\":null,\"text\":null,\"offset\":null,\"line\":null,\"column\":null,\"json_path\":null,\"pointer\":null",
     )
 }
 
@@ -261,7 +277,7 @@ fn put_path_member(path: Option<Path>, line: &mut Vec<u8>) -> Result<(), AllocEr
 {
     match path {
         Some(path) => put_path_string(&path, line),
-        None => put(line, b",\"json_path\":null"),
+        None => put(line, b",\"json_path\":null,\"pointer\":null"),
     }
 }
 
@@ -270,7 +286,8 @@ fn put_path_string(path: &Path, line: &mut Vec<u8>) -> Result<(), AllocError>
 {
     put(line, b",\"json_path\":\"")?;
     put_path(path, line)?;
-    put(line, b"\"")
+    put(line, b"\",\"pointer\":")?;
+    put_pointer_or_null(path, line)
 }
 
 /// Puts the line of a file that could not be opened or read.
@@ -300,6 +317,6 @@ fn put_unread_line(name: &[u8], reason: &[u8], line: &mut Vec<u8>) -> Result<(),
     put(line, reason)?;
     put(
         line,
-        b",\"offset\":null,\"line\":null,\"column\":null,\"json_path\":null,\"found\":null,\"hint\":null,\"warnings\":[]}\n",
+        b",\"offset\":null,\"line\":null,\"column\":null,\"json_path\":null,\"pointer\":null,\"found\":null,\"hint\":null,\"warnings\":[]}\n",
     )
 }

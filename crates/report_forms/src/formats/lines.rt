@@ -10,18 +10,32 @@ ghost use Rattle.report_forms.specs.Forms.Lines.{details, in_parentheses, lines_
 ghost use Rattle.report_forms.specs.Forms.Lines.{lines_excerpt, found_line, lines_found, hint_line, lines_hint, IsShown, IsExcerpt, AreLines};
 ghost use Rattle.report_forms.specs.Internal.WrittenDetails.{next_details, has_details, separator, end};
 
+use crate::formats::hints::put_hint_text;
 use crate::formats::{put_name, put_path};
 use geolint_report::found::Found;
 use geolint_report::line::{put, put_all, put_number};
 use geolint_report::report::{Report, Told, warning};
 use geolint_report::sites::Spot;
 use geolint_report::texts::Code;
-use gj_coords::{KINDS, Kind, Warnings};
+use gj_coords::{Kind, Warnings};
 use gj_hints::Hint;
 use gj_json::Path;
 use gj_places::Excerpt;
 use itoa::Buffer;
 use std::alloc::{AllocError, Global};
+
+/// The kinds of warning as people read them: where positions are out of range, as metres are, their long numbers come after that.
+const SHOWN: [Kind; 9] = [
+    Kind::W1,
+    Kind::W2,
+    Kind::W3,
+    Kind::W5,
+    Kind::W4,
+    Kind::W6,
+    Kind::W7,
+    Kind::W8,
+    Kind::W9,
+];
 
 /// How a terminal shows parts of a line, where it is one.
 #[derive(Clone, Copy, PartialEq, Eq)]
@@ -81,11 +95,11 @@ pub fn put_report(
     line: &mut Vec<u8>,
 ) -> Result<(), AllocError>
     ensures { OnOk result ((bytes : List ℕ) × AreLines style report.now (fault_of report.now.finding) bytes
-        × Adds line.old line.new (bytes ++ (lines_found report.now.found ++ lines_hint report.now.hint))) }
+        × Adds line.old line.new (bytes ++ (lines_found report.now.found ++ lines_hint report.now.name.now report.now.hint))) }
 {
     put_finding(alloc, report, style, line)?;
     put_found(report.found, line)?;
-    put_hint(report.hint, line)
+    put_hint(alloc, report.name, report.hint, line)
 }
 
 /// The lines of what was found.
@@ -123,20 +137,32 @@ fn put_found_line(found: &Found, line: &mut Vec<u8>) -> Result<(), AllocError>
 }
 
 /// What the file looks like, where its bytes show it.
-fn put_hint(hint: Option<Hint>, line: &mut Vec<u8>) -> Result<(), AllocError>
-    ensures { OnOk result (Adds line.old line.new (lines_hint hint)) }
+fn put_hint(
+    alloc: Global,
+    name: &[u8],
+    hint: Option<Hint>,
+    line: &mut Vec<u8>,
+) -> Result<(), AllocError>
+    ensures { OnOk result (Adds line.old line.new (lines_hint name.now hint)) }
 {
     match hint {
-        Some(hint) => put_hint_line(hint, line),
+        Some(hint) => put_hint_line(alloc, name, hint, line),
         None => Ok(()),
     }
 }
 
 #[tactic(auto, unfolding(crate::specs::Forms::Lines::hint_line))]
-fn put_hint_line(hint: Hint, line: &mut Vec<u8>) -> Result<(), AllocError>
-    ensures { OnOk result (Adds line.old line.new (hint_line hint)) }
+fn put_hint_line(
+    alloc: Global,
+    name: &[u8],
+    hint: Hint,
+    line: &mut Vec<u8>,
+) -> Result<(), AllocError>
+    ensures { OnOk result (Adds line.old line.new (hint_line name.now hint)) }
 {
-    put_all(line, &[b"    hint: ", hint.text().as_bytes(), b"\n"])
+    put(line, b"    hint: ")?;
+    put_hint_text(alloc, name, hint, line)?;
+    put(line, b"\n")
 }
 
 fn put_fault(
@@ -188,7 +214,7 @@ fn put_warnings(
 ) -> Result<(), AllocError>
     ensures { OnOk result (Adds line.old line.new (lines_warnings style report.now warnings.now)) }
 {
-    for kind in &KINDS {
+    for kind in &SHOWN {
         put_kind(report, warnings, *kind, style, line)?;
     }
     Ok(())

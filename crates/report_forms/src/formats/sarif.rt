@@ -4,25 +4,28 @@ ghost use Rattle.std.specs.List.{flat_map};
 ghost use Rattle.gj_json.specs.Path.{steps_of};
 ghost use Rattle.geolint_report.specs.Finding.{record_of};
 ghost use Rattle.geolint_report.specs.Line.{Adds};
-ghost use Rattle.report_forms.specs.Forms.Messages.{and_record};
+ghost use Rattle.report_forms.specs.Forms.Logs.{logged_issue};
+ghost use Rattle.report_forms.specs.Forms.Messages.{and_record, if_placed};
 ghost use Rattle.report_forms.specs.Forms.Sarif.{is_plain_in_uri, percent_of, in_uri, scheme_of, uri_of, sarif_message, location, region_start};
-ghost use Rattle.report_forms.specs.Forms.Sarif.{region_start_of, region, region_if, logical_location, logical_location_of, sarif_result, break_unless};
-ghost use Rattle.report_forms.specs.Forms.Sarif.{sarif_unread, name_and_text, explained, section_of, code_level, sarif_rule, sarif_rules, rule_and_break};
+ghost use Rattle.report_forms.specs.Forms.Sarif.{region_start_of, region, logical_location, logical_location_of, sarif_result, break_unless};
+ghost use Rattle.report_forms.specs.Forms.Sarif.{sarif_unread, name_and_text, explained, section_of, manual_member, markdown_of, code_level, sarif_rule, sarif_rules, rule_and_break};
 
+use crate::formats::hints::{hint_on, put_and_hint};
+use crate::formats::issues::{Issue, issues};
 use crate::formats::{
-    digit_in, hint_on, level, put_and_hint, put_and_record, put_and_times, put_path,
+    digit_in, gitlab, level, put_and_record, put_and_times, put_in_string, put_path,
 };
-use crate::options::Options;
+use crate::options::{Format, Options};
 use geolint_report::line::{put, put_all, put_number, put_truth};
-use geolint_report::report::{Report, Told, warning};
+use geolint_report::report::Report;
 use geolint_report::sites::Spot;
 use geolint_report::texts::{ALL, Code};
-use gj_coords::{KINDS, Kind, Warnings};
 use gj_json::Path;
+use gj_manual::section;
 use gj_places::json_string;
 use std::alloc::{AllocError, Global};
 
-/// What has been written of a log.
+/// What has been written of a log, or of another form that gathers the issues of all files.
 #[derive(Drop)]
 pub struct Log {
     /// No result has been written.
@@ -32,11 +35,12 @@ pub struct Log {
 }
 
 impl Log {
-    ghost use Rattle.std.specs.Prelude.{◌≡◌, ◌&&◌, ◌++◌, ◌∷◌, [], ℕ, List, OnOk, true, false};
+    ghost use Rattle.std.specs.Prelude.{◌≡◌, ◌&&◌, [], ℕ, List, OnOk, true, false};
     ghost use Rattle.gj_places.specs.Strings.{SpellsString};
-    ghost use Rattle.geolint_report.specs.Finding.{warnings_of};
     ghost use Rattle.geolint_report.specs.Line.{Adds};
-    ghost use Rattle.report_forms.specs.Forms.Sarif.{sarif_result, break_unless, sarif_kind, sarif_warnings, sarif_rest, sarif_told, next_results, next_unread};
+    ghost use Rattle.report_forms.specs.Forms.Issues.{issues_of};
+    ghost use Rattle.report_forms.specs.Forms.Logs.{logged};
+    ghost use Rattle.report_forms.specs.Forms.Sarif.{break_unless, next_results, next_unread};
     ghost use Rattle.report_forms.specs.Forms.Sarif.{sarif_begin, sarif_end, is_nothing};
     ghost use Rattle.report_forms.specs.Internal.WrittenCommas.{is_none_yet};
 
@@ -63,112 +67,25 @@ impl Log {
         put(line, b"]}},\"results\":[\n")
     }
 
-    /// Puts the results of a file: none for one that is valid without a warning.
+    /// Puts the issues of a file, in a form that gathers them: none for one that is valid without a warning.
     pub fn put_report(
         &mut self,
+        alloc: Global,
+        format: Format,
         report: &Report<'_>,
         options: &Options,
         line: &mut Vec<u8>,
     ) -> Result<(), AllocError>
-        ensures bytes { OnOk result (Adds line.old line.new (next_results self.old.is_first (sarif_told report.now options.now.strictness))) }
-        ensures first { OnOk result (self.new.is_first ≡ (self.old.is_first && is_none_yet (sarif_told report.now options.now.strictness))) }
+        ensures bytes { OnOk result (Adds line.old line.new (next_results self.old.is_first (logged format report.now options.now.strictness))) }
+        ensures first { OnOk result (self.new.is_first ≡ (self.old.is_first && is_none_yet (issues_of report.now.finding options.now.strictness))) }
         ensures unread { self.new.unread ≡ self.old.unread }
     {
-        match report.finding.fault() {
-            Some(told) => self.put_result(b"error", report, &told, 1, line),
-            None => self.put_rest(report, options, line),
-        }
-    }
-
-    /// The results where there is no fault to report.
-    fn put_rest(
-        &mut self,
-        report: &Report<'_>,
-        options: &Options,
-        line: &mut Vec<u8>,
-    ) -> Result<(), AllocError>
-        ensures bytes { OnOk result
-            (Adds line.old line.new
-            (next_results self.old.is_first (sarif_rest report.now options.now.strictness (warnings_of report.now.finding)))) }
-        ensures first { OnOk result
-            (self.new.is_first ≡ (self.old.is_first && is_none_yet
-            (sarif_rest report.now options.now.strictness (warnings_of report.now.finding)))) }
-        ensures unread { self.new.unread ≡ self.old.unread }
-    {
-        match report.finding.warnings() {
-            Some(warnings) => self.put_warnings(report, options, &warnings, line),
-            None => {
-                let told = Told {
-                    code: Code::NotValid,
-                    place: 0,
-                };
-                self.put_result(b"error", report, &told, 1, line)
-            }
-        }
-    }
-
-    fn put_warnings(
-        &mut self,
-        report: &Report<'_>,
-        options: &Options,
-        warnings: &Warnings,
-        line: &mut Vec<u8>,
-    ) -> Result<(), AllocError>
-        ensures bytes { OnOk result
-            (Adds line.old line.new (next_results self.old.is_first (sarif_warnings report.now options.now.strictness warnings.now))) }
-        ensures first { OnOk result
-            (self.new.is_first ≡ (self.old.is_first && is_none_yet (sarif_warnings report.now options.now.strictness warnings.now))) }
-        ensures unread { self.new.unread ≡ self.old.unread }
-    {
-        for kind in &KINDS {
-            self.put_kind(report, options, warnings, *kind, line)?;
+        let issues = issues(alloc, &report.finding, options)?;
+        for issue in issues.as_slice() {
+            self.begin_result(line)?;
+            put_issue(alloc, format, report, issue, line)?;
         }
         Ok(())
-    }
-
-    /// The result of a kind of warning, where there is one.
-    fn put_kind(
-        &mut self,
-        report: &Report<'_>,
-        options: &Options,
-        warnings: &Warnings,
-        kind: Kind,
-        line: &mut Vec<u8>,
-    ) -> Result<(), AllocError>
-        ensures bytes { OnOk result
-            (Adds line.old line.new (next_results self.old.is_first (sarif_kind report.now options.now.strictness warnings.now kind))) }
-        ensures first { OnOk result
-            (self.new.is_first ≡ (self.old.is_first && is_none_yet (sarif_kind report.now options.now.strictness warnings.now kind))) }
-        ensures unread { self.new.unread ≡ self.old.unread }
-    {
-        match warning(kind, warnings) {
-            Some((told, count)) => {
-                self.put_result(
-                    level(options.strictness.fails(kind)),
-                    report,
-                    &told,
-                    count,
-                    line,
-                )
-            }
-            None => Ok(()),
-        }
-    }
-
-    fn put_result(
-        &mut self,
-        level: &[u8],
-        report: &Report<'_>,
-        told: &Told,
-        count: u32,
-        line: &mut Vec<u8>,
-    ) -> Result<(), AllocError>
-        ensures bytes { OnOk result (Adds line.old line.new (next_results self.old.is_first (sarif_result report.now level.now told.now count ∷ []))) }
-        ensures first { OnOk result (self.new.is_first ≡ (self.old.is_first && is_none_yet (sarif_result report.now level.now told.now count ∷ []))) }
-        ensures unread { self.new.unread ≡ self.old.unread }
-    {
-        self.begin_result(line)?;
-        put_one(level, report, told, count, line)
     }
 
     /// Puts what comes before a result.
@@ -247,41 +164,58 @@ fn put_unread(name: &[u8], reason: &[u8], line: &mut Vec<u8>) -> Result<(), Allo
     put(line, b"}}]}")
 }
 
-fn put_one(
-    level: &[u8],
+fn put_issue(
+    alloc: Global,
+    format: Format,
     report: &Report<'_>,
-    told: &Told,
-    count: u32,
+    issue: &Issue,
     line: &mut Vec<u8>,
 ) -> Result<(), AllocError>
-    ensures { OnOk result (Adds line.old line.new (sarif_result report.now level.now told.now count)) }
+    ensures { OnOk result (Adds line.old line.new (logged_issue format report.now issue.now)) }
 {
+    match format {
+        Format::Gitlab => gitlab::put_issue(alloc, report, issue, line),
+        _ => put_result(alloc, report, issue, line),
+    }
+}
+
+fn put_result(
+    alloc: Global,
+    report: &Report<'_>,
+    issue: &Issue,
+    line: &mut Vec<u8>,
+) -> Result<(), AllocError>
+    ensures { OnOk result (Adds line.old line.new (sarif_result report.now issue.now)) }
+{
+    let mut message = Vec::new(alloc);
+    put_message(alloc, report, issue, &mut message)?;
     put(line, b"{\"ruleId\":\"")?;
-    told.code.put_name(line)?;
+    issue.told.code.put_name(line)?;
     put(line, b"\",\"level\":\"")?;
-    put(line, level)?;
+    put(line, level(issue.is_failure))?;
     put(line, b"\",\"message\":{\"text\":\"")?;
-    put_message(report, told, count, line)?;
+    put_in_string(message.as_slice(), line)?;
     put(line, b"\"}")?;
     put_location(report.name, line)?;
-    put_region_if(report, told, line)?;
+    put_region_if(report, issue, line)?;
     put(line, b"}")?;
-    put_logical_location_of(report.path(told), line)?;
+    put_logical_location_of(report.path(&issue.told), line)?;
     put(line, b"}]}")
 }
 
 fn put_message(
+    alloc: Global,
     report: &Report<'_>,
-    told: &Told,
-    count: u32,
+    issue: &Issue,
     line: &mut Vec<u8>,
 ) -> Result<(), AllocError>
-    ensures { OnOk result (Adds line.old line.new (sarif_message report.now told.now count)) }
+    ensures { OnOk result (Adds line.old line.new (sarif_message report.now issue.now)) }
 {
-    told.code.put_text(line)?;
+    issue.told.code.put_text(line)?;
     put_record(report, line)?;
-    put_and_times(count, line)?;
-    put_and_hint(hint_on(told.code, report.hint), line)
+    put_and_times(issue.count, line)?;
+    let hint = hint_on(issue.told.code, report.hint);
+    put_and_hint(alloc, report.name, hint, line)
 }
 
 fn put_record(report: &Report<'_>, line: &mut Vec<u8>) -> Result<(), AllocError>
@@ -303,12 +237,12 @@ pub fn put_location(name: &[u8], line: &mut Vec<u8>) -> Result<(), AllocError>
 }
 
 /// The place in the file, where one is reported.
-fn put_region_if(report: &Report<'_>, told: &Told, line: &mut Vec<u8>) -> Result<(), AllocError>
-    ensures { OnOk result (Adds line.old line.new (region_if told.now.code (region report.now told.now.place))) }
+fn put_region_if(report: &Report<'_>, issue: &Issue, line: &mut Vec<u8>) -> Result<(), AllocError>
+    ensures { OnOk result (Adds line.old line.new (if_placed issue.now.told.code (region report.now issue.now.told.place))) }
 {
-    match told.code {
+    match issue.told.code {
         Code::NotValid => Ok(()),
-        _ => put_region(report, told.place, line),
+        _ => put_region(report, issue.told.place, line),
     }
 }
 
@@ -384,6 +318,7 @@ fn put_rule(code: Code, line: &mut Vec<u8>) -> Result<(), AllocError>
     code.put_text(line)?;
     put(line, b"\"},\"help\":{\"text\":\"docs/rules.md, ")?;
     put_section(code, line)?;
+    put_markdown(code, line)?;
     put(line, b"\"},\"defaultConfiguration\":{\"level\":\"")?;
     put(line, code_level(code))?;
     put(line, b"\"}}")
@@ -406,6 +341,23 @@ fn put_section(code: Code, line: &mut Vec<u8>) -> Result<(), AllocError>
         Code::NotValid => put(line, b"what geolint says"),
         code => put_explained(code, line),
     }
+}
+
+/// The section itself, which GitHub shows beside a result.
+fn put_markdown(code: Code, line: &mut Vec<u8>) -> Result<(), AllocError>
+    ensures { OnOk result (Adds line.old line.new (markdown_of code)) }
+{
+    match code {
+        Code::NotValid => Ok(()),
+        code => put_manual(code, line),
+    }
+}
+
+fn put_manual(code: Code, line: &mut Vec<u8>) -> Result<(), AllocError>
+    ensures { OnOk result (Adds line.old line.new (manual_member code)) }
+{
+    put(line, b"\",\"markdown\":\"")?;
+    put_in_string(section(code).as_bytes(), line)
 }
 
 /// The section, and the words that print it.

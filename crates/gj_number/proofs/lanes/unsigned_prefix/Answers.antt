@@ -2,7 +2,7 @@
 use Rattle.gj_number.proofs.Common.{List, ap, arith, subst, sym, with_value, ℕ, ◌<◌, ◌∙◌}
 use Rattle.std.specs.Simd.Lanes.{Each1}
 use Rattle.std.specs.List.{fold}
-use Rattle.gj_number.proofs.Shorts.SixteenLanes.{natural_few, natural_ends, natural_small, natural_spell, both_few, both_small, both_spell}
+use Rattle.gj_number.proofs.Shorts.SixteenLanes.{natural_few, natural_ends, natural_small, natural_spell, both_few, both_small, both_spell, lanes_end, next}
 use Rattle.gj_number.proofs.Shorts.UnsignedNumbers.{some_other, first_allowed, whole_is, rest_some, after_some, both_is}
 use Rattle.gj_number.proofs.lanes.unsigned_prefix.Goals as goal
 use Rattle.gj_number.proofs.lanes.unsigned_prefix.Goals.{then-rest-eq0-via-then-rest-eq0, then-rest-eq0-via-else-rest-eq0+then-fraction-eq0}
@@ -71,6 +71,19 @@ returns-then-piece-natural-ne46-clause-ends c =
 pub returns-clause-ends : goal.returns-clause-ends
 returns-clause-ends c =
     natural_ends c.args.piece.now _ c.requires c.type_inv.piece c.lanes_of-lanes.ensures _ c.from_ten-others.ensures c.if-others-eq0.false
+
+pub returns-then-piece-natural-ne46-clause-last : goal.returns-then-piece-natural-ne46-clause-last
+returns-then-piece-natural-ne46-clause-last c =
+    natural_ends c.args.piece.now _ c.requires c.type_inv.piece c.lanes_of-lanes.ensures _ c.from_ten-others.ensures c.if-others-eq0.false
+
+pub returns-clause-last : goal.returns-clause-last
+returns-clause-last c =
+    let after = next c.args.piece.now _ c.requires c.type_inv.piece c.lanes_of-lanes.ensures _ c.from_ten-others.ensures c.if-others-eq0.false
+    c.if-rest-eq0.false in
+    lanes_end c.args.piece.now _ c.requires c.type_inv.piece c.lanes_of-lanes.ensures _ c.from_ten-others.ensures _ _ after.1 after.0
+
+pub returns-clause-point : goal.returns-clause-point
+returns-clause-point c = λ none point. c.if-fraction-eq0.false none
 
 pub returns-then-others-eq0-clause-taken : goal.returns-then-others-eq0-clause-taken
 returns-then-others-eq0-clause-taken c = λ n few u.

@@ -1,22 +1,17 @@
-use Rattle.std.proofs.Common.{◌≡◌, ◌++◌, sym, ap, subst, ◌∙◌}
-use Rattle.gj_rules.specs.Verdict.{IsVerdict}
+use Rattle.std.proofs.Common.{◌≡◌, sym, ap, ◌∙◌}
 use Rattle.gj_rules.specs.declared.verdict.Verdict.{Verdict}
 use Rattle.gj_rules.specs.declared.verdict.Verdict.TheVariants.{Valid}
-use Rattle.gj_runs.proofs.WholeVerdicts.{whole, whole_is, whole_other}
+use Rattle.gj_runs.specs.Internal.PassedRuns.{whole}
+use Rattle.gj_runs.proofs.WholeVerdicts.{by_sum, whole_other}
 use Rattle.gj_runs.proofs.whole.whole_of.Goals as goal
 
 pub returns-in-Valid : goal.returns-in-Valid
-returns-in-Valid c = record {
-  whole = λ limits before run after e b h room v.
-      (let P : Verdict → Type 0 = λ x. IsVerdict limits (before ++ (run ++ after)) x in
-      let f : whole c.args.rest c.args.sum.warnings ≡ Valid c.join.result =
-      ap (λ (x : Verdict). whole x c.args.sum.warnings) c.in-Valid.is ∙ ap Valid (sym c.join.ensures.exact) in
-      subst P f (whole_is limits before run after c.args.sum c.args.rest e b h room v));
-}
+returns-in-Valid c =
+    let exact : Valid c.join.result ≡ whole c.args.rest c.args.warnings =
+    ap Valid c.join.ensures.exact ∙ ap (λ (x : Verdict). whole x c.args.warnings) (sym c.in-Valid.is) in
+    record { exact = exact; whole = λ limits before run after sum e b h same room v. by_sum limits before run after sum c.args.rest _ c.args.warnings e b h same room v exact }
 
 pub returns-in_default : goal.returns-in_default
-returns-in_default c = record {
-  whole = λ limits before run after e b h room v.
-      (let P : Verdict → Type 0 = λ x. IsVerdict limits (before ++ (run ++ after)) x in
-      subst P (whole_other c.args.rest c.args.sum.warnings c.in_default.not-Valid) (whole_is limits before run after c.args.sum c.args.rest e b h room v));
-}
+returns-in_default c =
+    let exact : c.args.rest ≡ whole c.args.rest c.args.warnings = sym (whole_other c.args.rest c.args.warnings c.in_default.not-Valid) in
+    record { exact = exact; whole = λ limits before run after sum e b h same room v. by_sum limits before run after sum c.args.rest _ c.args.warnings e b h same room v exact }

@@ -1,6 +1,8 @@
 use denote.Enum.Bare.{same_true, true_same, sameb}
 use Rattle.part_lines.proofs.Common.{◌≡◌, ◌∙◌, ℕ, Bool, List, Framing, ap, refl, sym}
-use Rattle.std.proofs.Common.{◌&&◌, rules}
+use Rattle.std.proofs.Common.{◌&&◌, rules, Option, Some, None}
+use Rattle.std.specs.Option.{option_eq}
+use Rattle.std.proofs.lemmas.Option.{same_Some}
 use Rattle.std.proofs.Math.Bool.{beq}
 use Rattle.std.proofs.Math.Dec.{eqb}
 use Rattle.std.specs.Bool.{Decides}
@@ -37,19 +39,26 @@ strictness_Decides one other =
       ),
     )
 
-abbrev set : Framing → ℕ → ℕ → Strictness → Settings
+abbrev set : Option Framing → ℕ → ℕ → Strictness → Settings
 set framing bytes depth strictness = record { framing = framing; limits = record { bytes = bytes; depth = depth }; strictness = strictness }
 
-same_set : (f g : Framing) (a b c d : ℕ) (s t : Strictness) → f ≡ g → a ≡ b → c ≡ d → s ≡ t → set f a c s ≡ set g b d t
+same_set : (f g : Option Framing) (a b c d : ℕ) (s t : Strictness) → f ≡ g → a ≡ b → c ≡ d → s ≡ t → set f a c s ≡ set g b d t
 same_set f g a b c d s t p q r u = rw (p, q, r, u)
 
+option_Decides : ((f g : Framing) → Decides (sameb the_type f g) (f ≡ g)) → (a b : Option Framing) → Decides (option_eq (sameb the_type) a b) (a ≡ b)
+option_Decides each None None = (λ t. refl, λ e. refl)
+option_Decides each (Some f) (Some g) = (λ t. ap Some ((each f g).0 t), λ e. (each f g).1 (same_Some f g e))
+option_Decides each None (Some g) = (λ t. absurd (cc t), λ e. absurd (cc e))
+option_Decides each (Some f) None = (λ t. absurd (cc t), λ e. absurd (cc e))
+
 abbrev tested : Settings → Settings → Bool
-tested one other = sameb the_type one.framing other.framing
+tested one other = option_eq (sameb the_type) one.framing other.framing
     && ((eqb one.limits.bytes other.limits.bytes && eqb one.limits.depth other.limits.depth) && alike one.strictness other.strictness)
 
 settings_Decides : (one other : Settings) → Decides (tested one other) (one ≡ other)
 settings_Decides one other =
-    let parts = Decides-and _ _ (same_true the_type (search rules) one.framing other.framing, true_same the_type one.framing other.framing)
+    let each : (f g : Framing) → Decides (sameb the_type f g) (f ≡ g) = λ f g. (same_true the_type (search rules) f g, true_same the_type f g) in
+    let parts = Decides-and _ _ (option_Decides each one.framing other.framing)
     (Decides-and _ _ (Decides-and _ _ (Decides-eqb one.limits.bytes other.limits.bytes) (Decides-eqb one.limits.depth other.limits.depth))
     (strictness_Decides one.strictness other.strictness)) in (
       λ t. let (f, (l, s)) = parts.0 t in same_set _ _ _ _ _ _ _ _ f l.0 l.1 s,

@@ -1,9 +1,8 @@
-use Rattle.std.proofs.Common.{arith, ◌+◌, ◌<◌, ℕ, List, length, map, subst, sym}
+use Rattle.std.proofs.Common.{arith, ◌+◌, ℕ, List, map, subst, sym}
 use Rattle.std.proofs.lemmas.List.{length-map}
 use Rattle.part_lines.proofs.LinesOfParts.{is_there, next_part}
-use Rattle.part_lines.specs.Internal.Places.{ArePlaced, ArePartsTo}
-use Rattle.part_lines.specs.Lines.{part_number}
-use Rattle.part_lines.specs.declared.line.PartLine.{PartLine}
+use Rattle.part_lines.specs.Internal.Places.{ArePlaced}
+use Rattle.part_lines.specs.Lines.{ArePartsTo, part_number}
 use Rattle.sequence_parts.specs.declared.checked.CheckedPart.{CheckedPart}
 use Rattle.part_lines.proofs.joining.parts_in.Goals as goal
 

@@ -1,4 +1,4 @@
-use Rattle.part_lines.specs.Internal.Places.{ArePartsTo}
+use Rattle.part_lines.specs.Lines.{ArePartsTo}
 use Rattle.part_lines.proofs.joining.parts_in.Given as goal
 
 abbrev pub invariant-loop-index : goal.invariant-loop-index

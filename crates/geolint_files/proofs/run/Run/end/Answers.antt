@@ -2,6 +2,7 @@ use Rattle.geolint_files.proofs.Common.{refl, ap, sym, ◌∙◌, subst, ◌++�
 use Rattle.std.proofs.KnownBytes.{Appends-trans, Appends-kept}
 use Rattle.geolint_report.specs.declared.every.tally.Tally.{Tally}
 use Rattle.geolint_report.specs.Tallies.{IsTotal}
+use Rattle.report_forms.specs.declared.formats.lines.Style.{Style}
 use Rattle.geolint_files.specs.Run.{finding_in, tallies_in, end_of, summary_in}
 use Rattle.geolint_files.proofs.run.Run.end.Goals as goal
 
@@ -11,11 +12,13 @@ returns-clause-told g c = λ held options style files has.
     let contents = g.W.Write.contents in
     let wrote = c.write.new.self in
     let told = c.tell_summary.new.self in
-    let end = end_of options.format has.written.unread in
+    let end = end_of options.format style files has.written.unread in
     let summary = summary_in options files in
     let line : c.put_end.new.self.line.items ≡ end =
-    c.in_ok-put_end.ensures.told ∙ ap (λ (line : List ℕ). line ++ end_of old.options.format old.log.unread.items) has.line
-    ∙ ap (λ (given : Options). end_of given.format old.log.unread.items) has.options_are ∙ ap (end_of options.format) has.unread in
+    c.in_ok-put_end.ensures.told files has.summary has.tally
+    ∙ ap (λ (line : List ℕ). line ++ end_of old.options.format old.style files old.log.unread.items) has.line
+    ∙ ap (λ (given : Options). end_of given.format old.style files old.log.unread.items) has.options_are
+    ∙ ap (λ (shown : Style). end_of options.format shown files old.log.unread.items) has.style_is ∙ ap (end_of options.format style files) has.unread in
     let ended : Appends (contents old.out) (contents wrote.out) end =
     subst (Appends (contents old.out) (contents wrote.out)) line
     (subst (λ (out : g.row.W.Denot). Appends (contents out) (contents wrote.out) c.put_end.new.self.line.items) c.put_end.ensures.out

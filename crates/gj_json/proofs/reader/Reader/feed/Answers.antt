@@ -14,20 +14,20 @@ returns-in-Some-clause-answer g c = λ bytes h.
 pub returns-then-piece-room-clause-answer : goal.returns-then-piece-room-clause-answer
 returns-then-piece-room-clause-answer g c = λ bytes h.
     CallsInTurn.by_answer (g.S.EventSink.heard c.args.sink.now)
-    (g.S.EventSink.heard c.take_piece.new.sink) c.args.self.now c.take_piece.new.self c.args.piece.now bytes c.take_piece.result c.take_piece.ensures.feeds
+    (g.S.EventSink.heard c.take_piece.new.sink) c.args.self.now c.take_piece.new.self c.args.piece.now bytes c.take_piece.result c.take_piece.ensures
     h
 
 pub returns-then-piece-room-clause-heard : goal.returns-then-piece-room-clause-heard
 returns-then-piece-room-clause-heard g c = λ bytes events live h k.
     CallsInTurn.heard_by (g.S.EventSink.heard c.args.sink.now)
     (g.S.EventSink.heard c.take_piece.new.sink) c.args.self.now c.take_piece.new.self c.args.piece.now bytes events c.take_piece.result live
-    c.take_piece.ensures.feeds h k
+    c.take_piece.ensures h k
 
 full : (g : _) (c : goal.After-refuse g)
     → FeedsTo (g.S.EventSink.heard c.args.sink.now)
     (g.S.EventSink.heard c.take_piece-2.new.sink) c.args.self.now c.refuse.new.self c.args.piece.now c.refuse.result
 full g c =
-    let fed = rw (c.in-Ok.is) at c.take_piece-2.ensures.feeds in
+    let fed = rw (c.in-Ok.is) at c.take_piece-2.ensures in
     let room : c.bytes.result - c.args.self.now.offset < length c.args.piece.now = omega (arith, c.if-piece-room.false) in
     CallsInTurn.beyond c.args.piece.now (c.bytes.result - c.args.self.now.offset) room c.args.self.now c.take_piece-2.new.self c.refuse.new.self c.refuse.result
     fed
@@ -47,7 +47,7 @@ short : (g : _) (c : goal.In-Err g)
     → FeedsTo (g.S.EventSink.heard c.args.sink.now)
     (g.S.EventSink.heard c.take_piece-2.new.sink) c.args.self.now c.take_piece-2.new.self c.args.piece.now c.in-Err.fault
 short g c =
-    let fed = rw (c.in-Err.is) at c.take_piece-2.ensures.feeds in
+    let fed = rw (c.in-Err.is) at c.take_piece-2.ensures in
     let room : c.bytes.result - c.args.self.now.offset < length c.args.piece.now = omega (arith, c.if-piece-room.false) in
     CallsInTurn.within_to c.args.piece.now (c.bytes.result - c.args.self.now.offset) room c.args.self.now c.take_piece-2.new.self c.in-Err.fault fed
 
@@ -64,7 +64,7 @@ returns-in-Err-clause-heard g c =
 pub returns-then-piece-room-clause-on : goal.returns-then-piece-room-clause-on
 returns-then-piece-room-clause-on g c =
     CallsInTurn.by_on (g.S.EventSink.heard c.args.sink.now)
-    (g.S.EventSink.heard c.take_piece.new.sink) c.args.self.now c.take_piece.new.self c.args.piece.now c.take_piece.result c.take_piece.ensures.feeds
+    (g.S.EventSink.heard c.take_piece.new.sink) c.args.self.now c.take_piece.new.self c.args.piece.now c.take_piece.result c.take_piece.ensures
 
 pub returns-in-Ok-clause-on : goal.returns-in-Ok-clause-on
 returns-in-Ok-clause-on g c = (full g c).feeds.on

@@ -1,16 +1,13 @@
 -- The place of the next member says nothing of what was given.
-use Rattle.std.proofs.Common.{take}
 use Rattle.gj_json.proofs.Pieces.PassedMembers.{names_any}
+use Rattle.gj_json.proofs.Readers.CallsInTurn.{prefix_as}
 use Rattle.gj_json.proofs.reader.Reader.pass_member.Goals as goal
 
-pub returns-then-not-begins_quoted-clause-feeds : goal.returns-then-not-begins_quoted-clause-feeds
-returns-then-not-begins_quoted-clause-feeds c =
-    names_any c.args.self.now c.pass_short_member.new.self (take c.pass_short_member.result c.args.piece.now) c.pass_short_member.ensures.feeds
+pub returns-then-not-begins_quoted : goal.returns-then-not-begins_quoted
+returns-then-not-begins_quoted c = prefix_as c.pass_near_member.ensures (λ given f. names_any c.args.self.now c.pass_near_member.new.self given f)
 
-pub returns-then-piece-name-eq32-clause-feeds : goal.returns-then-piece-name-eq32-clause-feeds
-returns-then-piece-name-eq32-clause-feeds c =
-    names_any c.args.self.now c.pass_named.new.self (take c.pass_named.result c.args.piece.now) c.pass_named.ensures.feeds
+pub returns-then-piece-name-eq32 : goal.returns-then-piece-name-eq32
+returns-then-piece-name-eq32 c = prefix_as c.pass_named.ensures (λ given f. names_any c.args.self.now c.pass_named.new.self given f)
 
-pub returns-clause-feeds : goal.returns-clause-feeds
-returns-clause-feeds c =
-    names_any c.args.self.now c.pass_named-2.new.self (take c.pass_named-2.result c.args.piece.now) c.pass_named-2.ensures.feeds
+pub returns : goal.returns
+returns c = prefix_as c.pass_named-2.ensures (λ given f. names_any c.args.self.now c.pass_named-2.new.self given f)

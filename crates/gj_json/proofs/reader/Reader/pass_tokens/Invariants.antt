@@ -1,13 +1,11 @@
-use Rattle.gj_json.proofs.Common.{FeedsWithin, length, ◌-◌, ◌≤◌}
-use Rattle.std.proofs.Common.{take}
+use Rattle.gj_json.proofs.Common.{FeedsWithin, OfPrefix, length, ◌-◌, ◌≤◌}
 use Rattle.gj_json.specs.Internal.OpenLevels.{levels_in}
 use Rattle.gj_json.proofs.reader.Reader.pass_tokens.Given as goal
 
 abbrev pub invariant-loop-at : goal.invariant-loop-at
 invariant-loop-at l = record {
-  within : l.at ≤ length l.piece;
   floor : l.floor ≤ length (levels_in l.self.levels);
-  fed : FeedsWithin l.floor l.fn.self l.self (take l.at l.piece);
+  taken : OfPrefix (FeedsWithin l.floor l.fn.self l.self) l.piece l.at;
 }
 
 abbrev pub decreases-loop-at : goal.decreases-loop-at

@@ -1,7 +1,8 @@
 -- What was read is a number, since it may end there, and its value is that of these bytes.
-use Rattle.gj_json.proofs.Common.{sym, []}
+use Rattle.gj_json.proofs.Common.{arith, sym, []}
 use Rattle.std.proofs.Common.{take}
 use Rattle.gj_json.proofs.Pieces.TokensInLevels.{token_none}
+use Rattle.gj_json.proofs.Readers.CallsInTurn.{of_prefix}
 use Rattle.gj_json.proofs.reader.Reader.take_any_number.Goals as goal
 
 pub end_number-requires-clause-number : goal.end_number-requires-clause-number
@@ -15,5 +16,8 @@ end_number-requires-clause-value g c = λ hears.
     let number = (c.may_end.ensures.number (take c.push_piece-count.result c.args.piece.now) stands).0 c.if-not-may_end.false in
     sym (c.value.ensures.value (take c.push_piece-count.result c.args.piece.now) stands number)
 
-pub returns-then-count-piece-clause-feeds : goal.returns-then-count-piece-clause-feeds
-returns-then-count-piece-clause-feeds g c = token_none _ _ c.args.self.now c.requires.takes.0
+pub returns-then-count-piece : goal.returns-then-count-piece
+returns-then-count-piece g c = of_prefix (omega arith) (token_none _ _ c.args.self.now c.requires.takes.0)
+
+pub returns-then-is_cut : goal.returns-then-is_cut
+returns-then-is_cut g c = of_prefix (omega arith) (token_none _ _ c.args.self.now c.requires.takes.0)

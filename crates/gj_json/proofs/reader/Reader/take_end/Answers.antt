@@ -1,90 +1,79 @@
 -- The byte after a value.
-use Rattle.gj_json.proofs.Common.{Array, Close, Go, Item, Level, NameDue, Object, Some, ValueDue, after_move, ap, arith, get_or, inner_of, refl, sym}
+use Rattle.gj_json.proofs.Common.{Array, Close, Go, Item, Level, NameDue, Object, Some, ValueDue, after_move, ap, get_or, inner_of, refl, sym}
 use Rattle.gj_json.proofs.Common.{◌∙◌, ◌≡◌}
 use Rattle.gj_json.specs.Internal.ByteClasses.{class_of}
 use Rattle.gj_json.specs.Internal.OpenLevels.{levels_in}
+use Rattle.gj_json.proofs.Readers.CallsInTurn.{of_prefix}
 use Rattle.gj_json.proofs.Pieces.TakenTokens.{closes_value, end_goes, end_closes}
 use Rattle.gj_json.proofs.Pieces.TokensInLevels.{comma_ends, any_goes, any_closes, then_skipped, any_skipped}
 use Rattle.gj_json.proofs.reader.Reader.take_end.Goals as goal
 
-pub returns-in-Some-Array-clause-feeds : goal.returns-in-Some-Array-clause-feeds
-returns-in-Some-Array-clause-feeds g c =
-    let inner : inner_of (levels_in c.args.self.now.levels) ≡ Some Array =
-    sym c.inner.ensures ∙ c.in-Some-Array.is ∙ ap (λ (x : Level). Some x) c.in-Some-Array.field-0-is in
-    let made = comma_ends (inner_of (levels_in c.args.self.now.levels)) (get_or c.args.piece.now 0 0) Array ValueDue inner c.if-piece-eq44.true refl in
-    rw (c.skip.ensures.count)
-    (end_goes c.args.self.now c.skip.new.self c.args.piece.now ValueDue Item c.requires.some c.requires.takes.0 c.requires.done c.requires.takes.1 made
-    c.skip.ensures.passed)
-
-pub returns-in-Some-Array-clause-any : goal.returns-in-Some-Array-clause-any
-returns-in-Some-Array-clause-any g c =
-    let inner : inner_of (levels_in c.args.self.now.levels) ≡ Some Array =
-    sym c.inner.ensures ∙ c.in-Some-Array.is ∙ ap (λ (x : Level). Some x) c.in-Some-Array.field-0-is in
-    let made = comma_ends (inner_of (levels_in c.args.self.now.levels)) (get_or c.args.piece.now 0 0) Array ValueDue inner c.if-piece-eq44.true refl in
-    rw (c.skip.ensures.count)
-    (any_goes c.args.self.now c.skip.new.self c.args.piece.now c.requires.some c.requires.takes.0 c.requires.done c.requires.takes.1 ValueDue Item made
-    c.skip.ensures.passed)
-
-pub returns-in-Some-Object-clause-feeds : goal.returns-in-Some-Object-clause-feeds
-returns-in-Some-Object-clause-feeds g c =
-    let reader = c.args.self.now in
+pub returns-in-Some-Array : goal.returns-in-Some-Array
+returns-in-Some-Array g c =
+    let old = c.args.self.now in
+    let new = c.skip.new.self in
     let piece = c.args.piece.now in
-    let mid = c.skip-taken.new.self in
-    let passed = c.skip-taken.ensures.passed in
-    let space = c.skip_space in
-    let inner : inner_of (levels_in reader.levels) ≡ Some Object =
-    sym c.inner.ensures ∙ c.in-Some-Object.is ∙ ap (λ (x : Level). Some x) c.in-Some-Object.field-0-is in
-    let made = comma_ends (inner_of (levels_in reader.levels)) (get_or piece 0 0) Object NameDue inner c.if-piece-eq44.true refl in
-    then_skipped reader mid space.new.self piece c.skip-taken.result space.result NameDue c.requires.takes.0 c.requires.takes.1
-    (omega arith) (rw (c.skip-taken.ensures.count) passed) space.ensures.within space.ensures.skips
-    (rw (c.skip-taken.ensures.count) (end_goes reader mid piece NameDue Item c.requires.some c.requires.takes.0 c.requires.done c.requires.takes.1 made passed))
+    let r = c.requires in
+    let p = c.skip.ensures.passed in
+    let inner : inner_of (levels_in old.levels) ≡ Some Array =
+    sym c.inner.ensures ∙ c.in-Some-Array.is ∙ ap (λ (x : Level). Some x) c.in-Some-Array.field-0-is in
+    let made = comma_ends (inner_of (levels_in old.levels)) (get_or piece 0 0) Array ValueDue inner c.if-piece-eq44.true refl in
+    rw (c.skip.ensures.count)
+    (record {
+      all = of_prefix r.some (end_goes old new piece ValueDue Item r.some r.takes.0 r.done r.takes.1 made p);
+      any = of_prefix r.some (any_goes old new piece r.some r.takes.0 r.done r.takes.1 ValueDue Item made p);
+    })
 
-pub returns-in-Some-Object-clause-any : goal.returns-in-Some-Object-clause-any
-returns-in-Some-Object-clause-any g c =
-    let reader = c.args.self.now in
+pub returns-in-Some-Object : goal.returns-in-Some-Object
+returns-in-Some-Object g c =
+    let old = c.args.self.now in
+    let mid = c.skip-taken.new.self in
     let piece = c.args.piece.now in
-    let mid = c.skip-taken.new.self in
-    let passed = c.skip-taken.ensures.passed in
-    let space = c.skip_space in
-    let inner : inner_of (levels_in reader.levels) ≡ Some Object =
+    let r = c.requires in
+    let p = c.skip-taken.ensures.passed in
+    let n = c.skip-taken.ensures.count in
+    let s = c.skip_space in
+    let inner : inner_of (levels_in old.levels) ≡ Some Object =
     sym c.inner.ensures ∙ c.in-Some-Object.is ∙ ap (λ (x : Level). Some x) c.in-Some-Object.field-0-is in
-    let made = comma_ends (inner_of (levels_in reader.levels)) (get_or piece 0 0) Object NameDue inner c.if-piece-eq44.true refl in
-    any_skipped reader mid space.new.self piece c.skip-taken.result space.result NameDue c.requires.takes.0 c.requires.takes.1
-    (omega arith) (rw (c.skip-taken.ensures.count) passed) space.ensures.within space.ensures.skips
-    (rw (c.skip-taken.ensures.count) (any_goes reader mid piece c.requires.some c.requires.takes.0 c.requires.done c.requires.takes.1 NameDue Item made passed))
+    let made = comma_ends (inner_of (levels_in old.levels)) (get_or piece 0 0) Object NameDue inner c.if-piece-eq44.true refl in
+    record {
+      all = then_skipped old mid s.new.self piece c.skip-taken.result s.result NameDue r.takes (rw n p) s.ensures
+          (rw n (of_prefix r.some (end_goes old mid piece NameDue Item r.some r.takes.0 r.done r.takes.1 made p)));
+      any = any_skipped old mid s.new.self piece c.skip-taken.result s.result NameDue r.takes (rw n p) s.ensures
+          (rw n (of_prefix r.some (any_goes old mid piece r.some r.takes.0 r.done r.takes.1 NameDue Item made p)));
+    }
 
-pub returns-in-Go-clause-feeds : goal.returns-in-Go-clause-feeds
-returns-in-Go-clause-feeds g c =
-    let made : after_move (inner_of (levels_in c.args.self.now.levels)) (class_of (get_or c.args.piece.now 0 0)) ≡ Go c.in-Go.mode c.in-Go.field-1 =
-    ap (λ i. after_move i (class_of (get_or c.args.piece.now 0 0))) (sym c.inner-2.ensures) ∙ sym c.after_value.ensures.value ∙ c.in-Go.is in
+pub returns-in-Go : goal.returns-in-Go
+returns-in-Go g c =
+    let old = c.args.self.now in
+    let new = c.skip-in-Go.new.self in
+    let piece = c.args.piece.now in
+    let r = c.requires in
+    let p = c.skip-in-Go.ensures.passed in
+    let mode = c.in-Go.mode in
+    let made : after_move (inner_of (levels_in old.levels)) (class_of (get_or piece 0 0)) ≡ Go mode c.in-Go.field-1 =
+    ap (λ i. after_move i (class_of (get_or piece 0 0))) (sym c.inner-2.ensures) ∙ sym c.after_value.ensures.value ∙ c.in-Go.is in
     rw (c.skip-in-Go.ensures.count)
-    (end_goes c.args.self.now c.skip-in-Go.new.self c.args.piece.now c.in-Go.mode c.in-Go.field-1 c.requires.some c.requires.takes.0 c.requires.done
-    c.requires.takes.1 made c.skip-in-Go.ensures.passed)
+    (record {
+      all = of_prefix r.some (end_goes old new piece mode c.in-Go.field-1 r.some r.takes.0 r.done r.takes.1 made p);
+      any = of_prefix r.some (any_goes old new piece r.some r.takes.0 r.done r.takes.1 mode c.in-Go.field-1 made p);
+    })
 
-pub returns-in-Go-clause-any : goal.returns-in-Go-clause-any
-returns-in-Go-clause-any g c =
-    let made : after_move (inner_of (levels_in c.args.self.now.levels)) (class_of (get_or c.args.piece.now 0 0)) ≡ Go c.in-Go.mode c.in-Go.field-1 =
-    ap (λ i. after_move i (class_of (get_or c.args.piece.now 0 0))) (sym c.inner-2.ensures) ∙ sym c.after_value.ensures.value ∙ c.in-Go.is in
-    rw (c.skip-in-Go.ensures.count)
-    (any_goes c.args.self.now c.skip-in-Go.new.self c.args.piece.now c.requires.some c.requires.takes.0 c.requires.done c.requires.takes.1
-    c.in-Go.mode c.in-Go.field-1 made c.skip-in-Go.ensures.passed)
-
-pub returns-in-Close-clause-feeds : goal.returns-in-Close-clause-feeds
-returns-in-Close-clause-feeds g c =
-    let inner = inner_of (levels_in c.args.self.now.levels) in
-    let b = get_or c.args.piece.now 0 0 in
-    let made : after_move inner (class_of b) ≡ Close c.in-Close.level =
+pub returns-in-Close : goal.returns-in-Close
+returns-in-Close g c =
+    let old = c.args.self.now in
+    let new = c.take_close.new.self in
+    let piece = c.args.piece.now in
+    let r = c.requires in
+    let e = c.take_close.ensures in
+    let level = c.in-Close.level in
+    let inner = inner_of (levels_in old.levels) in
+    let b = get_or piece 0 0 in
+    let made : after_move inner (class_of b) ≡ Close level =
     ap (λ i. after_move i (class_of b)) (sym c.inner-2.ensures) ∙ sym c.after_value.ensures.value ∙ c.in-Close.is in
-    rw (c.take_close.ensures.count)
-    (end_closes c.args.self.now c.take_close.new.self c.args.piece.now c.in-Close.level c.requires.some c.requires.takes.0 c.requires.takes.1
-    (closes_value c.args.self.now.mode inner b c.in-Close.level c.requires.done made) c.take_close.ensures.lands (λ events h. c.take_close.ensures.heard events h))
-
-pub returns-in-Close-clause-any : goal.returns-in-Close-clause-any
-returns-in-Close-clause-any g c =
-    let inner = inner_of (levels_in c.args.self.now.levels) in
-    let b = get_or c.args.piece.now 0 0 in
-    let made : after_move inner (class_of b) ≡ Close c.in-Close.level =
-    ap (λ i. after_move i (class_of b)) (sym c.inner-2.ensures) ∙ sym c.after_value.ensures.value ∙ c.in-Close.is in
-    rw (c.take_close.ensures.count)
-    (any_closes c.args.self.now c.take_close.new.self c.args.piece.now c.in-Close.level c.requires.some c.requires.takes.0 c.requires.takes.1
-    (closes_value c.args.self.now.mode inner b c.in-Close.level c.requires.done made) c.take_close.ensures.lands)
+    let closes = closes_value old.mode inner b level r.done made in
+    rw (e.count)
+    (record {
+      all = of_prefix r.some (end_closes old new piece level r.some r.takes.0 r.takes.1 closes e.lands (λ events h. e.heard events h));
+      any = of_prefix r.some (any_closes old new piece level r.some r.takes.0 r.takes.1 closes e.lands);
+    })

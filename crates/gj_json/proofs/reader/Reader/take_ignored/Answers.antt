@@ -3,8 +3,8 @@ use Rattle.gj_json.proofs.Common.{Leaves, above, arith, subst, sym, ◌-◌, ◌
 use Rattle.gj_json.proofs.Events.IgnoredEvents.{ignored_by}
 use Rattle.gj_json.proofs.reader.Reader.take_ignored.Goals as goal
 
-pub returns-clause-feeds : goal.returns-clause-feeds
-returns-clause-feeds g c =
+pub returns : goal.returns
+returns g c =
     let old = c.args.self.now in
     let new = c.take_within-taken.new.self in
     let floor = c.len-open.result - c.ignored-ignored.result in
@@ -15,4 +15,4 @@ returns-clause-feeds g c =
     (λ events inner h l.
     let k : Leaves (above floor old) inner (c.len.result - floor) = subst (λ x. Leaves (above floor old) inner x) (sym n) l in
     c.pass.ensures events inner (omega (arith, c.ignored-ignored.ensures)) h (subst (λ x. Leaves x inner (c.len.result - floor)) m k))
-    c.take_within-taken.ensures.feeds
+    c.take_within-taken.ensures.taken

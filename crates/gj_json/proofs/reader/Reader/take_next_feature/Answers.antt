@@ -5,21 +5,20 @@ use Rattle.gj_json.specs.Internal.ByteClasses.{class_of}
 use Rattle.gj_json.specs.Internal.OpenLevels.{levels_in}
 use Rattle.gj_json.proofs.Grammar.ClassOfBytes.{class_is}
 use Rattle.gj_json.proofs.Pieces.TakenTokens.{closes_value, end_closes}
-use Rattle.gj_json.proofs.Readers.CallsInTurn.{piece_all, rest_all}
+use Rattle.gj_json.proofs.Readers.CallsInTurn.{of_prefix, then_all}
 use Rattle.gj_json.proofs.reader.Reader.take_next_feature.Goals as goal
 
-pub returns-clause-feeds : goal.returns-clause-feeds
-returns-clause-feeds g c =
+pub returns : goal.returns
+returns g c =
     let reader = c.args.self.now in
     let mid = c.take_close-taken.new.self in
-    let last = c.take_feature_end in
     let piece = c.args.piece.now in
     let inside = c.is_in_feature.ensures c.if-not-is_in_feature.false in
     let closes : class_of (get_or piece 0 0) ≡ close_class = ap class_of c.if-piece-ne125.false ∙ class_is close_class close_brace refl (λ e. cc) in
     let made : after_move (inner_of (levels_in reader.levels)) (class_of (get_or piece 0 0)) ≡ Close Object = rw (inside, closes) refl in
-    piece_all reader mid last.new.self piece c.take_close-taken.result last.result
-    (rw (c.take_close-taken.ensures.count)
+    then_all
+    (rw (c.take_close-taken.ensures.count) (of_prefix c.requires.some
     (end_closes reader mid piece Object c.requires.some c.requires.takes.0 c.requires.takes.1
     (closes_value reader.mode (inner_of (levels_in reader.levels)) (get_or piece 0 0) Object c.requires.done made) c.take_close-taken.ensures.lands
-    (λ events h. c.take_close-taken.ensures.heard events h)))
-    (rest_all mid last.new.self piece c.take_close-taken.result last.result last.ensures.feeds)
+    (λ events h. c.take_close-taken.ensures.heard events h))))
+    c.take_feature_end.ensures

@@ -1,43 +1,30 @@
 -- An opening bracket.
-use Rattle.gj_json.proofs.Common.{Event, List, ap, arith, event_at, opening_of, [], ◌∙◌, ◌∷◌, ◌≡◌}
+use Rattle.gj_json.proofs.Common.{Event, Lands, List, ap, arith, event_at, length, opened, opening_of, ◌<◌, [], ◌∙◌, ◌∷◌, ◌≡◌}
 use Rattle.std.proofs.Common.{take}
 use Rattle.gj_json.specs.Internal.OpenLevels.{levels_in}
+use Rattle.gj_json.proofs.Readers.CallsInTurn.{of_prefix}
 use Rattle.gj_json.proofs.Pieces.TakenTokens.{open_taken}
 use Rattle.gj_json.proofs.Pieces.TokensInLevels.{from_none, any_opened}
 use Rattle.gj_json.proofs.reader.Reader.take_open.Goals as goal
 
-pub returns-clause-feeds : goal.returns-clause-feeds
-returns-clause-feeds g c =
+pub returns : goal.returns
+returns g c =
+    let old = c.args.self.now in
+    let new = c.skip.new.self in
+    let level = c.args.level in
+    let r = c.requires in
     let p = c.skip.ensures.passed in
+    let more = ap levels_in p.levels ∙ c.push.ensures in
+    let deep : length (levels_in old.levels) < old.limits.depth = omega (arith, c.if-len-depth.false, c.len.ensures.value, c.depth.ensures.value) in
+    let lands : Lands 1 (opened level) (level ∷ levels_in old.levels) old new =
+    record { limits = p.limits; fault = p.fault; offset = p.offset; mode_is = p.mode_is ∙ c.opened_mode.ensures; levels_are = more } in
+    let es : List Event = event_at old.offset (opening_of level) ∷ [] in
     rw (c.skip.ensures.count)
-    (open_taken c.args.self.now c.skip.new.self c.args.piece.now c.args.level c.requires.some c.requires.begins c.requires.takes.0 c.requires.due c.requires.takes.1
-    (omega (arith, c.if-len-depth.false, c.len.ensures.value, c.depth.ensures.value))
     (record {
-      limits = p.limits;
-      fault = p.fault;
-      offset = p.offset;
-      mode_is = p.mode_is ∙ c.opened_mode.ensures;
-      levels_are =
-          ap levels_in p.levels ∙ c.push.ensures;
+      lands = λ some. lands;
+      all = of_prefix r.some (open_taken old new c.args.piece.now level r.some r.begins r.takes.0 r.due r.takes.1 deep lands
+          (λ events h. rw (← c.opening.ensures) (c.tell.ensures events h)));
+      any = of_prefix r.some (any_opened old new (take 1 c.args.piece.now) level old.offset
+          (open_taken {before = λ events. events ≡ []} {after = λ events. events ≡ es} old new c.args.piece.now level r.some r.begins r.takes.0 r.due
+          r.takes.1 deep lands (from_none es)) more);
     })
-    (λ events h. rw (← c.opening.ensures) (c.tell.ensures events h)))
-
-pub returns-clause-any : goal.returns-clause-any
-returns-clause-any g c =
-    let p = c.skip.ensures.passed in
-    let es : List Event = event_at c.args.self.now.offset (opening_of c.args.level) ∷ [] in
-    rw (c.skip.ensures.count)
-    (any_opened c.args.self.now c.skip.new.self (take 1 c.args.piece.now) c.args.level c.args.self.now.offset
-    (open_taken {before = λ events. events ≡ []} {after = λ events. events ≡ es} c.args.self.now c.skip.new.self c.args.piece.now c.args.level c.requires.some
-    c.requires.begins c.requires.takes.0 c.requires.due c.requires.takes.1
-    (omega (arith, c.if-len-depth.false, c.len.ensures.value, c.depth.ensures.value))
-    (record {
-      limits = p.limits;
-      fault = p.fault;
-      offset = p.offset;
-      mode_is = p.mode_is ∙ c.opened_mode.ensures;
-      levels_are =
-          ap levels_in p.levels ∙ c.push.ensures;
-    })
-    (from_none es))
-    (ap levels_in p.levels ∙ c.push.ensures))

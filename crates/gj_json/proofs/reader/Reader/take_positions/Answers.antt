@@ -5,7 +5,7 @@ use Rattle.std.proofs.Common.{append-nil, take, length-drop}
 use Rattle.std.proofs.lemmas.List.{get_or-take, length-take, take_all}
 use Rattle.gj_json.specs.CutPosition.{AreCutPositions}
 use Rattle.gj_json.specs.Internal.SpelledPositions.{gap_of, HasHead}
-use Rattle.gj_json.proofs.Readers.CallsInTurn.{piece_left}
+use Rattle.gj_json.proofs.Readers.CallsInTurn.{of_prefix, piece_left}
 use Rattle.gj_json.proofs.Pieces.PieceRests.{rest_of, left_within, left_is}
 use Rattle.gj_json.proofs.Pieces.FlatsInTurn.{depth_left, room_left}
 use Rattle.gj_json.proofs.Pieces.ReadPositions.{rising, end_is, end_begins}
@@ -45,17 +45,17 @@ tell_positions-taken-requires g c =
           c.read_positions-found.ensures.spelled;
     }
 
-pub returns-then-taken-eq0-clause-feeds : goal.returns-then-taken-eq0-clause-feeds
-returns-then-taken-eq0-clause-feeds g c =
+pub returns-then-taken-eq0-clause-taken : goal.returns-then-taken-eq0-clause-taken
+returns-then-taken-eq0-clause-taken g c =
     let i = c.loop-taken.invariant in
     let told = take c.read_positions-found.result c.read_positions-found.new.positions in
     let piece = c.args.piece.now in
     let P : ℕ → Type 0 = λ n. AreCutPositions (take n told) [] in
     let none : P c.tell_positions-taken.result = subst P (sym c.if-taken-eq0.true) tt in
     let bytes = take (length piece - length c.loop-taken.rest.now) piece in
-    room_filled c.args.self.now c.loop-taken.self bytes
+    of_prefix (omega arith) (room_filled c.args.self.now c.loop-taken.self bytes
     (heard_less c.args.self.now c.loop-taken.self bytes i.fed
-    (λ events h. subst (g.S.EventSink.heard c.tell_positions-taken.new.self) (append-nil events) (c.tell_positions-taken.ensures.heard [] none events h)))
+    (λ events h. subst (g.S.EventSink.heard c.tell_positions-taken.new.self) (append-nil events) (c.tell_positions-taken.ensures.heard [] none events h))))
 
 pub overflow_add-next-in-loop-taken : goal.overflow_add-next-in-loop-taken
 overflow_add-next-in-loop-taken g c =

@@ -2,7 +2,7 @@
 use Rattle.gj_json.proofs.Common.{FeedsAll, IsDueAt, List, ap, arith, drop, length, refl, subst, sym, ℕ, ◌+◌, ◌-◌, ◌<◌, ◌∙◌, ◌≡◌}
 use Rattle.std.proofs.Common.{take}
 use Rattle.gj_json.proofs.Readers.CallsInTurn
-use Rattle.gj_json.proofs.Readers.CallsInTurn.{piece_left}
+use Rattle.gj_json.proofs.Readers.CallsInTurn.{of_prefix, piece_left}
 use Rattle.gj_json.proofs.Pieces.PieceRests.{rest_of, more_within, left_within, left_is}
 use Rattle.gj_json.proofs.Pieces.FlatsInTurn.{goes_on, ends}
 use Rattle.gj_json.proofs.reader.Reader.take_several.Goals as goal
@@ -21,13 +21,13 @@ loop-begins-init g c =
       levels = refl;
     }
 
-pub returns-then-comma-eq0-clause-feeds : goal.returns-then-comma-eq0-clause-feeds
-returns-then-comma-eq0-clause-feeds g c =
+pub returns-then-comma-eq0 : goal.returns-then-comma-eq0
+returns-then-comma-eq0 g c =
     let invariant = c.loop-begins.invariant in
     let some = c.in-Some.ensures in
-    ends c.args.self.now c.loop-begins.self c.skip.new.self c.read_flat.new.flat c.args.piece.now c.loop-begins.rest.now c.in-Some.count
+    of_prefix (omega arith) (ends c.args.self.now c.loop-begins.self c.skip.new.self c.read_flat.new.flat c.args.piece.now c.loop-begins.rest.now c.in-Some.count
     invariant.within invariant.rest_is invariant.fed (invariant.next c.loop-begins-test.true) invariant.levels c.requires.deep c.requires.inner
-    c.requires.takes.1 some.within some.flat (λ events h. c.tell_flat.ensures events h) c.skip.ensures.passed
+    c.requires.takes.1 some.within some.flat (λ events h. c.tell_flat.ensures events h) c.skip.ensures.passed)
 
 pub loop-begins-preserved : goal.loop-begins-preserved
 loop-begins-preserved g c =
@@ -79,9 +79,9 @@ loop-begins-preserved-then-begins g c =
     let n = taken.result in
     let P : List ℕ → Type 0 = λ xs. IsDueAt taken.new.self.mode xs in
     record {
-      within = left_within piece left n within many.within;
-      rest_is = left_is piece left n within many.within rest_is;
-      fed = piece_left c.args.self.now skipped.new.self taken.new.self piece left n within rest_is many.within fed many.feeds;
+      within = left_within piece left n within many.taken.within;
+      rest_is = left_is piece left n within many.taken.within rest_is;
+      fed = piece_left c.args.self.now skipped.new.self taken.new.self piece left n within rest_is many.taken.within fed many.taken.holds;
       next = λ begins. subst P (sym (rest_of left n)) many.next;
       levels = many.levels ∙ skipped.ensures.passed.levels ∙ invariant.levels;
     }

@@ -1,14 +1,21 @@
 use Rattle.gj_number.proofs.Common.{Bool, StartsWithNumber, arith, refl, subst, sym, ◌+◌}
 use Rattle.gj_number.specs.Short.{short_value}
 use Rattle.gj_number.proofs.Shorts.NumberPrefixes.{spells_rest}
-use Rattle.gj_number.proofs.Shorts.WrittenExponents.{exponent_front, few_written}
+use Rattle.gj_number.proofs.Shorts.WrittenExponents.{exponent_front, few_written, plain_front}
 use Rattle.gj_number.proofs.short.prefix.with_exponent.Goals as goal
 
 pub moved-requires : goal.moved-requires
 moved-requires c = few_written _ _ _ c.first_run-written.ensures.spells c.first_run-written.ensures.few
 
-pub returns : goal.returns
-returns c = λ some.
+pub returns-else-may_stand-clause-number : goal.returns-else-may_stand-clause-number
+returns-else-may_stand-clause-number c = λ some.
+    let old = c.args.number.now in
+    let room = c.requires.room in
+    plain_front c.args.piece.now old.negative old.digits old.places c.args.end c.requires.plain old.small old.few (omega arith)
+    (c.if-may_stand.ensures.class refl)
+
+pub returns-clause-number : goal.returns-clause-number
+returns-clause-number c = λ some.
     let piece = c.args.piece.now in
     let old = c.args.number.now in
     let sign = c.sign_of-sign in
@@ -23,4 +30,4 @@ returns c = λ some.
     sign.result.negative (omega arith)
     (c.is_letter.ensures.0 c.if-not-is_letter.false) sign.ensures.few sign.ensures.sign refl (spells_rest piece first 0 _ _ written.ensures.spells)
     (omega arith)
-    is.up moved.digits moved.places is.digits moved.small moved.few (omega arith) is.power (omega arith) (c.if-may_stand.ensures.class refl))
+    is.up moved.digits moved.places is.digits moved.small moved.few (omega arith) is.power (omega arith) (c.if-may_stand-2.ensures.class refl))

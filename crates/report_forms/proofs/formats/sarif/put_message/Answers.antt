@@ -5,4 +5,4 @@ use Rattle.report_forms.proofs.formats.sarif.put_message.Goals as goal
 pub returns : goal.returns
 unfolding sarif_message
 returns c =
-    simp (append_assoc, c.in_ok-put_text.ensures, c.in_ok-put_record.ensures, c.in_ok-put_and_times.ensures, c.hint_on.ensures) at c.put_and_hint.ensures
+    simp (append_assoc, c.in_ok-put_text.ensures, c.in_ok-put_record.ensures, c.in_ok-put_and_times.ensures, c.hint_on-hint.ensures) at c.put_and_hint.ensures

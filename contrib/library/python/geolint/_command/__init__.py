@@ -1,1 +1,0 @@
-"""The command `python -m geolint`: files and folders, as geolint-files checks them. Nothing here is for hosts."""

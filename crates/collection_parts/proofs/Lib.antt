@@ -1,0 +1,3 @@
+mod ReadBytes
+mod TrueSums
+mod PlacesInTexts

@@ -1,0 +1,17 @@
+use Rattle.std.proofs.Common.{◌≡◌, ◌≤◌, ◌-◌}
+use Rattle.std.specs.Prelude.{IfSome, if◌then◌else◌, suc}
+use Rattle.gj_runs.specs.RunLinter.{limits_of}
+use Rattle.collection_parts.specs.Internal.Reading.{IsRead}
+use Rattle.collection_parts.proofs.runs.read_run.Given as goal
+
+abbrev pub invariant-loop-is_open : goal.invariant-loop-is_open
+invariant-loop-is_open g l = record {
+  ordered : l.begin ≤ l.place;
+  text : g.S.Source.text l.source ≡ g.S.Source.text l.fn.source;
+  unfailed : g.S.Source.failed_reads l.source ≡ g.S.Source.failed_reads l.fn.source;
+  under : limits_of l.run ≡ l.fn.limits;
+  read : IfSome (g.S.Source.text l.fn.source) (λ text. IsRead text l.run l.begin l.place);
+}
+
+abbrev pub decreases-loop-is_open : goal.decreases-loop-is_open
+decreases-loop-is_open g l = if l.is_open then suc (l.end - l.place) else 0

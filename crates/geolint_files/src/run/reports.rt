@@ -1,0 +1,217 @@
+//! Reports one file.
+
+use crate::files::reason;
+use crate::outcome::Outcome;
+use crate::run::{Failure, Run};
+use geolint_report::found::{Found, found_at};
+use geolint_report::hints::find_hint;
+use geolint_report::judge::{Finding, Reading};
+use geolint_report::report::Report;
+use geolint_report::rereading::find_sites;
+use geolint_report::sites::Sites;
+use geolint_report::source::Rewind;
+use gj_hints::Hint;
+use report_forms::formats::{github, gitlab, json, lines, put_unread_line, text};
+use report_forms::options::Format;
+use std::alloc::AllocError;
+use std::io::{self, Write};
+
+impl<'a, W: Write + Drop> Run<'a, W> {
+    ghost use Rattle.std.specs.Prelude.{◌≡◌, ℕ, List, None, OnOk, IsSomeAnd};
+    ghost use Rattle.std.specs.Io.KnownBytes.{Keeps};
+    ghost use Rattle.geolint_report.specs.declared.report.Report.{Report};
+    ghost use Rattle.geolint_report.specs.Sought.{AreSought};
+    ghost use Rattle.report_forms.specs.Passing.{passes};
+    ghost use Rattle.report_forms.specs.Forms.{TellsReport, TellsUnread, KeepsInLog, first_after};
+    ghost use Rattle.geolint_files.specs.Internal.RunState.{TellsFile, SameTold};
+    ghost use Rattle.geolint_files.specs.Run.{judged, not_read};
+    ghost use Rattle.geolint_files.specs.Told.{HasSites};
+
+    /// Reports a file that was checked, with the lines of its places where it has some.
+    pub fn tell_found<S: Rewind>(
+        &mut self,
+        name: &[u8],
+        finding: Finding,
+        source: &mut S,
+        reading: Reading,
+    ) -> Result<(), Failure>
+        ensures text { S.text source.new ≡ S.text source.old }
+        ensures told { OnOk result ((report : Report) × (report.name.now ≡ name.now) × (report.finding ≡ finding)
+            × HasSites reading self.old.options.limits (S.text source.old) (S.failed_reads source.old) (S.failed_reads source.new) report
+            × TellsFile W.contents (judged report) self.old self.new) }
+    {
+        if finding.has_places() {
+            self.tell_sought(name, finding, source, reading)
+        } else {
+            self.tell(name, finding, None)
+        }
+    }
+
+    /// Reads a source again, and reports it with its lines: with none where that failed.
+    ///
+    /// The sites have room of their own, so a file without any pays nothing for it.
+    #[inline(never)]
+    fn tell_sought<S: Rewind>(
+        &mut self,
+        name: &[u8],
+        finding: Finding,
+        source: &mut S,
+        reading: Reading,
+    ) -> Result<(), Failure>
+        ensures text { S.text source.new ≡ S.text source.old }
+        ensures told { OnOk result ((report : Report) × (report.name.now ≡ name.now) × (report.finding ≡ finding)
+            × IsSomeAnd report.sites
+            (λ sites. AreSought finding reading self.old.options.limits (S.text source.old) (S.failed_reads source.old) (S.failed_reads source.new) sites.now)
+            × TellsFile W.contents (judged report) self.old self.new) }
+    {
+        let sites = find_sites(
+            &finding,
+            source,
+            reading,
+            self.options.limits,
+            &mut self.progress,
+        );
+        let found = found_at(&finding, &sites, reading, source);
+        let hint = find_hint(&finding, self.linter, source);
+        self.tell_with_hint(name, finding, Some(&sites), found, hint)
+    }
+
+    /// Reports a file that was checked.
+    pub fn tell(
+        &mut self,
+        name: &[u8],
+        finding: Finding,
+        sites: Option<&Sites>,
+    ) -> Result<(), Failure>
+        ensures { OnOk result (TellsFile W.contents (judged (record {
+          name = name.entry;
+          finding = finding;
+          sites = sites.entry;
+          passes = passes self.old.options.strictness finding;
+          found = None;
+          hint = None;
+        })) self.old self.new) }
+    {
+        self.tell_with_hint(name, finding, sites, None, None)
+    }
+
+    /// Reports a file that was checked, and what it looks like.
+    fn tell_with_hint(
+        &mut self,
+        name: &[u8],
+        finding: Finding,
+        sites: Option<&Sites>,
+        found: Option<Found>,
+        hint: Option<Hint>,
+    ) -> Result<(), Failure>
+        ensures { OnOk result (TellsFile W.contents (judged (record {
+          name = name.entry;
+          finding = finding;
+          sites = sites.entry;
+          passes = passes self.old.options.strictness finding;
+          found = found;
+          hint = hint;
+        })) self.old self.new) }
+    {
+        self.progress.clear();
+        let passes = self.options.passes(&finding);
+        self.outcome.add(Outcome::of(passes));
+        self.summary.add_file(&finding);
+        let report = Report {
+            name,
+            finding,
+            sites,
+            passes,
+            found,
+            hint,
+        };
+        self.put(&report)?;
+        self.write()?;
+        self.show()
+    }
+
+    /// What is reported of a file, in the form that is asked for.
+    fn put(&mut self, report: &Report<'_>) -> Result<(), AllocError>
+        ensures same { SameTold self.old self.new }
+        ensures out { self.new.out ≡ self.old.out }
+        ensures told { OnOk result
+            (TellsReport self.old.options.format self.old.style self.old.log.is_first report.now self.old.options.strictness self.old.line
+            self.new.line) }
+        ensures first { OnOk result
+            (self.new.log.is_first ≡ first_after self.old.options.format self.old.log.is_first report.now self.old.options.strictness) }
+        ensures unread { self.new.log.unread ≡ self.old.log.unread }
+    {
+        let alloc = self.rt.alloc();
+        match self.options.format {
+            Format::Text => text::put_report(report, &mut self.line),
+            Format::Lines => lines::put_report(alloc, report, self.style, &mut self.line),
+            Format::Json => json::put_report(alloc, report, &mut self.line),
+            Format::Github => github::put_report(alloc, report, &self.options, &mut self.line),
+            Format::Gitlab => self.log.put_report(
+                alloc,
+                Format::Gitlab,
+                report,
+                &self.options,
+                &mut self.line,
+            ),
+            Format::Sarif => self.log.put_report(
+                alloc,
+                Format::Sarif,
+                report,
+                &self.options,
+                &mut self.line,
+            ),
+        }
+    }
+
+    /// Reports a file that could not be opened or read. Each is reported on standard error.
+    pub fn tell_unread(&mut self, name: &[u8], error: &io::Error) -> Result<(), Failure>
+        ensures { OnOk result ((reason : List ℕ) × TellsFile W.contents (not_read name.now reason) self.old self.new) }
+    {
+        self.progress.clear();
+        self.outcome.add(Outcome::Unread);
+        self.summary.add_unread();
+        let alloc = self.rt.alloc();
+        let reason = reason(alloc, error)?;
+        self.out.flush()?;
+        let mut line = Vec::new(alloc);
+        put_unread_line(name, reason.as_bytes(), &mut line)?;
+        // Where standard error cannot be written either, the status says it.
+        let _ = self.rt.stderr().write_all(line.as_slice());
+        self.put_unread(name, reason.as_str())?;
+        self.write()?;
+        self.show()
+    }
+
+    /// Appends the line on a file that was not read in the form that is asked for, or keeps it for the end of a log.
+    fn put_unread(&mut self, name: &[u8], reason: &str) -> Result<(), AllocError>
+        ensures same { SameTold self.old self.new }
+        ensures out { self.new.out ≡ self.old.out }
+        ensures told { OnOk result (TellsUnread self.old.options.format self.old.log.is_first name.now reason.now self.old.line self.new.line) }
+        ensures log { OnOk result (KeepsInLog self.old.options.format name.now reason.now self.old.log self.new.log) }
+    {
+        let alloc = self.rt.alloc();
+        match self.options.format {
+            Format::Text | Format::Lines => Ok(()),
+            Format::Json => json::put_unread(alloc, name, reason, &mut self.line),
+            Format::Github => github::put_unread(alloc, name, reason, &mut self.line),
+            Format::Gitlab => {
+                gitlab::put_unread(alloc, name, reason, &mut self.log, &mut self.line)
+            }
+            Format::Sarif => self.log.keep_unread(alloc, name, reason),
+        }
+    }
+
+    /// On a terminal each file is shown when it is checked.
+    pub fn show(&mut self) -> Result<(), Failure>
+        ensures same { SameTold self.old self.new }
+        ensures log { self.new.log ≡ self.old.log }
+        ensures line { self.new.line ≡ self.old.line }
+        ensures out { Keeps (W.contents self.old.out) (W.contents self.new.out) }
+    {
+        if self.is_terminal {
+            self.out.flush()?;
+        }
+        Ok(())
+    }
+}

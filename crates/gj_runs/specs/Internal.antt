@@ -1,0 +1,3 @@
+-- What the proofs of this crate need.
+pub mod Totals
+pub mod PassedRuns

@@ -1,0 +1,51 @@
+-- The form `gitlab`: an array of issues, as GitLab's Code Quality reads it.
+use Rattle.std.specs.Prelude.{ℕ, Bool, List, ◌++◌, Option, Some, None, codes, if◌then◌else◌}
+use Rattle.std.specs.Fmt.{decimal}
+use Rattle.std.specs.List.{flat_map}
+use Rattle.hex.specs.Hex.{encode_lower}
+use Rattle.sha2.specs.Sha256.{sha256}
+use Rattle.geolint_report.specs.declared.report.Report.{Report}
+use Rattle.geolint_report.specs.declared.sites.Spot.{Spot}
+use Rattle.geolint_report.specs.Report.{spot_of}
+use Rattle.geolint_report.specs.Texts.{code_name}
+use Rattle.report_forms.specs.declared.formats.issues.Issue.{Issue}
+use Rattle.report_forms.specs.Forms.Issues.{issue_text}
+use Rattle.report_forms.specs.Names.{in_string, shown_name}
+
+-- a rule, a place and a file
+unfoldable pub identity_of : List ℕ → ℕ → List ℕ → List ℕ
+identity_of check place name = check ++ (codes " " ++ (decimal place ++ (codes " " ++ name)))
+
+abbrev pub fingerprint_of : List ℕ → ℕ → List ℕ → List ℕ
+fingerprint_of check place name = encode_lower (sha256 (identity_of check place name))
+
+-- what fails a file, or does not
+abbrev pub severity_of : Bool → List ℕ
+severity_of fails = if fails then codes "major" else codes "minor"
+
+-- GitLab wants a line, and has the first one where none is known
+abbrev pub line_of : Option Spot → ℕ
+line_of (Some spot) = spot.line
+line_of None = 1
+
+unfoldable pub gitlab_object : List ℕ → List ℕ → List ℕ → ℕ → List ℕ → Option Spot → List ℕ
+gitlab_object severity check text place name spot =
+    codes "{\"description\":\""
+    ++ (flat_map in_string text
+    ++ (codes "\",\"check_name\":\""
+    ++ (check
+    ++ (codes "\",\"fingerprint\":\""
+    ++ (fingerprint_of check place name
+    ++ (codes "\",\"severity\":\""
+    ++ (severity
+    ++ (codes "\",\"location\":{\"path\":\""
+    ++ (flat_map in_string (shown_name name) ++ (codes "\",\"lines\":{\"begin\":" ++ (decimal (line_of spot) ++ codes "}}}")))))))))))
+
+abbrev pub gitlab_issue : Report → Issue → List ℕ
+gitlab_issue report issue =
+    gitlab_object (severity_of issue.is_failure) (code_name issue.told.code) (issue_text report issue) issue.told.place report.name.now
+    (spot_of report issue.told.place)
+
+-- that of a file that could not be opened or read
+abbrev pub gitlab_unread : List ℕ → List ℕ → List ℕ
+gitlab_unread name reason = gitlab_object (codes "major") (codes "not-read") (shown_name reason) 0 name None
