@@ -202,7 +202,9 @@ class Firefox(Browser):
             it.bind(("127.0.0.1", 0))
             port = it.getsockname()[1]
         off = ("app.update.enabled", "browser.shell.checkDefaultBrowser", "datareporting.policy.dataSubmissionEnabled", "toolkit.telemetry.enabled",
-               "app.normandy.enabled", "network.captive-portal-service.enabled", "browser.download.useDownloadDir.", *([] if has_wasm else ["javascript.options.wasm"]))
+               "app.normandy.enabled", "network.captive-portal-service.enabled",
+               # The panel of a download would take the focus from the page.
+               "browser.download.alwaysOpenPanel", *([] if has_wasm else ["javascript.options.wasm"]))
         with open(f"{self.folder}/user.js", "w") as file:
             for name in off:
                 file.write(f'user_pref("{name}", false);\n')
@@ -221,10 +223,12 @@ class Firefox(Browser):
         said = self.call("session.new", capabilities={})
         self.version = "Firefox/" + said["capabilities"]["browserVersion"]
         self.call("session.subscribe", events=["log.entryAdded", "network.beforeRequestSent"])
-        # The first tab has no focus, and its buttons no keys.
-        self.context = self.call("browsingContext.create", type="tab")["context"]
+        self.context = self.call("browsingContext.getTree")["contexts"][0]["context"]
 
     def navigate(self, url):
+        # The first tab has no focus, and its buttons no keys; of a later one, Tab may have moved the focus to the browser itself.
+        last, self.context = self.context, self.call("browsingContext.create", type="tab")["context"]
+        self.call("browsingContext.close", context=last)
         self.call("browsingContext.navigate", context=self.context, url=url, wait="complete")
 
     def value(self, text):

@@ -186,6 +186,7 @@ def denied(browser):
     browser.wait(DONE.format(2))
     browser.value("document.querySelector('#demands summary').focus()")
     browser.press("Enter")
+    wants("the choice opens by a key", browser.value("document.getElementById('demands').open"))
     is_open_to_all(browser, "the choice of warnings")
     browser.shot(shots / f"{name}-denied.png")
     said = f"[document.getElementById('counts').textContent, {SENTENCE}, document.querySelectorAll('#kinds :checked').length]"
