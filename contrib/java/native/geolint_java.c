@@ -69,12 +69,16 @@ static void write_report(jlong *all, const geolint_report *report) {
     }
 }
 
-JNIEXPORT void JNICALL Java_geolint_Native_finish(JNIEnv *env, jclass native, jlong linter, jlongArray numbers) {
-    geolint_report report = geolint_finish(linter_at(linter));
+/* Gives Java the numbers of a report. */
+static void set_report(JNIEnv *env, jlongArray numbers, geolint_report report) {
     jlong all[REPORT];
-    (void)native;
     write_report(all, &report);
     (*env)->SetLongArrayRegion(env, numbers, 0, REPORT, all);
+}
+
+JNIEXPORT void JNICALL Java_geolint_Native_finish(JNIEnv *env, jclass native, jlong linter, jlongArray numbers) {
+    (void)native;
+    set_report(env, numbers, geolint_finish(linter_at(linter)));
 }
 
 /* A text whose features are reported, with the bytes that were taken over of it. */
@@ -145,11 +149,8 @@ JNIEXPORT jint JNICALL Java_geolint_Native_nextFeature(JNIEnv *env, jclass nativ
 }
 
 JNIEXPORT void JNICALL Java_geolint_Native_finishFeatures(JNIEnv *env, jclass native, jlong features, jlongArray numbers) {
-    geolint_report report = geolint_features_finish(walk_at(features)->features);
-    jlong all[REPORT];
     (void)native;
-    write_report(all, &report);
-    (*env)->SetLongArrayRegion(env, numbers, 0, REPORT, all);
+    set_report(env, numbers, geolint_features_finish(walk_at(features)->features));
 }
 
 /* A run or a join of a text in parts. Their bytes lie in a buffer outside the heap, which one thread alone fills. */
@@ -206,11 +207,8 @@ JNIEXPORT jboolean JNICALL Java_geolint_Native_passOver(JNIEnv *env, jclass nati
 }
 
 JNIEXPORT void JNICALL Java_geolint_Native_finishJoin(JNIEnv *env, jclass native, jlong join, jlongArray numbers) {
-    geolint_report report = geolint_join_finish(join_at(join));
-    jlong all[REPORT];
     (void)native;
-    write_report(all, &report);
-    (*env)->SetLongArrayRegion(env, numbers, 0, REPORT, all);
+    set_report(env, numbers, geolint_join_finish(join_at(join)));
 }
 
 JNIEXPORT jstring JNICALL Java_geolint_Native_ruleText(JNIEnv *env, jclass native, jint rule) {

@@ -157,8 +157,24 @@ private:
 
 namespace detail {
 
-struct Free {
-    void operator()(void *memory) const noexcept { free(memory); }
+/* Memory for a handle of this type: none where it could not be begun. */
+template <class Handle> class Memory {
+public:
+    explicit operator bool() const noexcept { return memory_ != nullptr; }
+
+protected:
+    explicit Memory(std::size_t size) noexcept : memory_(malloc(size)) {}
+    Handle *at() const noexcept { return static_cast<Handle *>(memory_.get()); }
+    void begun(std::uint32_t status) noexcept {
+        if (status != GEOLINT_DONE)
+            memory_.reset();
+    }
+
+private:
+    struct Free {
+        void operator()(void *memory) const noexcept { free(memory); }
+    };
+    std::unique_ptr<void, Free> memory_;
 };
 
 /* Whether the bytes of a container stay after the expression: it is named, or a view, as std::string_view and std::span. */
@@ -360,13 +376,11 @@ public:
 };
 
 /* A run of features of a text, checked apart from it: what geolint.h says of parts. Empty where no feature can have ended at the place. */
-class Run {
+class Run : public detail::Memory<geolint_run> {
 public:
-    explicit Run(std::uint64_t place, std::uint32_t max_depth = 0) noexcept : memory_(malloc(geolint_run_size())) {
-        if (geolint_run_begin(at(), max_depth, place) != GEOLINT_DONE)
-            memory_.reset();
+    explicit Run(std::uint64_t place, std::uint32_t max_depth = 0) noexcept : Memory(geolint_run_size()) {
+        begun(geolint_run_begin(at(), max_depth, place));
     }
-    explicit operator bool() const noexcept { return memory_ != nullptr; }
     /* Takes the next bytes. False: no further byte makes the run longer. */
     bool feed(const void *bytes, std::size_t length) noexcept {
         return geolint_run_feed(at(), geolint_bytes(bytes), length) == GEOLINT_DONE && !sum().ended;
@@ -374,40 +388,28 @@ public:
     geolint_sum sum() const noexcept { return geolint_run_sum(at()); }
     /* After how many of these bytes a run may begin, as far as they say; 0 where there is no such place. */
     static std::size_t likely(const void *bytes, std::size_t length) noexcept { return geolint_run_likely(geolint_bytes(bytes), length); }
-
-private:
-    geolint_run *at() const noexcept { return static_cast<geolint_run *>(memory_.get()); }
-    std::unique_ptr<void, detail::Free> memory_;
 };
 
 /* Checks a text without its runs. Empty as a Linter. */
-class Join {
+class Join : public detail::Memory<geolint_join> {
 public:
-    explicit Join(Limits limits = Limits()) noexcept : memory_(malloc(geolint_join_size())) {
-        if (geolint_join_begin(at(), limits.max_depth, limits.max_bytes) != GEOLINT_DONE)
-            memory_.reset();
+    explicit Join(Limits limits = Limits()) noexcept : Memory(geolint_join_size()) {
+        begun(geolint_join_begin(at(), limits.max_depth, limits.max_bytes));
     }
-    explicit operator bool() const noexcept { return memory_ != nullptr; }
     bool feed(const void *bytes, std::size_t length) noexcept {
         return geolint_join_feed(at(), geolint_bytes(bytes), length) == GEOLINT_DONE;
     }
     /* Passes over the run of a sum, where a feature has ended right before it; the next bytes are then those from its `end` on. */
     bool pass_over(const geolint_sum &sum) noexcept { return geolint_join_pass_over(at(), &sum) != 0; }
     Verdict finish() noexcept { return Verdict(geolint_join_finish(at())); }
-
-private:
-    geolint_join *at() const noexcept { return static_cast<geolint_join *>(memory_.get()); }
-    std::unique_ptr<void, detail::Free> memory_;
 };
 
 /* Finds the path to a place: it is fed the bytes before the place, and the one that stands there. */
-class Locator {
+class Locator : public detail::Memory<geolint_locator> {
 public:
-    explicit Locator(Limits limits = Limits()) noexcept : memory_(malloc(geolint_locator_size())) {
-        if (geolint_locator_begin(at(), limits.max_depth, limits.max_bytes) != GEOLINT_DONE)
-            memory_.reset();
+    explicit Locator(Limits limits = Limits()) noexcept : Memory(geolint_locator_size()) {
+        begun(geolint_locator_begin(at(), limits.max_depth, limits.max_bytes));
     }
-    explicit operator bool() const noexcept { return memory_ != nullptr; }
     bool feed(const void *bytes, std::size_t length) noexcept {
         return geolint_locator_feed(at(), geolint_bytes(bytes), length) == GEOLINT_DONE;
     }
@@ -424,10 +426,6 @@ public:
             path.append(step.bytes, static_cast<std::size_t>(step.size));
         }
     }
-
-private:
-    geolint_locator *at() const noexcept { return static_cast<geolint_locator *>(memory_.get()); }
-    std::unique_ptr<void, detail::Free> memory_;
 };
 
 /* Counts the line and the column of the place after the bytes that it is fed, each from 1. */
