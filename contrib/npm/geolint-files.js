@@ -10,6 +10,7 @@ import { endsIn, framingOf, FOLDER_ENDINGS } from "./endings.js";
 import { load, textOf, jsonOf, jsonOfUnread, linesOf, sarifOf, githubOf, githubOfUnread, eachOf, demandsOf } from "./geolint.js";
 import { textOfFindings, jsonOfFindings, linesOfFindings, githubOfFindings } from "./geolint.js";
 import { issueOfUnread, issuesOf, issuesOfFindings } from "./issues.js";
+import { shownName as shown } from "./lines.js";
 import { chaptersOf } from "./session.js";
 
 const read = (name) => readFileSync(new URL(name, import.meta.url), "utf8");
@@ -123,9 +124,6 @@ async function isLostLink(path, error) {
   if (error.code !== "ENOENT" && error.code !== "ELOOP") return false;
   return lstat(path).then((is) => is.isSymbolicLink(), () => false);
 }
-
-/** A text without what a terminal would obey: in its place are the numbers of its bytes. */
-const shown = (text) => text.replace(/[\u0000-\u001f\u007f-\u009f]/g, (it) => [...Buffer.from(it)].map((byte) => `\\x${byte.toString(16).padStart(2, "0")}`).join(""));
 
 const NO_FILE = "no regular file; it is read where it is given by name";
 const reasonOf = (error) => error.message.replace(/^\w+: /, "").replace(/, \w+( '.*')?$/s, "");

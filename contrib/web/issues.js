@@ -1,5 +1,6 @@
 // What the forms for programs that gather issues have in common: { level, rule, text, offset, line, column } of each issue.
 
+import { shownName } from "./lines.js";
 import { eachOf, hintOn } from "./report.js";
 
 const isThere = (it) => it !== null && it !== undefined;
@@ -23,7 +24,7 @@ export const issueOfUnread = (reason) => issueWithoutPlace("error", "not-read", 
 export function issuesOfFindings(items, more, fails) {
   const issues = eachOf(items).map((it) => {
     const called = it.index === undefined ? `record ${it.number}` : `feature ${it.index}`;
-    const details = [called, isThere(it.id) && `id ${it.id}`, `at byte ${it.offset}`, it.path].filter(Boolean);
+    const details = [called, isThere(it.id) && `id ${shownName(it.id)}`, `at byte ${it.offset}`, it.path].filter(Boolean);
     return { ...it, level: levelIn(it.rule, fails), text: [it.text, ...details].join(", ") };
   });
   return more > 0 ? [...issues, issueWithoutPlace("notice", "more", `and ${more} more`)] : issues;

@@ -1,6 +1,7 @@
 // The forms of a report for a terminal: the lines of the program geolint, and the form `lines` of geolint-files.
 
 import { issueOfUnread, issuesOf, issuesOfFindings } from "./issues.js";
+import { shownName } from "./lines.js";
 import { eachOf, hintText } from "./report.js";
 import { widthOf } from "./width.js";
 
@@ -21,7 +22,7 @@ export function textOf(verdict) {
 
 export function textOfFindings(items, more = 0) {
   const lines = eachOf(items).map((it) => {
-    const id = isTold(it.id) ? ` id ${it.id}` : "";
+    const id = isTold(it.id) ? ` id ${shownName(it.id)}` : "";
     const spot = [`at ${it.offset}`, it.line !== null && `line ${it.line}, column ${it.column}`, it.path].filter(Boolean).join(", ");
     return `${calledIn(it)}${id} ${wordOf(it)} ${it.rule} ${spot}: ${it.text}\n`;
   });
@@ -57,7 +58,7 @@ function excerptOf(excerpt) {
 
 export function linesOfFindings(name, items, more = 0) {
   const lines = eachOf(items).map((it) => {
-    const id = isTold(it.id) ? `id ${it.id}` : null;
+    const id = isTold(it.id) ? `id ${shownName(it.id)}` : null;
     const details = [calledIn(it), id, it.line === null && `at byte ${it.offset}`, it.path].filter(Boolean).join(", ");
     return `${place(name, it)}: ${wordOf(it)} ${it.rule}: ${it.text} (${details})\n`;
   });
