@@ -3,19 +3,20 @@
 
 import { lstat, open, readdir, realpath, stat } from "node:fs/promises";
 import { constants, createReadStream, readFileSync } from "node:fs";
+import { createHash } from "node:crypto";
 import { dirname, join, sep } from "node:path";
 import { parseArgs } from "node:util";
 import { endsIn, framingOf, FOLDER_ENDINGS } from "./endings.js";
 import { load, textOf, jsonOf, jsonOfUnread, linesOf, sarifOf, githubOf, githubOfUnread, eachOf, demandsOf } from "./geolint.js";
 import { textOfFindings, jsonOfFindings, linesOfFindings, githubOfFindings } from "./geolint.js";
+import { issueOfUnread, issuesOf, issuesOfFindings } from "./issues.js";
+import { shownName as shown } from "./lines.js";
 import { chaptersOf } from "./session.js";
 
 const read = (name) => readFileSync(new URL(name, import.meta.url), "utf8");
 const NOT_SERVED = ["split", "force", "part", "join", "file"];
 const { about, after, options } = JSON.parse(read("options.json"));
-// Nor is the form for GitLab.
-const servedOf = (it) => ({ ...it, values: it.values.filter((value) => value !== "gitlab"), notes: it.notes.replace(", gitlab", "") });
-const SERVED = options.filter(({ name }) => !NOT_SERVED.includes(name)).map(servedOf);
+const SERVED = options.filter(({ name }) => !NOT_SERVED.includes(name));
 
 class WrongWords extends Error {}
 
@@ -124,9 +125,6 @@ async function isLostLink(path, error) {
   return lstat(path).then((is) => is.isSymbolicLink(), () => false);
 }
 
-/** A text without what a terminal would obey: in its place are the numbers of its bytes. */
-const shown = (text) => text.replace(/[\u0000-\u001f\u007f-\u009f]/g, (it) => [...Buffer.from(it)].map((byte) => `\\x${byte.toString(16).padStart(2, "0")}`).join(""));
-
 const NO_FILE = "no regular file; it is read where it is given by name";
 const reasonOf = (error) => error.message.replace(/^\w+: /, "").replace(/, \w+( '.*')?$/s, "");
 
@@ -179,18 +177,32 @@ async function bytesOf(file, from, to) {
   return bytes.subarray(0, at);
 }
 
+/** An issue of a file as GitLab's Code Quality reads it. Its fingerprint stays the same while the file has this at this place. */
+function gitlabIssue(name, { level, rule, text, offset, line }) {
+  const fingerprint = createHash("sha256").update(`${rule} ${offset} ${name}`).digest("hex");
+  const severity = { error: "major", warning: "minor", notice: "info" }[level];
+  return JSON.stringify({ description: text, check_name: rule, fingerprint, severity, location: { path: shown(name), lines: { begin: line ?? 1 } } });
+}
+
 /** Checks all files, writes what the form has of each, and returns the status. */
 async function run(words) {
   const geolint = await load();
   const { fails, passes } = demandsOf(words);
+  let issueCount = 0;
+  const gitlabOf = (name, issues) => issues.map((it) => (issueCount++ ? ",\n" : "[") + gitlabIssue(name, it)).join("");
   const forms = {
     lines: (name, { verdict, items, more }) => linesOf(shown(name), verdict) + linesOfFindings(shown(name), items, more),
     json: (name, { verdict, items, more }) => [jsonOf(name, verdict, passes), ...jsonOfFindings(name, items, more), ""].join("\n"),
     text: (name, { verdict, items, more }) => `==> ${shown(name)} <==\n${textOf(verdict)}${textOfFindings(items, more)}`,
     github: (name, { verdict, items, more }) => githubOf(shown(name), verdict, fails) + githubOfFindings(shown(name), items, more, fails),
+    gitlab: (name, { verdict, items, more }) => gitlabOf(name, [...issuesOf(shown(name), verdict, fails), ...issuesOfFindings(items, more, fails)]),
     sarif: () => "",
   };
-  const unreadForms = { json: (name, reason) => `${jsonOfUnread(name, reason)}\n`, github: (name, reason) => githubOfUnread(shown(name), reason) };
+  const unreadForms = {
+    json: (name, reason) => `${jsonOfUnread(name, reason)}\n`,
+    github: (name, reason) => githubOfUnread(shown(name), reason),
+    gitlab: (name, reason) => gitlabOf(name, [issueOfUnread(reason)]),
+  };
   const counts = { valid: 0, "valid with warnings": 0, broken: 0, "not JSON": 0, "not read": 0, ...(words.quick ? { "not valid": 0 } : {}) };
   const [reports, unread, others] = [[], [], { count: 0 }];
   let status = 0;
@@ -211,6 +223,7 @@ async function run(words) {
       await write(unreadForms[words.format]?.(name, reasonOf(error)) ?? "");
     }
   }
+  if (words.format === "gitlab") await write(issueCount ? "]\n" : "[]\n");
   if (words.format === "sarif") await write(sarifOf(reports, await geolint.texts(), await geolint.version(), unread));
   if (words.summary) process.stderr.write(Object.entries(counts).map(([name, count]) => `${count} ${name}`).join(", ") + "\n");
   const isNone = Object.values(counts).every((it) => it === 0);

@@ -49,6 +49,9 @@ export class Lines {
  *  the rest about. */
 const HARMFUL = /[\u0000-\u001f\u007f-\u009f\u061c\u200b-\u200f\u2028-\u202e\u2060-\u2069\ufeff]/u;
 const harmless = (character) => (character === "\t" ? " " : HARMFUL.test(character) ? "\ufffd" : character);
+/** A name or an id without what a terminal or a runner of jobs would obey: in its place are the numbers of its bytes. */
+export const shownName = (text) =>
+  text.replace(new RegExp(`^[ #:]|${HARMFUL.source}`, "gu"), (it) => Array.from(new TextEncoder().encode(it), (byte) => `\\x${byte.toString(16).padStart(2, "0")}`).join(""));
 const charactersOf = (bytes) => [...new TextDecoder("utf-8", { ignoreBOM: true }).decode(bytes)].map(harmless);
 
 /** Without a CR at its end. */

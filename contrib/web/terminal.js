@@ -1,6 +1,8 @@
 // The forms of a report for a terminal: the lines of the program geolint, and the form `lines` of geolint-files.
 
-import { eachOf, hintOn, hintText } from "./report.js";
+import { issueOfUnread, issuesOf, issuesOfFindings } from "./issues.js";
+import { shownName } from "./lines.js";
+import { eachOf, hintText } from "./report.js";
 import { widthOf } from "./width.js";
 
 const isTold = (it) => it !== null && it !== undefined;
@@ -20,7 +22,7 @@ export function textOf(verdict) {
 
 export function textOfFindings(items, more = 0) {
   const lines = eachOf(items).map((it) => {
-    const id = isTold(it.id) ? ` id ${it.id}` : "";
+    const id = isTold(it.id) ? ` id ${shownName(it.id)}` : "";
     const spot = [`at ${it.offset}`, it.line !== null && `line ${it.line}, column ${it.column}`, it.path].filter(Boolean).join(", ");
     return `${calledIn(it)}${id} ${wordOf(it)} ${it.rule} ${spot}: ${it.text}\n`;
   });
@@ -56,7 +58,7 @@ function excerptOf(excerpt) {
 
 export function linesOfFindings(name, items, more = 0) {
   const lines = eachOf(items).map((it) => {
-    const id = isTold(it.id) ? `id ${it.id}` : null;
+    const id = isTold(it.id) ? `id ${shownName(it.id)}` : null;
     const details = [calledIn(it), id, it.line === null && `at byte ${it.offset}`, it.path].filter(Boolean).join(", ");
     return `${place(name, it)}: ${wordOf(it)} ${it.rule}: ${it.text} (${details})\n`;
   });
@@ -65,29 +67,19 @@ export function linesOfFindings(name, items, more = 0) {
 
 const inMessage = (text) => text.replace(/[%\r\n]/g, (it) => `%${it.charCodeAt(0).toString(16).toUpperCase().padStart(2, "0")}`);
 const inProperty = (text) => inMessage(text).replace(/:/g, "%3A").replace(/,/g, "%2C");
-const commandOf = (level, name, spot, message) => `::${level} file=${inProperty(name)}${spot}::${inMessage(message)}\n`;
-const spotOf = (it) => `${it.line === null ? "" : `,line=${it.line},col=${it.column}`},title=${it.rule}`;
 const neverFails = () => false;
-const levelOf = (rule, fails) => (rule.startsWith("W") && !fails(rule) ? "warning" : "error");
 
-/** The form `github`: a workflow command for each finding. `fails` says of a kind of warning whether it fails the file. */
-export function githubOf(name, verdict, fails = neverFails) {
-  if (verdict.verdict === "not valid") return githubOfUnread(name, "not valid");
-  const mark = verdict.verdict === "not JSON" ? "not JSON: " : "";
-  return (verdict.verdict === "valid" ? verdict.warnings : [verdict])
-    .map((it) => {
-      const details = [isTold(it.record) && `record ${it.record}`, it.count > 1 && `${it.count} times`, `at byte ${it.offset}`, it.path].filter(Boolean);
-      return commandOf(levelOf(it.rule, fails), name, spotOf(it), `${mark}${[it.text, ...details].join(", ")}${hintOn(name, it.rule, verdict.hint)}`);
+/** The form `github`: a workflow command for each issue. */
+const commandsOf = (name, issues) =>
+  issues
+    .map(({ level, rule, text, line, column }) => {
+      const spot = line === null ? "" : `,line=${line},col=${column}`;
+      const title = /\d/.test(rule) ? `,title=${rule}` : "";
+      return `::${level} file=${inProperty(name)}${spot}${title}::${inMessage(text)}\n`;
     })
     .join("");
-}
 
-export const githubOfUnread = (name, reason) => commandOf("error", name, "", reason);
-
-export function githubOfFindings(name, items, more = 0, fails = neverFails) {
-  const commands = eachOf(items).map((it) => {
-    const details = [calledIn(it), isTold(it.id) && `id ${it.id}`, `at byte ${it.offset}`, it.path].filter(Boolean);
-    return commandOf(levelOf(it.rule, fails), name, spotOf(it), [it.text, ...details].join(", "));
-  });
-  return commands.join("") + (more > 0 ? commandOf("notice", name, "", `and ${more} more`) : "");
-}
+/** `fails` says of a kind of warning whether it fails the file. */
+export const githubOf = (name, verdict, fails = neverFails) => commandsOf(name, issuesOf(name, verdict, fails));
+export const githubOfUnread = (name, reason) => commandsOf(name, [issueOfUnread(reason)]);
+export const githubOfFindings = (name, items, more = 0, fails = neverFails) => commandsOf(name, issuesOfFindings(items, more, fails));
