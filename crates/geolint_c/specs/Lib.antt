@@ -13,9 +13,4 @@ pub mod Locator
 pub mod Texts
 pub mod Hints
 pub mod Stream
-pub mod FeatureStream
-pub mod RecordStream
-pub mod RunStream
-pub mod JoinStream
-pub mod LocatorStream
 pub mod Internal

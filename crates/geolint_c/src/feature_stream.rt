@@ -3,13 +3,14 @@
 //!
 //! The calls over values are those of [`FeatureHandle`]; here is only what leads from a pointer to one, and that is proved by hand.
 ghost use Rattle.std.specs.Prelude.{◌≡◌};
-ghost use Rattle.std.specs.Borrow.{full_share, sem};
-ghost use Rattle.std.specs.Ptr.{lies_at, room_at, if_non_null};
-ghost use denote.RawPtr.{Testable};
 ghost use denote.Memory.{lone};
 ghost use prog.Memory.{size};
 ghost use Rattle.geolint_c.specs.contracts.features.FeatureHandle.{the_row};
-ghost use Rattle.geolint_c.specs.FeatureStream.{BegunAt, FedAt, NextAt, OffsetAt, FinishedAt};
+ghost use Rattle.geolint_c.specs.Features.{IsBegun, IsFed, IsNext, IsOffset, IsFinished};
+ghost use Rattle.geolint_c.specs.Finding.{no_finding, no_progress};
+ghost use Rattle.geolint_c.specs.Handle.{BegunStatus};
+ghost use Rattle.geolint_c.specs.Report.{no_report};
+ghost use Rattle.geolint_c.specs.Stream.{HasRoom, Holds, Leaves};
 
 use crate::features::FeatureHandle;
 use crate::finding::{Finding, Progress, no_finding, no_progress};
@@ -34,17 +35,10 @@ pub unsafe extern "C" fn geolint_features_begin(
     max_depth: u32,
     max_bytes: u64,
 ) -> u32
-    requires testable { Testable memory }
-    requires* room { sem 𝓛 (if_non_null memory (room_at the_row memory)) }
-    ensures* begun { ∃ₛ (λ (new : FeatureHandle). sem 𝓛
-        (if_non_null memory (lies_at the_row full_share memory new)) ∗ ⌜ BegunAt memory max_depth max_bytes result new ⌝) }
+    requires* { HasRoom 𝓛 the_row memory }
+    ensures* begun { Leaves 𝓛 the_row memory (result ≡ 4) (λ new. IsBegun max_depth max_bytes new × BegunStatus max_depth max_bytes result) }
 {
-    let handle = memory as *mut FeatureHandle;
-    if handle.is_null() {
-        return NULL;
-    }
-    std::ptr::write(handle, FeatureHandle::begun(max_depth, max_bytes));
-    begun_status(max_depth, max_bytes)
+    begin_at!(memory as FeatureHandle, begun_status(max_depth, max_bytes))
 }
 
 /// As `geolint_features_begin`, in memory that has a handle. It writes little where that one was begun well.
@@ -55,76 +49,52 @@ pub unsafe extern "C" fn geolint_features_begin_again(
     max_bytes: u64,
 ) -> u32
     ghost held: { FeatureHandle }
-    requires testable { Testable memory }
-    requires* handle { sem 𝓛 (if_non_null memory (lies_at the_row full_share memory held)) }
-    ensures* begun { ∃ₛ (λ (new : FeatureHandle). sem 𝓛
-        (if_non_null memory (lies_at the_row full_share memory new)) ∗ ⌜ BegunAt memory max_depth max_bytes result new ⌝) }
+    requires* { Holds 𝓛 the_row memory held }
+    ensures* begun { Leaves 𝓛 the_row memory (result ≡ 4) (λ new. IsBegun max_depth max_bytes new × BegunStatus max_depth max_bytes result) }
 {
-    let handle = memory as *mut FeatureHandle;
-    if handle.is_null() {
-        return NULL;
-    }
-    (*handle).begin_again(max_depth, max_bytes)
+    at_handle!(
+        memory as FeatureHandle,
+        NULL,
+        begin_again(max_depth, max_bytes)
+    )
 }
 
 /// Takes the next bytes of the input, up to where features have ended.
 #[unsafe(no_mangle)]
 pub unsafe extern "C" fn geolint_features_feed(memory: *mut Memory, piece: &[u8]) -> Progress
     ghost held: { FeatureHandle }
-    requires testable { Testable memory }
-    requires* handle { sem 𝓛 (if_non_null memory (lies_at the_row full_share memory held)) }
-    ensures* fed { ∃ₛ (λ (new : FeatureHandle). sem 𝓛
-        (if_non_null memory (lies_at the_row full_share memory new)) ∗ ⌜ FedAt memory held piece.now result new ⌝) }
+    requires* { Holds 𝓛 the_row memory held }
+    ensures* fed { Leaves 𝓛 the_row memory (result ≡ no_progress 4) (IsFed held piece.now result) }
 {
-    let handle = memory as *mut FeatureHandle;
-    if handle.is_null() {
-        return no_progress(NULL);
-    }
-    (*handle).feed(piece)
+    at_handle!(memory as FeatureHandle, no_progress(NULL), feed(piece))
 }
 
 /// The next feature that has ended.
 #[unsafe(no_mangle)]
 pub unsafe extern "C" fn geolint_features_next(memory: *mut Memory) -> Finding
     ghost held: { FeatureHandle }
-    requires testable { Testable memory }
-    requires* handle { sem 𝓛 (if_non_null memory (lies_at the_row full_share memory held)) }
-    ensures* told { ∃ₛ (λ (new : FeatureHandle). sem 𝓛 (if_non_null memory (lies_at the_row full_share memory new)) ∗ ⌜ NextAt memory held result new ⌝) }
+    requires* { Holds 𝓛 the_row memory held }
+    ensures* told { Leaves 𝓛 the_row memory (result ≡ no_finding 4) (IsNext held result) }
 {
-    let handle = memory as *mut FeatureHandle;
-    if handle.is_null() {
-        return no_finding(NULL);
-    }
-    (*handle).next()
+    at_handle!(memory as FeatureHandle, no_finding(NULL), next())
 }
 
 /// How many bytes were taken: the place of the refused one, once there was one.
 #[unsafe(no_mangle)]
 pub unsafe extern "C" fn geolint_features_offset(memory: *mut Memory) -> u64
     ghost held: { FeatureHandle }
-    requires testable { Testable memory }
-    requires* handle { sem 𝓛 (if_non_null memory (lies_at the_row full_share memory held)) }
-    ensures* told { ∃ₛ (λ (new : FeatureHandle). sem 𝓛 (if_non_null memory (lies_at the_row full_share memory new)) ∗ ⌜ OffsetAt memory held result new ⌝) }
+    requires* { Holds 𝓛 the_row memory held }
+    ensures* told { Leaves 𝓛 the_row memory (result ≡ 0) (IsOffset held result) }
 {
-    let handle = memory as *mut FeatureHandle;
-    if handle.is_null() {
-        return 0;
-    }
-    (*handle).offset()
+    at_handle!(memory as FeatureHandle, 0, offset())
 }
 
 /// The verdict of what was fed, and the end of the handle.
 #[unsafe(no_mangle)]
 pub unsafe extern "C" fn geolint_features_finish(memory: *mut Memory) -> Report
     ghost held: { FeatureHandle }
-    requires testable { Testable memory }
-    requires* handle { sem 𝓛 (if_non_null memory (lies_at the_row full_share memory held)) }
-    ensures* finished { ∃ₛ
-        (λ (new : FeatureHandle). sem 𝓛 (if_non_null memory (lies_at the_row full_share memory new)) ∗ ⌜ FinishedAt memory held result new ⌝) }
+    requires* { Holds 𝓛 the_row memory held }
+    ensures* finished { Leaves 𝓛 the_row memory (result ≡ no_report 4) (IsFinished held result) }
 {
-    let handle = memory as *mut FeatureHandle;
-    if handle.is_null() {
-        return no_report(NULL);
-    }
-    (*handle).finish()
+    at_handle!(memory as FeatureHandle, no_report(NULL), finish())
 }

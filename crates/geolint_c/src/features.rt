@@ -8,7 +8,6 @@ ghost use Rattle.geolint_c.specs.declared.latest.TheConstants.{ROOM};
 
 use crate::commas::few_commas;
 use crate::finding::{Finding, Progress, finding_of_feature, no_finding, progress_of};
-use crate::handle::is_for_any_thread;
 use crate::latest::{LatestFeatures, ROOM};
 use crate::options::limits_of;
 use crate::report::{Report, no_report, report_of};
@@ -105,11 +104,6 @@ fn pull(linter: &FeatureLinter<LatestFeatures>, pulled: u64) -> Finding
     finding_of_feature(linter.sink().get(pulled))
 }
 
-/// A handle may go from one thread to another between two calls: the check of this call sees that its type is `Send`.
-fn may_move(handle: &FeatureHandle) {
-    is_for_any_thread(handle);
-}
-
 impl FeatureHandle {
     /// Before the first byte of an input under these limits; where they are not allowed, a handle that has ended.
     pub fn begun(max_depth: u32, max_bytes: u64) -> FeatureHandle
@@ -129,8 +123,7 @@ impl FeatureHandle {
 
     /// As `begun`, whatever the handle was. Where it has a linter, little is written.
     pub fn begin_again(&mut self, max_depth: u32, max_bytes: u64) -> u32
-        ensures begun { IsBegun max_depth max_bytes self.new }
-        ensures status { BegunStatus max_depth max_bytes result }
+        ensures { IsBegun max_depth max_bytes self.new × BegunStatus max_depth max_bytes result }
     {
         match limits_of(max_depth, max_bytes) {
             Some(limits) => {

@@ -1,8 +1,5 @@
 //! A text that comes in pieces, checked by a handle. Here are the calls over values; `stream` takes them to C.
-ghost use Rattle.std.specs.Prelude.{◌≡◌};
-ghost use Rattle.geolint_c.specs.Handle.{HasEnded, Begins, BegunLive, BegunEnded, FedStands, FedAnswer, FedEnded, FedAgain, BegunStatus, FinishedVerdict};
-ghost use Rattle.geolint_c.specs.Handle.{FinishedEnded, OffsetTaken, OffsetRefused, OffsetEnded, DoomedSound, DoomedRefused, DoomedEarly, DoomedEnded};
-ghost use Rattle.geolint_c.specs.Handle.{LevelsOpen, LevelsEnded};
+ghost use Rattle.geolint_c.specs.Handle.{Begins, IsBegun, BegunStatus, IsFed, IsOffset, IsDoomed, IsLevels, IsFinished};
 
 use crate::options::limits_of;
 use crate::report::{Report, no_report, report_of};
@@ -18,19 +15,10 @@ pub struct Handle {
     ended: bool,
 }
 
-/// Its bound says that such a value may go to any thread.
-pub fn is_for_any_thread<T: Send>(_value: &T) {}
-
-/// A handle may go from one thread to another between two calls: the check of this call sees that its type is `Send`.
-fn may_move(handle: &Handle) {
-    is_for_any_thread(handle);
-}
-
 impl Handle {
     /// Before the first byte of an input under these limits; where they are not allowed, a handle that has ended.
     pub fn begun(max_depth: u32, max_bytes: u64) -> Handle
-        ensures live { BegunLive max_depth max_bytes result }
-        ensures ended { BegunEnded max_depth max_bytes result }
+        ensures { IsBegun max_depth max_bytes result }
     {
         let limits = limits_of(max_depth, max_bytes);
         let linter = match limits {
@@ -45,9 +33,7 @@ impl Handle {
 
     /// As `begun`, whatever the handle was. Where it has a linter, little is written.
     pub fn begin_again(&mut self, max_depth: u32, max_bytes: u64) -> u32
-        ensures live { BegunLive max_depth max_bytes self.new }
-        ensures ended { BegunEnded max_depth max_bytes self.new }
-        ensures status { BegunStatus max_depth max_bytes result }
+        ensures { IsBegun max_depth max_bytes self.new × BegunStatus max_depth max_bytes result }
     {
         match limits_of(max_depth, max_bytes) {
             Some(limits) => {
@@ -75,10 +61,7 @@ impl Handle {
 
     /// Takes the next bytes of the input.
     pub fn feed(&mut self, piece: &[u8]) -> u32
-        ensures stands { FedStands self.old piece.now self.new }
-        ensures answer { FedAnswer self.old piece.now result self.new }
-        ensures ended { FedEnded self.old result self.new }
-        ensures again { FedAgain self.old result self.new }
+        ensures { IsFed self.old piece.now result self.new }
     {
         if self.ended {
             return ENDED;
@@ -94,10 +77,7 @@ impl Handle {
 
     /// How many bytes were taken: the place of the refused one, once there was one.
     pub fn offset(&mut self) -> u64
-        ensures taken { OffsetTaken self.old result }
-        ensures refused { OffsetRefused self.old result }
-        ensures ended { OffsetEnded self.old result }
-        ensures unchanged { self.new ≡ self.old }
+        ensures { IsOffset self.old result self.new }
     {
         match &self.linter {
             Some(linter) if !self.ended => linter.offset(),
@@ -107,11 +87,7 @@ impl Handle {
 
     /// 1 where no input that begins with the bytes fed is valid, as far as that is seen early; otherwise 0.
     pub fn doomed(&mut self) -> u32
-        ensures sound { DoomedSound self.old result }
-        ensures refused { DoomedRefused self.old result }
-        ensures early { DoomedEarly self.old result }
-        ensures ended { DoomedEnded self.old result }
-        ensures unchanged { self.new ≡ self.old }
+        ensures { IsDoomed self.old result self.new }
     {
         match &self.linter {
             Some(linter) if !self.ended && linter.doomed() => 1,
@@ -121,9 +97,7 @@ impl Handle {
 
     /// How many arrays and objects are open after the bytes that were taken.
     pub fn levels(&mut self) -> u32
-        ensures open { LevelsOpen self.old result }
-        ensures ended { LevelsEnded self.old result }
-        ensures unchanged { self.new ≡ self.old }
+        ensures { IsLevels self.old result self.new }
     {
         match &self.linter {
             Some(linter) if !self.ended => linter.levels() as u32,
@@ -133,9 +107,7 @@ impl Handle {
 
     /// The verdict of what was fed, and the end of the handle.
     pub fn finish(&mut self) -> Report
-        ensures verdict { FinishedVerdict self.old result }
-        ensures ended { FinishedEnded self.old result }
-        ensures last { HasEnded self.new }
+        ensures { IsFinished self.old result self.new }
     {
         if self.ended {
             return no_report(ENDED);

@@ -3,7 +3,6 @@ ghost use Rattle.std.specs.Prelude.{◌≡◌};
 ghost use Rattle.geolint_c.specs.Join.{IsBegun, IsFed, IsPassed, IsFinished};
 
 use crate::features::status_of;
-use crate::handle::is_for_any_thread;
 use crate::options::limits_of;
 use crate::report::{Report, no_report, report_of};
 use crate::status::ENDED;
@@ -16,11 +15,6 @@ pub struct JoinHandle {
     /// None where the limits are not allowed. It stays where it is at the end, since it is large.
     joiner: Option<Joiner>,
     ended: bool,
-}
-
-/// A handle may go from one thread to another between two calls: the check of this call sees that its type is `Send`.
-fn may_move(handle: &JoinHandle) {
-    is_for_any_thread(handle);
 }
 
 impl JoinHandle {

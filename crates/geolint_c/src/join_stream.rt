@@ -3,13 +3,13 @@
 //!
 //! The calls over values are those of [`JoinHandle`]; here is only what leads from a pointer to one, and that is proved by hand.
 ghost use Rattle.std.specs.Prelude.{◌≡◌};
-ghost use Rattle.std.specs.Borrow.{full_share, sem};
-ghost use Rattle.std.specs.Ptr.{lies_at, room_at, if_non_null};
-ghost use denote.RawPtr.{Testable};
 ghost use denote.Memory.{lone};
 ghost use prog.Memory.{size};
 ghost use Rattle.geolint_c.specs.contracts.join.JoinHandle.{the_row};
-ghost use Rattle.geolint_c.specs.JoinStream.{BegunAt, FedAt, PassedAt, FinishedAt};
+ghost use Rattle.geolint_c.specs.Handle.{BegunStatus};
+ghost use Rattle.geolint_c.specs.Join.{IsBegun, IsFed, IsPassed, IsFinished};
+ghost use Rattle.geolint_c.specs.Report.{no_report};
+ghost use Rattle.geolint_c.specs.Stream.{HasRoom, Holds, Leaves};
 
 use crate::handle::begun_status;
 use crate::join::JoinHandle;
@@ -34,63 +34,38 @@ pub unsafe extern "C" fn geolint_join_begin(
     max_depth: u32,
     max_bytes: u64,
 ) -> u32
-    requires testable { Testable memory }
-    requires* room { sem 𝓛 (if_non_null memory (room_at the_row memory)) }
-    ensures* begun { ∃ₛ (λ (new : JoinHandle). sem 𝓛
-        (if_non_null memory (lies_at the_row full_share memory new)) ∗ ⌜ BegunAt memory max_depth max_bytes result new ⌝) }
+    requires* { HasRoom 𝓛 the_row memory }
+    ensures* begun { Leaves 𝓛 the_row memory (result ≡ 4) (λ new. IsBegun max_depth max_bytes new × BegunStatus max_depth max_bytes result) }
 {
-    let handle = memory as *mut JoinHandle;
-    if handle.is_null() {
-        return NULL;
-    }
-    std::ptr::write(handle, JoinHandle::begun(max_depth, max_bytes));
-    begun_status(max_depth, max_bytes)
+    begin_at!(memory as JoinHandle, begun_status(max_depth, max_bytes))
 }
 
 /// Takes the next bytes of the text.
 #[unsafe(no_mangle)]
 pub unsafe extern "C" fn geolint_join_feed(memory: *mut Memory, piece: &[u8]) -> u32
     ghost held: { JoinHandle }
-    requires testable { Testable memory }
-    requires* handle { sem 𝓛 (if_non_null memory (lies_at the_row full_share memory held)) }
-    ensures* fed { ∃ₛ (λ (new : JoinHandle). sem 𝓛
-        (if_non_null memory (lies_at the_row full_share memory new)) ∗ ⌜ FedAt memory held piece.now result new ⌝) }
+    requires* { Holds 𝓛 the_row memory held }
+    ensures* fed { Leaves 𝓛 the_row memory (result ≡ 4) (IsFed held piece.now result) }
 {
-    let handle = memory as *mut JoinHandle;
-    if handle.is_null() {
-        return NULL;
-    }
-    (*handle).feed(piece)
+    at_handle!(memory as JoinHandle, NULL, feed(piece))
 }
 
 /// Passes over the run that has this sum: 1 where it did, otherwise 0.
 #[unsafe(no_mangle)]
 pub unsafe extern "C" fn geolint_join_pass_over(memory: *mut Memory, sum: &Sum) -> u32
     ghost held: { JoinHandle }
-    requires testable { Testable memory }
-    requires* handle { sem 𝓛 (if_non_null memory (lies_at the_row full_share memory held)) }
-    ensures* passed { ∃ₛ (λ (new : JoinHandle). sem 𝓛
-        (if_non_null memory (lies_at the_row full_share memory new)) ∗ ⌜ PassedAt memory held sum.now result new ⌝) }
+    requires* { Holds 𝓛 the_row memory held }
+    ensures* passed { Leaves 𝓛 the_row memory (result ≡ 0) (IsPassed held sum.now result) }
 {
-    let handle = memory as *mut JoinHandle;
-    if handle.is_null() {
-        return 0;
-    }
-    (*handle).pass_over(sum)
+    at_handle!(memory as JoinHandle, 0, pass_over(sum))
 }
 
 /// The verdict of the text, and the end of the handle.
 #[unsafe(no_mangle)]
 pub unsafe extern "C" fn geolint_join_finish(memory: *mut Memory) -> Report
     ghost held: { JoinHandle }
-    requires testable { Testable memory }
-    requires* handle { sem 𝓛 (if_non_null memory (lies_at the_row full_share memory held)) }
-    ensures* finished { ∃ₛ (λ (new : JoinHandle). sem 𝓛
-        (if_non_null memory (lies_at the_row full_share memory new)) ∗ ⌜ FinishedAt memory held result new ⌝) }
+    requires* { Holds 𝓛 the_row memory held }
+    ensures* finished { Leaves 𝓛 the_row memory (result ≡ no_report 4) (IsFinished held result) }
 {
-    let handle = memory as *mut JoinHandle;
-    if handle.is_null() {
-        return no_report(NULL);
-    }
-    (*handle).finish()
+    at_handle!(memory as JoinHandle, no_report(NULL), finish())
 }

@@ -4,7 +4,6 @@ ghost use Rattle.gj_json.specs.Path.{steps_of};
 ghost use Rattle.geolint_c.specs.Locator.{IsBegun, IsFed, IsStep, shown, step_text, no_step, Shows};
 ghost use Rattle.geolint_c.specs.declared.locator.TheConstants.{STEP_ROOM};
 
-use crate::handle::is_for_any_thread;
 use crate::options::limits_of;
 use crate::status::{DONE, ENDED, REFUSED};
 use gj_json::{Locator, Path, PathStep};
@@ -82,11 +81,6 @@ fn step_in(path: &Path, i: u32) -> StepText
         Some(step) => step_text(step),
         None => no_step(),
     }
-}
-
-/// A handle may go from one thread to another between two calls: the check of this call sees that its type is `Send`.
-fn may_move(handle: &LocatorHandle) {
-    is_for_any_thread(handle);
 }
 
 impl LocatorHandle {

@@ -4,7 +4,6 @@ ghost use Rattle.std.specs.Prelude.{◌≡◌};
 ghost use Rattle.geolint_c.specs.Records.{framing_of, IsLive, IsBegun, BegunStatus, IsFed, IsNext, IsOffset, IsFinished, over_status};
 
 use crate::finding::{Finding, Progress, Whole, no_finding, no_whole, progress_of, whole_of};
-use crate::handle::is_for_any_thread;
 use crate::last::LastRecord;
 use crate::options::limits_of;
 use crate::status::{DONE, ENDED, LIMITS, NONE, READY, REFUSED};
@@ -39,11 +38,6 @@ fn over_status(is_over: bool) -> u32
     if is_over { REFUSED } else { DONE }
 }
 
-/// A handle may go from one thread to another between two calls: the check of this call sees that its type is `Send`.
-fn may_move(handle: &RecordHandle) {
-    is_for_any_thread(handle);
-}
-
 impl RecordHandle {
     /// Before the first byte of an input; where the limits or the framing are not allowed, a handle that has ended. No record is ready.
     pub fn begun(framing: u32, max_depth: u32, max_bytes: u64) -> RecordHandle
@@ -65,8 +59,7 @@ impl RecordHandle {
     /// As `begun`, whatever the handle was: a record that is not pulled yet is forgotten. Where it has a checker of records, little is
     /// written.
     pub fn begin_again(&mut self, framing: u32, max_depth: u32, max_bytes: u64) -> u32
-        ensures begun { IsBegun framing max_depth max_bytes self.new }
-        ensures status { BegunStatus framing max_depth max_bytes result }
+        ensures { IsBegun framing max_depth max_bytes self.new × BegunStatus framing max_depth max_bytes result }
     {
         match (framing_of(framing), limits_of(max_depth, max_bytes)) {
             (Some(framing), Some(limits)) => {

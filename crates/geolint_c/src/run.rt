@@ -6,7 +6,6 @@ ghost use Rattle.geolint_c.specs.Options.{limits_meant};
 ghost use Rattle.geolint_c.specs.Run.{MayBegin, IsBegun, BegunStatus, IsFed, IsTold};
 
 use crate::features::status_of;
-use crate::handle::is_for_any_thread;
 use crate::options::limits_of;
 use crate::status::{DONE, ENDED, LIMITS};
 use crate::sum::{Sum, no_sum, sum_of};
@@ -17,11 +16,6 @@ use gj_runs::RunLinter;
 #[derive(Drop)]
 pub struct RunHandle {
     run: Option<RunLinter>,
-}
-
-/// A handle may go from one thread to another between two calls: the check of this call sees that its type is `Send`.
-fn may_move(handle: &RunHandle) {
-    is_for_any_thread(handle);
 }
 
 /// The limits, where a feature can have ended at this place within them.

@@ -3,14 +3,13 @@
 //!
 //! The calls over values are those of [`RunHandle`]; here is only what leads from a pointer to one, and that is proved by hand.
 ghost use Rattle.std.specs.Prelude.{◌≡◌, unwrap_or};
-ghost use Rattle.std.specs.Borrow.{full_share, sem};
-ghost use Rattle.std.specs.Ptr.{lies_at, room_at, if_non_null};
-ghost use denote.RawPtr.{Testable};
 ghost use denote.Memory.{lone};
 ghost use prog.Memory.{size};
 ghost use Rattle.gj_runs.specs.Seams.{seam};
 ghost use Rattle.geolint_c.specs.contracts.run.RunHandle.{the_row};
-ghost use Rattle.geolint_c.specs.RunStream.{BegunAt, FedAt, ToldAt};
+ghost use Rattle.geolint_c.specs.Run.{IsBegun, BegunStatus, IsFed, IsTold};
+ghost use Rattle.geolint_c.specs.Sum.{no_sum};
+ghost use Rattle.geolint_c.specs.Stream.{HasRoom, Holds, Leaves};
 
 use crate::run::{RunHandle, begun_status};
 use crate::status::NULL;
@@ -30,47 +29,30 @@ pub extern "C" fn geolint_run_size() -> usize
 /// Begins a handle in this memory, before the first byte after a feature that ends at this place.
 #[unsafe(no_mangle)]
 pub unsafe extern "C" fn geolint_run_begin(memory: *mut Memory, max_depth: u32, place: u64) -> u32
-    requires testable { Testable memory }
-    requires* room { sem 𝓛 (if_non_null memory (room_at the_row memory)) }
-    ensures* begun { ∃ₛ (λ (new : RunHandle). sem 𝓛
-        (if_non_null memory (lies_at the_row full_share memory new)) ∗ ⌜ BegunAt memory max_depth place result new ⌝) }
+    requires* { HasRoom 𝓛 the_row memory }
+    ensures* begun { Leaves 𝓛 the_row memory (result ≡ 4) (λ new. IsBegun max_depth place new × BegunStatus max_depth place result) }
 {
-    let handle = memory as *mut RunHandle;
-    if handle.is_null() {
-        return NULL;
-    }
-    std::ptr::write(handle, RunHandle::begun(max_depth, place));
-    begun_status(max_depth, place)
+    begin_at!(memory as RunHandle, begun_status(max_depth, place))
 }
 
 /// Takes the next bytes.
 #[unsafe(no_mangle)]
 pub unsafe extern "C" fn geolint_run_feed(memory: *mut Memory, piece: &[u8]) -> u32
     ghost held: { RunHandle }
-    requires testable { Testable memory }
-    requires* handle { sem 𝓛 (if_non_null memory (lies_at the_row full_share memory held)) }
-    ensures* fed { ∃ₛ (λ (new : RunHandle). sem 𝓛 (if_non_null memory (lies_at the_row full_share memory new)) ∗ ⌜ FedAt memory held piece.now result new ⌝) }
+    requires* { Holds 𝓛 the_row memory held }
+    ensures* fed { Leaves 𝓛 the_row memory (result ≡ 4) (IsFed held piece.now result) }
 {
-    let handle = memory as *mut RunHandle;
-    if handle.is_null() {
-        return NULL;
-    }
-    (*handle).feed(piece)
+    at_handle!(memory as RunHandle, NULL, feed(piece))
 }
 
 /// What is found in the run.
 #[unsafe(no_mangle)]
 pub unsafe extern "C" fn geolint_run_sum(memory: *mut Memory) -> Sum
     ghost held: { RunHandle }
-    requires testable { Testable memory }
-    requires* handle { sem 𝓛 (if_non_null memory (lies_at the_row full_share memory held)) }
-    ensures* told { ∃ₛ (λ (new : RunHandle). sem 𝓛 (if_non_null memory (lies_at the_row full_share memory new)) ∗ ⌜ ToldAt memory held result new ⌝) }
+    requires* { Holds 𝓛 the_row memory held }
+    ensures* told { Leaves 𝓛 the_row memory (result ≡ no_sum 4) (IsTold held result) }
 {
-    let handle = memory as *mut RunHandle;
-    if handle.is_null() {
-        return no_sum(NULL);
-    }
-    (*handle).sum()
+    at_handle!(memory as RunHandle, no_sum(NULL), sum())
 }
 
 /// After how many of these bytes a run may begin: 0 where there is no such place.

@@ -2,13 +2,12 @@
 //!
 //! The calls over values are those of [`Handle`]; here is only what leads from a pointer to one, and that is proved by hand.
 ghost use Rattle.std.specs.Prelude.{◌≡◌};
-ghost use Rattle.std.specs.Borrow.{full_share, sem};
-ghost use Rattle.std.specs.Ptr.{lies_at, room_at, if_non_null};
-ghost use denote.RawPtr.{Testable};
 ghost use denote.Memory.{lone};
 ghost use prog.Memory.{size, align};
 ghost use Rattle.geolint_c.specs.contracts.handle.Handle.{the_row};
-ghost use Rattle.geolint_c.specs.Stream.{BegunAt, FedAt, OffsetAt, DoomedAt, LevelsAt, FinishedAt};
+ghost use Rattle.geolint_c.specs.Handle.{IsBegun, BegunStatus, IsFed, IsOffset, IsDoomed, IsLevels, IsFinished};
+ghost use Rattle.geolint_c.specs.Report.{no_report};
+ghost use Rattle.geolint_c.specs.Stream.{HasRoom, Holds, Leaves};
 
 use crate::features::FeatureHandle;
 use crate::handle::{Handle, begun_status};
@@ -53,20 +52,33 @@ const _: () = prove!(align_of::<RunHandle>() <= align_of::<Handle>());
 
 const _: () = prove!(align_of::<JoinHandle>() <= align_of::<Handle>());
 
+/// Its bound says that such a value may go to any thread.
+fn is_for_any_thread<T: Send>(_value: &T) {}
+
+/// A handle may go from one thread to another between two calls: the check of these calls sees that its type is `Send`.
+fn may_move(
+    linter: &Handle,
+    features: &FeatureHandle,
+    records: &RecordHandle,
+    locator: &LocatorHandle,
+    run: &RunHandle,
+    join: &JoinHandle,
+) {
+    is_for_any_thread(linter);
+    is_for_any_thread(features);
+    is_for_any_thread(records);
+    is_for_any_thread(locator);
+    is_for_any_thread(run);
+    is_for_any_thread(join);
+}
+
 /// Begins a handle in this memory, before the first byte of an input. Where the limits are not allowed, it has ended.
 #[unsafe(no_mangle)]
 pub unsafe extern "C" fn geolint_begin(memory: *mut Memory, max_depth: u32, max_bytes: u64) -> u32
-    requires testable { Testable memory }
-    requires* room { sem 𝓛 (if_non_null memory (room_at the_row memory)) }
-    ensures* begun { ∃ₛ (λ (new : Handle). sem 𝓛
-        (if_non_null memory (lies_at the_row full_share memory new)) ∗ ⌜ BegunAt memory max_depth max_bytes result new ⌝) }
+    requires* { HasRoom 𝓛 the_row memory }
+    ensures* begun { Leaves 𝓛 the_row memory (result ≡ 4) (λ new. IsBegun max_depth max_bytes new × BegunStatus max_depth max_bytes result) }
 {
-    let handle = memory as *mut Handle;
-    if handle.is_null() {
-        return NULL;
-    }
-    std::ptr::write(handle, Handle::begun(max_depth, max_bytes));
-    begun_status(max_depth, max_bytes)
+    begin_at!(memory as Handle, begun_status(max_depth, max_bytes))
 }
 
 /// As `geolint_begin`, in memory that has a handle. It writes little where that one was begun well: 200 KB lie in it.
@@ -77,89 +89,58 @@ pub unsafe extern "C" fn geolint_begin_again(
     max_bytes: u64,
 ) -> u32
     ghost held: { Handle }
-    requires testable { Testable memory }
-    requires* handle { sem 𝓛 (if_non_null memory (lies_at the_row full_share memory held)) }
-    ensures* begun { ∃ₛ (λ (new : Handle). sem 𝓛
-        (if_non_null memory (lies_at the_row full_share memory new)) ∗ ⌜ BegunAt memory max_depth max_bytes result new ⌝) }
+    requires* { Holds 𝓛 the_row memory held }
+    ensures* begun { Leaves 𝓛 the_row memory (result ≡ 4) (λ new. IsBegun max_depth max_bytes new × BegunStatus max_depth max_bytes result) }
 {
-    let handle = memory as *mut Handle;
-    if handle.is_null() {
-        return NULL;
-    }
-    (*handle).begin_again(max_depth, max_bytes)
+    at_handle!(memory as Handle, NULL, begin_again(max_depth, max_bytes))
 }
 
 /// Takes the next bytes of the input.
 #[unsafe(no_mangle)]
 pub unsafe extern "C" fn geolint_feed(memory: *mut Memory, piece: &[u8]) -> u32
     ghost held: { Handle }
-    requires testable { Testable memory }
-    requires* handle { sem 𝓛 (if_non_null memory (lies_at the_row full_share memory held)) }
-    ensures* fed { ∃ₛ (λ (new : Handle). sem 𝓛 (if_non_null memory (lies_at the_row full_share memory new)) ∗ ⌜ FedAt memory held piece.now result new ⌝) }
+    requires* { Holds 𝓛 the_row memory held }
+    ensures* fed { Leaves 𝓛 the_row memory (result ≡ 4) (IsFed held piece.now result) }
 {
-    let handle = memory as *mut Handle;
-    if handle.is_null() {
-        return NULL;
-    }
-    (*handle).feed(piece)
+    at_handle!(memory as Handle, NULL, feed(piece))
 }
 
 /// How many bytes were taken: the place of the refused one, once there was one.
 #[unsafe(no_mangle)]
 pub unsafe extern "C" fn geolint_offset(memory: *mut Memory) -> u64
     ghost held: { Handle }
-    requires testable { Testable memory }
-    requires* handle { sem 𝓛 (if_non_null memory (lies_at the_row full_share memory held)) }
-    ensures* told { ∃ₛ (λ (new : Handle). sem 𝓛 (if_non_null memory (lies_at the_row full_share memory new)) ∗ ⌜ OffsetAt memory held result new ⌝) }
+    requires* { Holds 𝓛 the_row memory held }
+    ensures* told { Leaves 𝓛 the_row memory (result ≡ 0) (IsOffset held result) }
 {
-    let handle = memory as *mut Handle;
-    if handle.is_null() {
-        return 0;
-    }
-    (*handle).offset()
+    at_handle!(memory as Handle, 0, offset())
 }
 
 /// 1 where no input that begins with the bytes fed is valid, as far as that is seen early; otherwise 0.
 #[unsafe(no_mangle)]
 pub unsafe extern "C" fn geolint_doomed(memory: *mut Memory) -> u32
     ghost held: { Handle }
-    requires testable { Testable memory }
-    requires* handle { sem 𝓛 (if_non_null memory (lies_at the_row full_share memory held)) }
-    ensures* told { ∃ₛ (λ (new : Handle). sem 𝓛 (if_non_null memory (lies_at the_row full_share memory new)) ∗ ⌜ DoomedAt memory held result new ⌝) }
+    requires* { Holds 𝓛 the_row memory held }
+    ensures* told { Leaves 𝓛 the_row memory (result ≡ 0) (IsDoomed held result) }
 {
-    let handle = memory as *mut Handle;
-    if handle.is_null() {
-        return 0;
-    }
-    (*handle).doomed()
+    at_handle!(memory as Handle, 0, doomed())
 }
 
 /// How many arrays and objects are open after the bytes that were taken.
 #[unsafe(no_mangle)]
 pub unsafe extern "C" fn geolint_levels(memory: *mut Memory) -> u32
     ghost held: { Handle }
-    requires testable { Testable memory }
-    requires* handle { sem 𝓛 (if_non_null memory (lies_at the_row full_share memory held)) }
-    ensures* told { ∃ₛ (λ (new : Handle). sem 𝓛 (if_non_null memory (lies_at the_row full_share memory new)) ∗ ⌜ LevelsAt memory held result new ⌝) }
+    requires* { Holds 𝓛 the_row memory held }
+    ensures* told { Leaves 𝓛 the_row memory (result ≡ 0) (IsLevels held result) }
 {
-    let handle = memory as *mut Handle;
-    if handle.is_null() {
-        return 0;
-    }
-    (*handle).levels()
+    at_handle!(memory as Handle, 0, levels())
 }
 
 /// The verdict of what was fed, and the end of the handle.
 #[unsafe(no_mangle)]
 pub unsafe extern "C" fn geolint_finish(memory: *mut Memory) -> Report
     ghost held: { Handle }
-    requires testable { Testable memory }
-    requires* handle { sem 𝓛 (if_non_null memory (lies_at the_row full_share memory held)) }
-    ensures* finished { ∃ₛ (λ (new : Handle). sem 𝓛 (if_non_null memory (lies_at the_row full_share memory new)) ∗ ⌜ FinishedAt memory held result new ⌝) }
+    requires* { Holds 𝓛 the_row memory held }
+    ensures* finished { Leaves 𝓛 the_row memory (result ≡ no_report 4) (IsFinished held result) }
 {
-    let handle = memory as *mut Handle;
-    if handle.is_null() {
-        return no_report(NULL);
-    }
-    (*handle).finish()
+    at_handle!(memory as Handle, no_report(NULL), finish())
 }

@@ -1,19 +1,15 @@
 -- `geolint_features_next` meets its contract: a call of `FeatureHandle::next`, but at null.
-use Rattle.geolint_c.proofs.ExportedCalls.{◌≡◌, [], ◌∷◌}
-use Rattle.geolint_c.proofs.HandleCalls.{answers_refusal}
+use Rattle.geolint_c.proofs.HandleCalls.{calls, [], refused}
 use Rattle.geolint_c.specs.Features.{IsNext}
-use Rattle.geolint_c.specs.FeatureStream.{NextAt}
 use Rattle.geolint_c.specs.contracts.features.FeatureHandle.{the_row as R}
 use Rattle.geolint_c.proofs.features.FeatureHandle.next.Met.{met}
 use Rattle.geolint_c.specs.Finding.{no_finding}
-use Rattle.geolint_c.specs.contracts.finding.Finding.{the_row as RR}
 use Rattle.geolint_c.proofs.finding.Finding.TheLaws.{the_row_laws as RR_laws}
 use Rattle.geolint_c.proofs.finding.no_finding.Met.{met as no_met}
 use Rattle.geolint_c.proofs.feature_stream.geolint_features_next.Statement.{statement}
 use Rattle.geolint_c.proofs.feature_stream.geolint_features_next.Code as code
 
 pub geolint_features_next_spec : {M : Type 1} → statement M
-geolint_features_next_spec 𝓤 𝓛 𝓜 𝓡 wired = answers_refusal 𝓤 𝓛 𝓜 𝓡 R RR (RR_laws.lawful 𝓛) NextAt
-    (λ held at new. IsNext held at new ∷ []) (λ b o held at new it. it)
-    _ _ (met 𝓤 𝓛 𝓜 𝓡 (code.calls-geolint_c::features::FeatureHandle::next 𝓡.env wired))
-    _ (λ s at. at ≡ no_finding s) (no_met 𝓤 𝓛 𝓜 𝓡 (code.calls-geolint_c::finding::no_finding 𝓡.env wired)) (λ held at it. it) (code.unfolded 𝓤 𝓛.H 𝓜 𝓡 wired)
+geolint_features_next_spec 𝓤 𝓛 𝓜 𝓡 wired = calls 𝓤 𝓛 𝓜 𝓡 0 [] tt R (refused 𝓤 𝓛 𝓜 𝓡 (RR_laws.lawful 𝓛) no_finding _
+    (no_met 𝓤 𝓛 𝓜 𝓡 (code.calls-geolint_c::finding::no_finding 𝓡.env wired))) (λ x. IsNext)
+    _ _ (met 𝓤 𝓛 𝓜 𝓡 (code.calls-geolint_c::features::FeatureHandle::next 𝓡.env wired)) (code.unfolded 𝓤 𝓛.H 𝓜 𝓡 wired)
