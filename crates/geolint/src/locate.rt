@@ -63,6 +63,3 @@ pub fn locate_reader<S: Source>(
         }
     }
 }
-
-#[cfg(test)]
-mod tests;

@@ -18,8 +18,6 @@ mod run;
 mod sequence;
 mod sink;
 mod source;
-#[cfg(test)]
-mod testing;
 mod words;
 
 use crate::fault::{ProgramFault, RunFault, USAGE, WriteFault};

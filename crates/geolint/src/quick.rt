@@ -123,6 +123,3 @@ fn quick_outcome(valid: Option<Warnings>, strict: bool) -> Outcome
         None => Outcome::Fail,
     }
 }
-
-#[cfg(test)]
-mod tests;

@@ -152,6 +152,3 @@ pub fn write_help<W: Sink>(writer: &mut W) -> Result<(), WriteFault> {
     room.push_all(&[USAGE.as_bytes(), b"\n"]);
     write_bytes(room.bytes(), writer)
 }
-
-#[cfg(test)]
-mod tests;

@@ -159,6 +159,3 @@ pub fn outcome_of(verdict: Verdict, strict: bool) -> Outcome
         _ => Outcome::Fail,
     }
 }
-
-#[cfg(test)]
-mod tests;

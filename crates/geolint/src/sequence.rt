@@ -93,6 +93,3 @@ fn sequence_outcome(verdict: SeqVerdict, strict: bool) -> Outcome
         SeqVerdict::Record { .. } => Outcome::Fail,
     }
 }
-
-#[cfg(test)]
-mod tests;

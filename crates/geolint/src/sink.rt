@@ -63,27 +63,3 @@ impl<W: Write> Sink for FromWrite<W> {
         answer
     }
 }
-
-#[cfg(test)]
-mod tests {
-    use super::*;
-
-    #[test]
-    fn hands_pieces_to_a_writer(rt: HostRuntime) {
-        let mut sink = FromWrite::new(Vec::new(rt.alloc()));
-        assert_eq!(rt; sink.write_piece(b"val"), Ok(3));
-        assert_eq!(rt; sink.write_piece(b""), Ok(0));
-        assert_eq!(rt; sink.write_piece(b"id"), Ok(2));
-        assert_eq!(rt; sink.writer.as_slice(), b"valid".as_slice());
-        assert_eq!(rt; sink.failed_writes, 0);
-    }
-
-    #[test]
-    fn counts_a_write_of_nothing(rt: HostRuntime) {
-        let mut room = [0; 1];
-        let mut sink = FromWrite::new(&mut room[..]);
-        assert_eq!(rt; sink.write_piece(b"ab"), Ok(1));
-        assert_eq!(rt; sink.write_piece(b"b"), Ok(0));
-        assert_eq!(rt; sink.failed_writes, 1);
-    }
-}

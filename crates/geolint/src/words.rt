@@ -1,6 +1,4 @@
 //! The words of the command.
-#[cfg(test)]
-mod tests;
 
 use crate::options::Options;
 use clap::error::ErrorKind;
