@@ -3,7 +3,9 @@ use Rattle.std.specs.Prelude.{ℕ, zero, suc, ◌/◌, ◌%◌, List, [], ◌∷
 use Rattle.std.specs.Prelude.{Bool, false, ◌||◌, nat_eq}
 use Rattle.gj_places.specs.Excerpts.{is_harmful}
 use Rattle.std.specs.List.{flat_map}
-use Rattle.std.specs.Str.Lossy.{utf8_valid_len, utf8_invalid_len, after_first_chunk}
+use Rattle.serde_json.specs.Data.{string}
+use Rattle.serde_json.specs.Written.{compact_text}
+use Rattle.std.specs.Str.Lossy.{utf8_lossy, utf8_valid_len, utf8_invalid_len, after_first_chunk}
 
 -- the digit of a number
 abbrev pub digit_in : List ℕ → ℕ → ℕ
@@ -43,9 +45,9 @@ begins_command (byte ∷ more) = nat_eq byte 32 || (nat_eq byte 35 || nat_eq byt
 unfoldable pub shown_name : List ℕ → List ℕ
 shown_name name = if begins_command name then by_number (get_or name 0 0) ++ shown_bytes (drop 1 name) else shown_bytes name
 
--- what stands for a byte of a text in a JSON string, where LF is the only control character
-abbrev pub in_string : ℕ → List ℕ
-in_string byte = if nat_eq byte 34 then codes "\\\"" else if nat_eq byte 92 then codes "\\\\" else if nat_eq byte 10 then codes "\\n" else byte ∷ []
+-- the text of the JSON value that is this string, where U+FFFD stands for each part that is no UTF-8
+unfoldable pub in_json : List ℕ → List ℕ
+in_json text = compact_text (string (utf8_lossy text))
 
 -- what is said on standard error of a file that could not be opened or read
 unfoldable pub unread_line : List ℕ → List ℕ → List ℕ

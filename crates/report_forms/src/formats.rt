@@ -4,7 +4,7 @@ ghost use Rattle.std.specs.List.{flat_map};
 ghost use Rattle.gj_json.specs.Path.{steps_of};
 ghost use Rattle.geolint_report.specs.Line.{Adds};
 ghost use Rattle.report_forms.specs.Forms.Messages.{and_record, and_times, path_behind, and_path, level_of, step_text, steps_text, path_text};
-ghost use Rattle.report_forms.specs.Names.{shown_name, shown_bytes, begins_command, in_string, shown_text, shown_char, by_number, digit_in, unread_line};
+ghost use Rattle.report_forms.specs.Names.{shown_name, shown_bytes, begins_command, in_json, shown_text, shown_char, by_number, digit_in, unread_line};
 
 pub mod github;
 pub mod gitlab;
@@ -20,6 +20,7 @@ use geolint_report::line::{put, put_all};
 use gj_json::{Path, PathStep};
 use gj_places::is_harmful;
 use itoa::Buffer;
+use serde_json::Value;
 use std::alloc::AllocError;
 
 /// Puts a path from the root, as `$.features[3].geometry`; `*` stands for a name that the standard does not know.
@@ -138,25 +139,14 @@ fn put_bytes(name: &[u8], line: &mut Vec<u8>) -> Result<(), AllocError>
     Ok(())
 }
 
-/// Puts a text between the quotation marks of a JSON string. Of control characters it has LF alone.
-pub fn put_in_string(text: &[u8], line: &mut Vec<u8>) -> Result<(), AllocError>
-    ensures { OnOk result (Adds line.old line.new (flat_map in_string text.now)) }
+/// Puts a text as a JSON string, as `serde_json` writes it: U+FFFD stands for each part that is no UTF-8.
+#[tactic(auto, unfolding(crate::specs::Names::in_json))]
+pub fn put_string(text: &[u8], line: &mut Vec<u8>) -> Result<(), AllocError>
+    ensures { OnOk result (Adds line.old line.new (in_json text.now)) }
 {
-    for byte in text {
-        put_byte_in_string(*byte, line)?;
-    }
-    Ok(())
-}
-
-fn put_byte_in_string(byte: u8, line: &mut Vec<u8>) -> Result<(), AllocError>
-    ensures { OnOk result (Adds line.old line.new (in_string byte)) }
-{
-    match byte {
-        b'"' => line.extend_from_slice(b"\\\""),
-        b'\\' => line.extend_from_slice(b"\\\\"),
-        b'\n' => line.extend_from_slice(b"\\n"),
-        other => line.extend_from_slice(&[other]),
-    }
+    let alloc = *line.allocator();
+    let value = Value::String(String::from_utf8_lossy(alloc, text)?);
+    put(line, value.to_string(alloc)?.as_bytes())
 }
 
 /// Puts the line on standard error about a file that could not be opened or read.

@@ -1,7 +1,6 @@
 -- The form `gitlab`: an array of issues, as GitLab's Code Quality reads it.
 use Rattle.std.specs.Prelude.{ℕ, Bool, List, ◌++◌, Option, Some, None, codes, if◌then◌else◌}
 use Rattle.std.specs.Fmt.{decimal}
-use Rattle.std.specs.List.{flat_map}
 use Rattle.hex.specs.Hex.{encode_lower}
 use Rattle.sha2.specs.Sha256.{sha256}
 use Rattle.geolint_report.specs.declared.report.Report.{Report}
@@ -10,7 +9,7 @@ use Rattle.geolint_report.specs.Report.{spot_of}
 use Rattle.geolint_report.specs.Texts.{code_name}
 use Rattle.report_forms.specs.declared.formats.issues.Issue.{Issue}
 use Rattle.report_forms.specs.Forms.Issues.{issue_text}
-use Rattle.report_forms.specs.Names.{in_string, shown_name}
+use Rattle.report_forms.specs.Names.{in_json, shown_name}
 
 -- a rule, a place and a file
 unfoldable pub identity_of : List ℕ → ℕ → List ℕ → List ℕ
@@ -30,16 +29,16 @@ line_of None = 1
 
 unfoldable pub gitlab_object : List ℕ → List ℕ → List ℕ → ℕ → List ℕ → Option Spot → List ℕ
 gitlab_object severity check text place name spot =
-    codes "{\"description\":\""
-    ++ (flat_map in_string text
-    ++ (codes "\",\"check_name\":\""
+    codes "{\"description\":"
+    ++ (in_json text
+    ++ (codes ",\"check_name\":\""
     ++ (check
     ++ (codes "\",\"fingerprint\":\""
     ++ (fingerprint_of check place name
     ++ (codes "\",\"severity\":\""
     ++ (severity
-    ++ (codes "\",\"location\":{\"path\":\""
-    ++ (flat_map in_string (shown_name name) ++ (codes "\",\"lines\":{\"begin\":" ++ (decimal (line_of spot) ++ codes "}}}")))))))))))
+    ++ (codes "\",\"location\":{\"path\":"
+    ++ (in_json (shown_name name) ++ (codes ",\"lines\":{\"begin\":" ++ (decimal (line_of spot) ++ codes "}}}")))))))))))
 
 abbrev pub gitlab_issue : Report → Issue → List ℕ
 gitlab_issue report issue =

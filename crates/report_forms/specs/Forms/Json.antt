@@ -23,7 +23,7 @@ use Rattle.geolint_report.specs.Texts.{code_name, code_text}
 use Rattle.report_forms.specs.Forms.Hints.{hint_text}
 use Rattle.report_forms.specs.Forms.Messages.{path_text}
 use Rattle.report_forms.specs.Forms.Pointers.{pointer_or_null}
-use Rattle.report_forms.specs.Names.{in_string}
+use Rattle.report_forms.specs.Names.{in_json}
 
 abbrev pub json_spot : Option Spot → List ℕ
 json_spot (Some spot) = codes ",\"line\":" ++ (decimal spot.line ++ (codes ",\"column\":" ++ decimal spot.column))
@@ -67,7 +67,7 @@ IsJsonFound (Some found) bytes = (text : List ℕ) × SpellsString (found_bytes 
 IsJsonFound None bytes = bytes ≡ codes ",\"found\":null"
 
 unfoldable pub json_hint_text : List ℕ → List ℕ
-json_hint_text text = codes ",\"hint\":\"" ++ (flat_map in_string text ++ codes "\"")
+json_hint_text text = codes ",\"hint\":" ++ in_json text
 
 -- what the file looks like
 abbrev pub json_hint : List ℕ → Option Hint → List ℕ

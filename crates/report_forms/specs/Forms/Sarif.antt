@@ -18,7 +18,7 @@ use Rattle.gj_manual.specs.Manual.{section_of as manual_of}
 use Rattle.report_forms.specs.declared.formats.issues.Issue.{Issue}
 use Rattle.report_forms.specs.Forms.Hints.{and_hint, hint_on}
 use Rattle.report_forms.specs.Forms.Messages.{and_record, and_times, if_placed, level_of, path_text}
-use Rattle.report_forms.specs.Names.{digit_in, in_string}
+use Rattle.report_forms.specs.Names.{digit_in, in_json}
 use Rattle.geolint_report.specs.declared.texts.TheConstants.{ALL}
 pub use Rattle.gj_rules.specs.Records.{are_none as is_nothing}
 
@@ -75,9 +75,9 @@ sarif_result report issue =
     ++ (code_name issue.told.code
     ++ (codes "\",\"level\":\""
     ++ (level_of issue.is_failure
-    ++ (codes "\",\"message\":{\"text\":\""
-    ++ (flat_map in_string (sarif_message report issue)
-    ++ (codes "\"}"
+    ++ (codes "\",\"message\":{\"text\":"
+    ++ (in_json (sarif_message report issue)
+    ++ (codes "}"
     ++ (location report.name.now
     ++ (if_placed issue.told.code (region report issue.told.place)
     ++ (codes "}" ++ (logical_location_of (path_of report issue.told) ++ codes "}]}"))))))))))
@@ -111,16 +111,16 @@ unfoldable pub name_and_text : Code → List ℕ
 name_and_text code = code_name code ++ (codes ": " ++ code_text code)
 
 unfoldable pub explained : Code → List ℕ
-explained code = name_and_text code ++ (codes " (geolint-files --explain " ++ (code_name code ++ codes ")"))
+explained code = name_and_text code ++ (codes " (geolint-files --explain " ++ (code_name code ++ codes ")\""))
 
 -- the section of docs/rules.md
 abbrev pub section_of : Code → List ℕ
-section_of Code.NotValid = codes "what geolint says"
+section_of Code.NotValid = codes "what geolint says\""
 section_of code = explained code
 
 -- the section itself, for GitHub
 unfoldable pub manual_member : Code → List ℕ
-manual_member code = codes "\",\"markdown\":\"" ++ flat_map in_string (manual_of code)
+manual_member code = codes ",\"markdown\":" ++ in_json (manual_of code)
 
 abbrev pub markdown_of : Code → List ℕ
 markdown_of Code.NotValid = []
@@ -138,7 +138,7 @@ sarif_rule code =
     ++ (codes "\",\"shortDescription\":{\"text\":\""
     ++ (code_text code
     ++ (codes "\"},\"help\":{\"text\":\"docs/rules.md, "
-    ++ (section_of code ++ (markdown_of code ++ (codes "\"},\"defaultConfiguration\":{\"level\":\"" ++ (code_level code ++ codes "\"}}"))))))))
+    ++ (section_of code ++ (markdown_of code ++ (codes "},\"defaultConfiguration\":{\"level\":\"" ++ (code_level code ++ codes "\"}}"))))))))
 
 abbrev pub rule_and_break : Code → List ℕ
 rule_and_break code = sarif_rule code ++ codes ",\n"

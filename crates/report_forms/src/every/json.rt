@@ -1,16 +1,13 @@
 //! The form `json`: an object for each finding, on a separate line.
 ghost use Rattle.std.specs.Prelude.{ℕ, List, OnOk};
 ghost use Rattle.gj_places.specs.Strings.{SpellsString};
-ghost use Rattle.report_forms.specs.Forms.Features.{json_entry, json_more, item_members, feature_members, record_member, id_or_null, spot_at, path_at};
-ghost use Rattle.report_forms.specs.Forms.Json.{json_told};
+ghost use Rattle.report_forms.specs.Forms.Features.{json_entry, json_more, item_members, feature_members, record_member, id_or_null};
 ghost use Rattle.geolint_report.specs.Line.{Adds};
 
 use crate::every::entry::{Entry, path_at, spot_at};
 use crate::formats::json::put_told;
-use geolint_report::every::cursor::Mark;
 use geolint_report::every::listing::Item;
 use geolint_report::line::{put, put_number};
-use geolint_report::report::Told;
 use gj_places::json_string;
 use std::alloc::{AllocError, Global};
 
@@ -21,25 +18,17 @@ pub fn put_entry(alloc: Global, entry: &Entry<'_>, line: &mut Vec<u8>) -> Result
 {
     let name = json_string(alloc, entry.name)?;
     let id = json_string(alloc, entry.id)?;
-    put_line(name.as_bytes(), id.as_bytes(), entry, line)
-}
-
-/// The line; the name and the `id` are spelled as JSON strings.
-fn put_line(name: &[u8], id: &[u8], entry: &Entry<'_>, line: &mut Vec<u8>) -> Result<(), AllocError>
-    ensures { OnOk result (Adds line.old line.new (json_entry name.now id.now entry.now)) }
-{
     put(line, b"{\"path\":")?;
-    put(line, name)?;
+    put(line, name.as_bytes())?;
     put(line, b",")?;
-    put_members(entry.note.item, entry.id, id, line)?;
-    put_placed(&entry.note.told, entry.mark, line)?;
+    put_members(entry.note.item, entry.id, id.as_bytes(), line)?;
+    put_told(
+        &entry.note.told,
+        spot_at(entry.mark),
+        path_at(entry.mark),
+        line,
+    )?;
     put(line, b"}\n")
-}
-
-fn put_placed(told: &Told, mark: Option<Mark>, line: &mut Vec<u8>) -> Result<(), AllocError>
-    ensures { OnOk result (Adds line.old line.new (json_told told.now (spot_at mark) (path_at mark))) }
-{
-    put_told(told, spot_at(mark), path_at(mark), line)
 }
 
 /// Puts the members for a feature or a record; the `id` is spelled as a string.
@@ -95,14 +84,8 @@ pub fn put_more(
     ensures { OnOk result ((spelled : List ℕ) × SpellsString name.now spelled × Adds line.old line.new (json_more spelled count)) }
 {
     let name = json_string(alloc, name)?;
-    put_more_line(name.as_bytes(), count, line)
-}
-
-fn put_more_line(name: &[u8], count: u64, line: &mut Vec<u8>) -> Result<(), AllocError>
-    ensures { OnOk result (Adds line.old line.new (json_more name.now count)) }
-{
     put(line, b"{\"path\":")?;
-    put(line, name)?;
+    put(line, name.as_bytes())?;
     put(line, b",\"more\":")?;
     put_number(line, count)?;
     put(line, b"}\n")

@@ -6,7 +6,7 @@ ghost use Rattle.report_forms.specs.Forms.Sarif.{break_unless};
 
 use crate::formats::issues::{Issue, put_issue_text};
 use crate::formats::sarif::Log;
-use crate::formats::{put_in_string, put_name};
+use crate::formats::{put_name, put_string};
 use geolint_report::line::{put, put_number};
 use geolint_report::report::Report;
 use geolint_report::sites::Spot;
@@ -100,17 +100,17 @@ pub fn put_object(
     let fingerprint = fingerprint(alloc, check, place, name)?;
     let mut shown = Vec::new(alloc);
     put_name(name, &mut shown)?;
-    put(line, b"{\"description\":\"")?;
-    put_in_string(text, line)?;
-    put(line, b"\",\"check_name\":\"")?;
+    put(line, b"{\"description\":")?;
+    put_string(text, line)?;
+    put(line, b",\"check_name\":\"")?;
     put(line, check)?;
     put(line, b"\",\"fingerprint\":\"")?;
     put(line, fingerprint.as_bytes())?;
     put(line, b"\",\"severity\":\"")?;
     put(line, severity)?;
-    put(line, b"\",\"location\":{\"path\":\"")?;
-    put_in_string(shown.as_slice(), line)?;
-    put(line, b"\",\"lines\":{\"begin\":")?;
+    put(line, b"\",\"location\":{\"path\":")?;
+    put_string(shown.as_slice(), line)?;
+    put(line, b",\"lines\":{\"begin\":")?;
     put_number(line, line_of(spot))?;
     put(line, b"}}}")
 }

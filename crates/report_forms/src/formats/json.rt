@@ -3,8 +3,8 @@ ghost use Rattle.std.specs.Prelude.{◌≡◌, ◌&&◌, ◌++◌, ℕ, List, On
 ghost use Rattle.geolint_report.specs.Found.{found_bytes};
 ghost use Rattle.gj_json.specs.Path.{steps_of};
 ghost use Rattle.gj_places.specs.Strings.{SpellsString};
-ghost use Rattle.geolint_report.specs.Finding.{word_of, record_of, records_of, fault_of, warnings_of};
-ghost use Rattle.geolint_report.specs.Line.{Adds, optional_number};
+ghost use Rattle.geolint_report.specs.Finding.{fault_of, warnings_of};
+ghost use Rattle.geolint_report.specs.Line.{Adds};
 ghost use Rattle.report_forms.specs.Forms.Json.{json_spot, json_path, json_path_string, json_told, json_head, json_nothing, json_placed, json_fault};
 ghost use Rattle.report_forms.specs.Forms.Json.{IsJsonFound, json_hint, json_hint_text, json_object, json_kind, json_warnings, json_warnings_of, json_line};
 ghost use Rattle.report_forms.specs.Forms.Hints.{hint_text};
@@ -13,7 +13,7 @@ ghost use Rattle.report_forms.specs.Internal.WrittenCommas.{is_none_yet, next_it
 
 use crate::formats::hints::put_hint_text;
 use crate::formats::pointer::put_pointer_or_null;
-use crate::formats::{put_in_string, put_path};
+use crate::formats::{put_path, put_string};
 use geolint_report::found::Found;
 use geolint_report::judge::Finding;
 use geolint_report::line::{put, put_all, put_number, put_optional, put_truth};
@@ -32,19 +32,7 @@ pub fn put_report(alloc: Global, report: &Report<'_>, line: &mut Vec<u8>) -> Res
         × Adds line.old line.new (json_line name found report.now)) }
 {
     let name = json_string(alloc, report.name)?;
-    put_line(alloc, name.as_bytes(), report, line)
-}
-
-/// The line; the name is spelled as a JSON string.
-fn put_line(
-    alloc: Global,
-    name: &[u8],
-    report: &Report<'_>,
-    line: &mut Vec<u8>,
-) -> Result<(), AllocError>
-    ensures { OnOk result ((found : List ℕ) × IsJsonFound report.now.found found × Adds line.old line.new (json_line name.now found report.now)) }
-{
-    put_head(name, &report.finding, report.passes, line)?;
+    put_head(name.as_bytes(), &report.finding, report.passes, line)?;
     put_fault(report, line)?;
     put_found(alloc, report.found, line)?;
     put_hint(alloc, report.name, report.hint, line)?;
@@ -104,9 +92,8 @@ fn put_some_hint(
 {
     let mut text = Vec::new(alloc);
     put_hint_text(alloc, name, hint, &mut text)?;
-    put(line, b",\"hint\":\"")?;
-    put_in_string(text.as_slice(), line)?;
-    put(line, b"\"")
+    put(line, b",\"hint\":")?;
+    put_string(text.as_slice(), line)
 }
 
 /// The members where no rule is broken.
@@ -132,30 +119,12 @@ fn put_head(
     put(line, b"{\"path\":")?;
     put(line, name)?;
     put(line, b",\"verdict\":\"")?;
-    put_word(finding, line)?;
+    put(line, finding.word())?;
     put(line, b"\",\"passes\":")?;
     put_truth(line, passes)?;
     put(line, b",\"record\":")?;
-    put_record(finding, line)?;
+    put_optional(line, finding.record())?;
     put(line, b",\"records\":")?;
-    put_records(finding, line)
-}
-
-fn put_word(finding: &Finding, line: &mut Vec<u8>) -> Result<(), AllocError>
-    ensures { OnOk result (Adds line.old line.new (word_of finding.now)) }
-{
-    put(line, finding.word())
-}
-
-fn put_record(finding: &Finding, line: &mut Vec<u8>) -> Result<(), AllocError>
-    ensures { OnOk result (Adds line.old line.new (optional_number (record_of finding.now))) }
-{
-    put_optional(line, finding.record())
-}
-
-fn put_records(finding: &Finding, line: &mut Vec<u8>) -> Result<(), AllocError>
-    ensures { OnOk result (Adds line.old line.new (optional_number (records_of finding.now))) }
-{
     put_optional(line, finding.records())
 }
 
@@ -301,20 +270,13 @@ pub fn put_unread(
 {
     let file = json_string(alloc, name)?;
     let why = json_string(alloc, reason.as_bytes())?;
-    put_unread_line(file.as_bytes(), why.as_bytes(), line)
-}
-
-/// That line; both are spelled as JSON strings.
-fn put_unread_line(name: &[u8], reason: &[u8], line: &mut Vec<u8>) -> Result<(), AllocError>
-    ensures { OnOk result (Adds line.old line.new (json_unread name.now reason.now)) }
-{
     put(line, b"{\"path\":")?;
-    put(line, name)?;
+    put(line, file.as_bytes())?;
     put(
         line,
         b",\"verdict\":\"not read\",\"passes\":false,\"record\":null,\"records\":null,\"rule\":null,\"text\":",
     )?;
-    put(line, reason)?;
+    put(line, why.as_bytes())?;
     put(
         line,
         b",\"offset\":null,\"line\":null,\"column\":null,\"json_path\":null,\"pointer\":null,\"found\":null,\"hint\":null,\"warnings\":[]}\n",

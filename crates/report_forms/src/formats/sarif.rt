@@ -13,7 +13,7 @@ ghost use Rattle.report_forms.specs.Forms.Sarif.{sarif_unread, name_and_text, ex
 use crate::formats::hints::{hint_on, put_and_hint};
 use crate::formats::issues::{Issue, issues};
 use crate::formats::{
-    digit_in, gitlab, level, put_and_record, put_and_times, put_in_string, put_path,
+    digit_in, gitlab, level, put_and_record, put_and_times, put_path, put_string,
 };
 use crate::options::{Format, Options};
 use geolint_report::line::{put, put_all, put_number, put_truth};
@@ -193,9 +193,9 @@ fn put_result(
     issue.told.code.put_name(line)?;
     put(line, b"\",\"level\":\"")?;
     put(line, level(issue.is_failure))?;
-    put(line, b"\",\"message\":{\"text\":\"")?;
-    put_in_string(message.as_slice(), line)?;
-    put(line, b"\"}")?;
+    put(line, b"\",\"message\":{\"text\":")?;
+    put_string(message.as_slice(), line)?;
+    put(line, b"}")?;
     put_location(report.name, line)?;
     put_region_if(report, issue, line)?;
     put(line, b"}")?;
@@ -319,7 +319,7 @@ fn put_rule(code: Code, line: &mut Vec<u8>) -> Result<(), AllocError>
     put(line, b"\"},\"help\":{\"text\":\"docs/rules.md, ")?;
     put_section(code, line)?;
     put_markdown(code, line)?;
-    put(line, b"\"},\"defaultConfiguration\":{\"level\":\"")?;
+    put(line, b"},\"defaultConfiguration\":{\"level\":\"")?;
     put(line, code_level(code))?;
     put(line, b"\"}}")
 }
@@ -338,7 +338,7 @@ fn put_section(code: Code, line: &mut Vec<u8>) -> Result<(), AllocError>
     ensures { OnOk result (Adds line.old line.new (section_of code)) }
 {
     match code {
-        Code::NotValid => put(line, b"what geolint says"),
+        Code::NotValid => put(line, b"what geolint says\""),
         code => put_explained(code, line),
     }
 }
@@ -356,8 +356,8 @@ fn put_markdown(code: Code, line: &mut Vec<u8>) -> Result<(), AllocError>
 fn put_manual(code: Code, line: &mut Vec<u8>) -> Result<(), AllocError>
     ensures { OnOk result (Adds line.old line.new (manual_member code)) }
 {
-    put(line, b"\",\"markdown\":\"")?;
-    put_in_string(section(code).as_bytes(), line)
+    put(line, b",\"markdown\":")?;
+    put_string(section(code).as_bytes(), line)
 }
 
 /// The section, and the words that print it.
@@ -367,7 +367,7 @@ fn put_explained(code: Code, line: &mut Vec<u8>) -> Result<(), AllocError>
     put_name_and_text(code, line)?;
     put(line, b" (geolint-files --explain ")?;
     code.put_name(line)?;
-    put(line, b")")
+    put(line, b")\"")
 }
 
 fn put_name_and_text(code: Code, line: &mut Vec<u8>) -> Result<(), AllocError>

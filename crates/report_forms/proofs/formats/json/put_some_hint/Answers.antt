@@ -5,5 +5,4 @@ use Rattle.report_forms.proofs.formats.json.put_some_hint.Goals as goal
 pub returns : goal.returns
 unfolding json_hint_text
 returns c =
-    let text = simp (c.new-text.ensures.items, c.in_ok-put_hint_text.ensures, c.as_slice.ensures.value) at c.in_ok-put_in_string.ensures in
-    simp (append_assoc, c.in_ok-put.ensures, text) at c.put-2.ensures
+    simp (append_assoc, c.in_ok-put.ensures, c.new-text.ensures.items, c.in_ok-put_hint_text.ensures, c.as_slice.ensures.value) at c.put_string.ensures
