@@ -17,13 +17,11 @@ pub struct WriteFault {
 }
 
 /// The reason why a run ended before its report was whole.
-#[derive(Clone, Copy, Debug, PartialEq, Eq, Error)]
+#[derive(Clone, Copy, Debug, PartialEq, Eq)]
 pub enum RunFault {
     /// Nothing was written.
-    #[error(transparent)]
     Read(ReadFault),
     /// The verdict was there, but not all of its report went out.
-    #[error(transparent)]
     Write(WriteFault),
 }
 
