@@ -32,9 +32,12 @@ KINDS = [
     b'{"geometryType":"esriGeometryPoint"}', b'{"spatialReference":{}}', b'{"x":"' + 490 * b"y" + b'","spatialReference":{}}', b'"{\\"type\\":\\"Point\\"}"',
     POINT % b"52.5,113.4", POINT % b" -52.5 , -113.4 , 7 ", POINT % b"192.5,13.4", POINT % b"5e1,113.4", POINT % b"1,2", POINT % b"0.1234567890123456789012345678901,0",
     POINT % b"1e999,0", POINT % b"-1E-999,0", b'{"type":"Point"}', POINT[:-1] % b"0,0", b'{"file":"C:\\maps"}', b"", b"{", POINT % b"113.4,52.5" + b"\n" + POINT % b"52.5,113.4",
+    b"\x89PNG\r\n", b"<gpx><wpt lat='1' lon='2'/>", b"id;name\n1;a\n", b"Sorry, no.\n", b" json_agg \n-----\n {}\n", b'"{""a"":1}"', b"show({});", b"[\n=======\n", b'{"a":\0\0',
+    b'{"a":True}', b"{'a': None}", b'{"a":NULL}', b"{a:1}", b'["two\nlines"]', b'{"a":"the "old" pier"}', b"{\xe2\x80\x9ca", b"[.5]", b"[...]", b'{"a":41,5}',
+    b'{"a":1 "b":2}', b'{"a":{},{', POINT % b"0,0" + b",\n" + POINT % b"0,0" + b",\n", b'{"type":null}', b'{"type":"Point","coordinates":null}',
     600 * b" " + b"[1,]", b"[" + 600 * b"1," + b"]", b"[1," + 256 * b" " + b"]", b"[1," + 255 * b" " + b"]", b'{"a":"' + 600 * b"b" + b"\xc3", b'["' + 600 * b"b" + b'\xc3"]',
 ]
-HINTS = 28
+HINTS = 53
 
 
 def cuts_of(dice, size):

@@ -1,5 +1,5 @@
 // What a file looks like: node hints.mjs SOURCES MODULE FOLDER PROGRAM. Each hint of geolint-files is given where PROGRAM gives it, with its
-// text, and the page gives it too; the page has further ones.
+// text, and the page gives it too.
 
 import { mkdirSync, readFileSync, writeFileSync } from "node:fs";
 import { spawnSync } from "node:child_process";
@@ -12,7 +12,7 @@ const { guessFor } = await from("guesses.js");
 const { ENGLISH } = await from("texts.en.js");
 const { GERMAN } = await from("texts.de.js");
 
-// Each character is a byte. The name, or null; then what the page says where that is another one.
+// Each character is a byte. The name, or null; then what the page alone says.
 const rows = [
   ["\x1f\x8b\x08\x00", "gzip"],
   ["PK\x03\x04rest", "zip"],
@@ -29,12 +29,13 @@ const rows = [
   ["<?xml version='1.0'?>\n<kml xmlns='x'>", "kml"],
   ["<?xml version='1.0'?><a xmlns:gml='http://www.opengis.net/gml'>", "gml"],
   ["<?xml version='1.0'?><osm>", "xml"],
-  ["<gpx version='1.1'>", "xml", "gpx"],
+  ["<gpx version='1.1'>", "gpx"],
+  ["<gpx version='1.1'><wpt lat='54' lon='9'/>", "waypoints"],
   ['\x1e{"type":"Point","coordinates":[0,0]}\n', "sequence"],
   ['{"type":"Point","coordinates":[0,0]}\n{"type":"Point","coordinates":[0,0]}\n', "secondText"],
   ["[1][2]", "secondText"],
   [`[1${" ".repeat(9_000_000)}] [2]`, "secondText"],
-  ["[[1] [2]]", null, "missingComma"],
+  ["[[1] [2]]", null],
   ['{"a":1,}', "extraComma"],
   ["[1,2,\n]", "extraComma"],
   ["[1,,2]", "extraComma"],
@@ -66,21 +67,37 @@ const rows = [
   ['{"type":"Point"}', null],
   ['{"type":"Point","coordinates":[0,0]}', null],
   ['{"type":"Point","coordinates":[0,0]', null],
-  ['{"file":"C:\\maps"}', null],
+  ["\x89PNG\r\n", "image"],
+  ["\xff\xd8\xff\xe0", "image"],
+  ["id;name;lat;lon\n1;a;2;3\n", "csv"],
+  [' json_agg \n----------\n {"type":"Point","coordinates":[0,0]}\n(1 row)\n', "psql"],
+  ['"{""type"":""Point""}"', "doubledQuotes"],
+  ['show({"type":"Point","coordinates":[0,0]});', "script"],
+  ["Not found\n", "plainText"],
+  ["[\n<<<<<<< HEAD\n{},", "conflict"],
+  ['{"type":"Point",\0\0\0\0', "zeros"],
+  ['{"a":True}', "python"],
+  ['{"a":None}', "python"],
+  ["{'a': None}", "pythonText"],
+  ['{"a":undefined}', "word"],
+  ['{"a":NULL}', "word"],
+  ["{a:1}", "unquoted"],
+  ['{"a":"two\nlines"}', "control"],
+  ['{"file":"C:\\maps"}', "backslash"],
+  ['{"a":"the "old" pier"}', "innerQuote"],
+  ["{\xe2\x80\x9ca\xe2\x80\x9d:1}", "typographicQuotes"],
+  ['{"a":.5}', "number"],
+  ['{"a":+5}', "number"],
+  ['{"a":05}', "number"],
+  ["[1.]", "number"],
+  ['{"depth":41,5}', "decimalComma"],
+  ['{"a":1 "b":2}', "missingComma"],
+  ['{"a":{},{', "missingBrace"],
+  ['{"a":1},\n{"a":2},\n', "commaBetween"],
+  ['{"type":"Point","coordinates":null}', "nullGeometry"],
+  ['{"type":null}', "nullGeometry"],
   // What the page alone says.
   ["", null, "empty"],
-  ["\x89PNG\r\n", "latin1", "image"],
-  ["id;name;lat;lon\n1;a;2;3\n", null, "csv"],
-  ['{"a":1 "b":2}', null, "missingComma"],
-  ['{"depth":41,5}', null, "decimalComma"],
-  ["{a:1}", null, "unquoted"],
-  ['{"a":True}', null, "python"],
-  ['{"a":None}', null, "python"],
-  ['{"a":undefined}', null, "undefined"],
-  ['{"a":.5}', null, "number"],
-  ['{"a":+5}', null, "number"],
-  ['{"a":05}', null, "number"],
-  ['{"a":"two\nlines"}', null, "control"],
 ];
 const bytesOf = (text) => Uint8Array.from(text, (it) => it.charCodeAt(0));
 mkdirSync(folder, { recursive: true });
@@ -95,7 +112,6 @@ const wants = (what, got, wanted) => got === wanted || (failed++, console.log(`$
 const told = new Set();
 for (const [i, [text, name, onPage = name]] of rows.entries()) {
   const bytes = bytesOf(text);
-  const read = async (start, end) => bytes.subarray(start, end);
   for (const input of [bytes, new Blob([bytes]).stream()]) {
     const { hint } = await geolint.check(input);
     wants(text, hint?.name ?? null, name);
@@ -104,8 +120,10 @@ for (const [i, [text, name, onPage = name]] of rows.entries()) {
   const features = geolint.features(bytes);
   for await (const it of features) void it;
   wants(text, features.verdict.hint?.name ?? null, name);
-  wants(text, (await guessFor(features.verdict, read))?.name ?? null, onPage);
+  wants(text, guessFor(features.verdict)?.name ?? null, onPage);
   if (onPage) told.add(onPage);
 }
+// Where a sequence is due.
+told.add("noSeparator");
 for (const table of [ENGLISH, GERMAN]) wants(`what ${table.language} has`, Object.keys(table.hints).sort().join(), [...told].sort().join());
 process.exit(failed ? 1 : 0);

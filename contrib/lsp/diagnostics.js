@@ -60,7 +60,7 @@ export async function diagnosticsOf(geolint, text, { framing, signal }) {
   const { verdict, counts } = findings;
   add(verdict, "");
   const all = [...found.values()];
-  const guess = await guessFor(verdict, input.read);
+  const guess = guessFor(verdict);
   const guessed = guess && all.find((it) => it.data.offset === guess.offset);
   if (guessed) guessed.message += `\n${say("hint")} ${say(`hints.${guess.name}`)}`;
   const isCut = counts.faults > MOST || counts.warned > MOST;

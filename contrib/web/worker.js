@@ -55,9 +55,8 @@ const answers = {
     const input = files.of(file);
     const { verdict, counts } = await list(framing ? geolint.records(input, options) : geolint.features(input, options));
     const milliseconds = performance.now() - begun;
-    const read = async (from, to) => new Uint8Array(await file.slice(from, to).arrayBuffer());
     const isListed = framing || verdict.verdict !== "not JSON";
-    return { kind: "verdict", verdict, counts: isListed ? counts : null, hint: await guessFor(verdict, read), milliseconds };
+    return { kind: "verdict", verdict, counts: isListed ? counts : null, hint: guessFor(verdict), milliseconds };
   },
 
   /** What is shown or saved of the items of a list, in full. */

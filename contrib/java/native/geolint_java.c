@@ -1,4 +1,4 @@
-/* The calls of Native.java, over geolint.h. A linter is the address of its memory, which Handle.java keeps: no other is passed, none
+/* The calls of Native.java, over geolint.h. A handle is the address of its memory, which Handle.java keeps: no other is passed, none
  * after it is freed, and one call at a time for each. */
 #include <geolint.h>
 #include <jni.h>
@@ -13,8 +13,14 @@ enum { INDEX, START, END, ID, OF_FEATURE, FINDING = OF_FEATURE + REPORT };
 /* What nextFeature answers. */
 enum { OPEN, REFUSED, FOUND };
 
-static geolint_linter *linter_at(jlong address) {
-    return (geolint_linter *)(intptr_t)address;
+/* The handle at an address: the call says of what type. */
+static void *at(jlong address) {
+    return (void *)(intptr_t)address;
+}
+
+JNIEXPORT void JNICALL Java_geolint_Native_free(JNIEnv *env, jclass native, jlong memory) {
+    (void)env, (void)native;
+    free(at(memory));
 }
 
 JNIEXPORT jlong JNICALL Java_geolint_Native_allocate(JNIEnv *env, jclass native, jint max_depth, jlong max_bytes) {
@@ -22,14 +28,9 @@ JNIEXPORT jlong JNICALL Java_geolint_Native_allocate(JNIEnv *env, jclass native,
     return (jlong)(intptr_t)geolint_new((uint32_t)max_depth, (uint64_t)max_bytes);
 }
 
-JNIEXPORT void JNICALL Java_geolint_Native_free(JNIEnv *env, jclass native, jlong linter) {
-    (void)env, (void)native;
-    geolint_free(linter_at(linter));
-}
-
 JNIEXPORT jint JNICALL Java_geolint_Native_begin(JNIEnv *env, jclass native, jlong linter, jint max_depth, jlong max_bytes) {
     (void)env, (void)native;
-    return (jint)geolint_begin_again(linter_at(linter), (uint32_t)max_depth, (uint64_t)max_bytes);
+    return (jint)geolint_begin_again(at(linter), (uint32_t)max_depth, (uint64_t)max_bytes);
 }
 
 JNIEXPORT jint JNICALL Java_geolint_Native_feed(JNIEnv *env, jclass native, jlong linter, jbyteArray bytes, jint offset, jint length) {
@@ -41,7 +42,7 @@ JNIEXPORT jint JNICALL Java_geolint_Native_feed(JNIEnv *env, jclass native, jlon
         (*env)->GetByteArrayRegion(env, bytes, offset, size, piece);
         if ((*env)->ExceptionCheck(env))
             return GEOLINT_NULL;
-        status = geolint_feed(linter_at(linter), piece, (size_t)size);
+        status = geolint_feed(at(linter), piece, (size_t)size);
         offset += size;
         length -= size;
     } while (length > 0 && status == GEOLINT_DONE);
@@ -50,12 +51,12 @@ JNIEXPORT jint JNICALL Java_geolint_Native_feed(JNIEnv *env, jclass native, jlon
 
 JNIEXPORT jboolean JNICALL Java_geolint_Native_doomed(JNIEnv *env, jclass native, jlong linter) {
     (void)env, (void)native;
-    return geolint_doomed(linter_at(linter)) ? JNI_TRUE : JNI_FALSE;
+    return geolint_doomed(at(linter)) ? JNI_TRUE : JNI_FALSE;
 }
 
 JNIEXPORT jlong JNICALL Java_geolint_Native_offset(JNIEnv *env, jclass native, jlong linter) {
     (void)env, (void)native;
-    return (jlong)geolint_offset(linter_at(linter));
+    return (jlong)geolint_offset(at(linter));
 }
 
 /* Writes the numbers of a report. */
@@ -78,7 +79,7 @@ static void set_report(JNIEnv *env, jlongArray numbers, geolint_report report) {
 
 JNIEXPORT void JNICALL Java_geolint_Native_finish(JNIEnv *env, jclass native, jlong linter, jlongArray numbers) {
     (void)native;
-    set_report(env, numbers, geolint_finish(linter_at(linter)));
+    set_report(env, numbers, geolint_finish(at(linter)));
 }
 
 /* A text whose features are reported, with the bytes that were taken over of it. */
@@ -87,10 +88,6 @@ typedef struct walk {
     jint from, to;
     jbyte piece[PIECE];
 } walk;
-
-static walk *walk_at(jlong address) {
-    return (walk *)(intptr_t)address;
-}
 
 JNIEXPORT jlong JNICALL Java_geolint_Native_newFeatures(JNIEnv *env, jclass native, jint max_depth, jlong max_bytes) {
     size_t alignment = geolint_alignment();
@@ -104,13 +101,8 @@ JNIEXPORT jlong JNICALL Java_geolint_Native_newFeatures(JNIEnv *env, jclass nati
     return (jlong)(intptr_t)it;
 }
 
-JNIEXPORT void JNICALL Java_geolint_Native_freeFeatures(JNIEnv *env, jclass native, jlong features) {
-    (void)env, (void)native;
-    free(walk_at(features));
-}
-
 JNIEXPORT jint JNICALL Java_geolint_Native_fill(JNIEnv *env, jclass native, jlong features, jbyteArray bytes, jint offset, jint length) {
-    walk *it = walk_at(features);
+    walk *it = at(features);
     jint size = length < PIECE ? length : PIECE;
     (void)native;
     if (it->from < it->to || size <= 0)
@@ -124,7 +116,7 @@ JNIEXPORT jint JNICALL Java_geolint_Native_fill(JNIEnv *env, jclass native, jlon
 }
 
 JNIEXPORT jint JNICALL Java_geolint_Native_nextFeature(JNIEnv *env, jclass native, jlong features, jlongArray numbers) {
-    walk *it = walk_at(features);
+    walk *it = at(features);
     jlong all[FINDING];
     (void)native;
     for (;;) {
@@ -150,7 +142,7 @@ JNIEXPORT jint JNICALL Java_geolint_Native_nextFeature(JNIEnv *env, jclass nativ
 
 JNIEXPORT void JNICALL Java_geolint_Native_finishFeatures(JNIEnv *env, jclass native, jlong features, jlongArray numbers) {
     (void)native;
-    set_report(env, numbers, geolint_features_finish(walk_at(features)->features));
+    set_report(env, numbers, geolint_features_finish(((walk *)at(features))->features));
 }
 
 /* A run or a join of a text in parts. Their bytes lie in a buffer outside the heap, which one thread alone fills. */
@@ -168,22 +160,9 @@ JNIEXPORT jlong JNICALL Java_geolint_Native_newJoin(JNIEnv *env, jclass native, 
     return (jlong)(intptr_t)join;
 }
 
-JNIEXPORT void JNICALL Java_geolint_Native_freePart(JNIEnv *env, jclass native, jlong part) {
-    (void)env, (void)native;
-    free((void *)(intptr_t)part);
-}
-
-static geolint_run *run_at(jlong address) {
-    return (geolint_run *)(intptr_t)address;
-}
-
-static geolint_join *join_at(jlong address) {
-    return (geolint_join *)(intptr_t)address;
-}
-
 JNIEXPORT jint JNICALL Java_geolint_Native_feedRun(JNIEnv *env, jclass native, jlong run, jobject buffer, jint length, jlongArray numbers) {
-    uint32_t status = geolint_run_feed(run_at(run), (*env)->GetDirectBufferAddress(env, buffer), (size_t)length);
-    geolint_sum sum = geolint_run_sum(run_at(run));
+    uint32_t status = geolint_run_feed(at(run), (*env)->GetDirectBufferAddress(env, buffer), (size_t)length);
+    geolint_sum sum = geolint_run_sum(at(run));
     jlong all[] = {(jlong)sum.end, (jlong)sum.features, sum.ended};
     (void)native;
     (*env)->SetLongArrayRegion(env, numbers, 0, 3, all);
@@ -197,18 +176,18 @@ JNIEXPORT jint JNICALL Java_geolint_Native_likely(JNIEnv *env, jclass native, jo
 
 JNIEXPORT jint JNICALL Java_geolint_Native_feedJoin(JNIEnv *env, jclass native, jlong join, jobject buffer, jint length) {
     (void)native;
-    return (jint)geolint_join_feed(join_at(join), (*env)->GetDirectBufferAddress(env, buffer), (size_t)length);
+    return (jint)geolint_join_feed(at(join), (*env)->GetDirectBufferAddress(env, buffer), (size_t)length);
 }
 
 JNIEXPORT jboolean JNICALL Java_geolint_Native_passOver(JNIEnv *env, jclass native, jlong join, jlong run) {
-    geolint_sum sum = geolint_run_sum(run_at(run));
+    geolint_sum sum = geolint_run_sum(at(run));
     (void)env, (void)native;
-    return geolint_join_pass_over(join_at(join), &sum) ? JNI_TRUE : JNI_FALSE;
+    return geolint_join_pass_over(at(join), &sum) ? JNI_TRUE : JNI_FALSE;
 }
 
 JNIEXPORT void JNICALL Java_geolint_Native_finishJoin(JNIEnv *env, jclass native, jlong join, jlongArray numbers) {
     (void)native;
-    set_report(env, numbers, geolint_join_finish(join_at(join)));
+    set_report(env, numbers, geolint_join_finish(at(join)));
 }
 
 JNIEXPORT jstring JNICALL Java_geolint_Native_ruleText(JNIEnv *env, jclass native, jint rule) {

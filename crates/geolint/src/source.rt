@@ -7,6 +7,7 @@ ghost use Rattle.geolint_report.specs.ReadingLoop.{one_more, CountsBytes, Ends};
 
 use crate::failed::Failed;
 use crate::fault::ReadFault;
+use geolint_report::every::spots::Unplaced;
 use geolint_report::reading_loop::{Feeds, Pieces, Stage, Uncounted, read_all};
 use gj_json::Limits;
 use std::io::Read;
@@ -86,12 +87,13 @@ pub fn read<S: Source, L, F: Feeds<L>>(
         (S.remaining reader.old) (S.remaining reader.new) stage) }
 {
     let mut piece = [0; PIECE];
-    match read_all::<S, FromSource, L, F, Uncounted>(
+    match read_all::<S, FromSource, L, F, Uncounted, Unplaced>(
         reader,
         fed,
         limits,
         &mut piece,
         &mut Uncounted,
+        &mut Unplaced,
     ) {
         Ok(stage) => Ok(stage),
         Err(halt) => Err(ReadFault {

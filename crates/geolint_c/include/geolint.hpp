@@ -94,46 +94,58 @@ Verdict check(const Bytes &bytes, Limits limits = Limits()) noexcept {
     return check(bytes.data(), bytes.size() * sizeof(*bytes.data()), limits);
 }
 
+namespace detail {
+
+struct Free {
+    void operator()(void *memory) const noexcept { free(memory); }
+};
+
+/* Memory for a handle of this type: none where it could not be begun. It can be moved, and is freed once. */
+template <class Handle, class Freeing = Free> class Memory {
+public:
+    explicit operator bool() const noexcept { return memory_ != nullptr; }
+
+protected:
+    explicit Memory(std::size_t size) noexcept : memory_(malloc(size)) {}
+    Handle *at() const noexcept { return static_cast<Handle *>(memory_.get()); }
+    void begun(std::uint32_t status) noexcept {
+        if (status != GEOLINT_DONE)
+            memory_.reset();
+    }
+
+private:
+    std::unique_ptr<void, Freeing> memory_;
+};
+
+} // namespace detail
+
 /* Checks a text that comes in pieces. It can be moved, and frees its memory once. */
-class Linter {
+class Linter : public detail::Memory<geolint_linter> {
 public:
     /* Test it before use: it is empty if there is no memory or the limits are not allowed, and then checks nothing. */
-    explicit Linter(Limits limits = Limits()) noexcept : linter_(geolint_new(limits.max_depth, limits.max_bytes)) {}
-    Linter(Linter &&other) noexcept : linter_(other.linter_) { other.linter_ = nullptr; }
-    Linter &operator=(Linter &&other) noexcept {
-        std::swap(linter_, other.linter_);
-        return *this;
+    explicit Linter(Limits limits = Limits()) noexcept : Memory(geolint_size()) {
+        begun(geolint_begin(at(), limits.max_depth, limits.max_bytes));
     }
-    Linter(const Linter &) = delete;
-    Linter &operator=(const Linter &) = delete;
-    ~Linter() { geolint_free(linter_); }
-
-    explicit operator bool() const noexcept { return linter_ != nullptr; }
 
     /* Takes the next bytes. False: the text is refused, or the linter is empty or has ended; the host may stop reading. */
-    bool feed(const void *bytes, std::size_t length) noexcept {
-        return geolint_feed(linter_, geolint_bytes(bytes), length) == GEOLINT_DONE;
-    }
+    bool feed(const void *bytes, std::size_t length) noexcept { return geolint_feed(at(), geolint_bytes(bytes), length) == GEOLINT_DONE; }
     template <class Bytes, class = decltype(std::declval<const Bytes &>().data())> bool feed(const Bytes &bytes) noexcept {
         return feed(bytes.data(), bytes.size() * sizeof(*bytes.data()));
     }
 
     /* No text that begins with the bytes fed is valid, as far as that is seen early. */
-    bool doomed() noexcept { return geolint_doomed(linter_) != 0; }
-    std::uint64_t offset() noexcept { return geolint_offset(linter_); }
+    bool doomed() noexcept { return geolint_doomed(at()) != 0; }
+    std::uint64_t offset() noexcept { return geolint_offset(at()); }
     /* How many arrays and objects are open after the bytes taken. */
-    std::uint32_t levels() noexcept { return geolint_levels(linter_); }
+    std::uint32_t levels() noexcept { return geolint_levels(at()); }
 
     /* The verdict of all that was fed, and the end of the linter. */
-    Verdict finish() noexcept { return Verdict(geolint_finish(linter_)); }
+    Verdict finish() noexcept { return Verdict(geolint_finish(at())); }
 
     /* Begins again, in the same memory, at little cost. */
     bool begin(Limits limits = Limits()) noexcept {
-        return geolint_begin_again(linter_, limits.max_depth, limits.max_bytes) == GEOLINT_DONE;
+        return geolint_begin_again(at(), limits.max_depth, limits.max_bytes) == GEOLINT_DONE;
     }
-
-private:
-    geolint_linter *linter_;
 };
 
 /* What is found in a feature or in a record; places are from the start of the input. */
@@ -156,26 +168,6 @@ private:
 };
 
 namespace detail {
-
-/* Memory for a handle of this type: none where it could not be begun. */
-template <class Handle> class Memory {
-public:
-    explicit operator bool() const noexcept { return memory_ != nullptr; }
-
-protected:
-    explicit Memory(std::size_t size) noexcept : memory_(malloc(size)) {}
-    Handle *at() const noexcept { return static_cast<Handle *>(memory_.get()); }
-    void begun(std::uint32_t status) noexcept {
-        if (status != GEOLINT_DONE)
-            memory_.reset();
-    }
-
-private:
-    struct Free {
-        void operator()(void *memory) const noexcept { free(memory); }
-    };
-    std::unique_ptr<void, Free> memory_;
-};
 
 /* Whether the bytes of a container stay after the expression: it is named, or a view, as std::string_view and std::span. */
 template <class Bytes, class = void> struct IsArray : std::false_type {};
@@ -203,8 +195,19 @@ struct RecordCalls {
     std::abort();
 }
 
+/* The byte after a handle: 1 while a range over its findings has not ended. */
+template <class Calls> char &has_range(void *handle) noexcept { return static_cast<char *>(handle)[Calls::size()]; }
+
+template <class Calls> struct FreeWithoutRange {
+    void operator()(void *handle) const noexcept {
+        if (has_range<Calls>(handle))
+            misused();
+        free(handle);
+    }
+};
+
 /* Reports findings in bytes that come in pieces. */
-template <class Calls> class Puller {
+template <class Calls> class Puller : public Memory<typename Calls::Handle, FreeWithoutRange<Calls>> {
 public:
     /* The findings that end in a piece, as they are asked for: a range for one pass, over bytes that the host keeps until it has ended.
      * What is left of the piece is fed with the range's end or with its destruction. Before that, to feed, begin, finish or destroy what
@@ -259,7 +262,7 @@ public:
         Range(typename Calls::Handle *at, const void *bytes, std::size_t length) noexcept
             : at_(at), bytes_(static_cast<const char *>(geolint_bytes(bytes))), left_(length) {
             if (at_)
-                has_range(at_) = 1;
+                has_range<Calls>(at_) = 1;
         }
 
         bool next(geolint_finding *finding) noexcept {
@@ -268,7 +271,7 @@ public:
                 if (finding->report.status == GEOLINT_DONE)
                     return true;
                 if (!left_) {
-                    has_range(at_) = 0;
+                    has_range<Calls>(at_) = 0;
                     at_ = nullptr;
                     break;
                 }
@@ -286,8 +289,6 @@ public:
         std::size_t left_;
     };
 
-    explicit operator bool() const noexcept { return memory_ != nullptr; }
-
     /* The findings that end in these bytes, of an object and of a container that both stay after the expression: of others it does not
      * compile. */
     Range feed(const void *bytes, std::size_t length) & noexcept GEOLINT_LIFETIMEBOUND { return Range(without_range(), bytes, length); }
@@ -299,31 +300,17 @@ public:
     template <class Bytes> Range feed(Bytes &&bytes) && = delete;
 
 protected:
-    typedef typename Calls::Handle Handle;
-    Puller() noexcept : memory_(malloc(Calls::size() + 1)) {
-        if (memory_)
-            has_range(at()) = 0;
+    typedef Memory<typename Calls::Handle, FreeWithoutRange<Calls>> Base;
+    using Base::at;
+    Puller() noexcept : Base(Calls::size() + 1) {
+        if (at())
+            has_range<Calls>(at()) = 0;
     }
-    Handle *at() const noexcept { return static_cast<Handle *>(memory_.get()); }
-    Handle *without_range() const noexcept {
-        if (memory_ && has_range(at()))
+    typename Calls::Handle *without_range() const noexcept {
+        if (at() && has_range<Calls>(at()))
             misused();
         return at();
     }
-
-private:
-    /* The byte after the handle: 1 while a range over its findings has not ended. */
-    static char &has_range(void *handle) noexcept { return static_cast<char *>(handle)[Calls::size()]; }
-    struct FreeWithoutRange {
-        void operator()(void *handle) const noexcept {
-            if (has_range(handle))
-                misused();
-            free(handle);
-        }
-    };
-
-protected:
-    std::unique_ptr<void, FreeWithoutRange> memory_;
 };
 
 } // namespace detail
@@ -339,8 +326,7 @@ class Features : public detail::Puller<detail::FeatureCalls> {
 public:
     /* Test it before use, as a linter: if it is empty, it reports nothing. */
     explicit Features(Limits limits = Limits()) noexcept {
-        if (geolint_features_begin(at(), limits.max_depth, limits.max_bytes) != GEOLINT_DONE)
-            memory_.reset();
+        begun(geolint_features_begin(at(), limits.max_depth, limits.max_bytes));
     }
     /* Begins again, in the same memory, at little cost; findings that were not asked for are forgotten. */
     bool begin(Limits limits = Limits()) noexcept {
@@ -355,8 +341,7 @@ public:
 class Records : public detail::Puller<detail::RecordCalls> {
 public:
     explicit Records(geolint_framing framing, Limits limits = Limits()) noexcept {
-        if (geolint_records_begin(at(), framing, limits.max_depth, limits.max_bytes) != GEOLINT_DONE)
-            memory_.reset();
+        begun(geolint_records_begin(at(), framing, limits.max_depth, limits.max_bytes));
     }
     /* Begins again, in the same memory, at little cost. */
     bool begin(geolint_framing framing, Limits limits = Limits()) noexcept {

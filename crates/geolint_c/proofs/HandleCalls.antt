@@ -1,5 +1,11 @@
 -- The calls of C on a handle, in one walk of their MIR whatever their arguments are. At null they answer at once. Elsewhere the handle is lent for a
 -- lifetime that is made for the call of its method, and comes back once that is ended.
+pub use Rattle.geolint_c.specs.contracts.handle.Handle.{the_row as HandleRow}
+pub use Rattle.geolint_c.specs.contracts.features.FeatureHandle.{the_row as FeatureRow}
+pub use Rattle.geolint_c.specs.contracts.records.RecordHandle.{the_row as RecordRow}
+pub use Rattle.geolint_c.specs.contracts.join.JoinHandle.{the_row as JoinRow}
+pub use Rattle.geolint_c.specs.contracts.locator.LocatorHandle.{the_row as LocatorRow}
+pub use Rattle.geolint_c.specs.contracts.run.RunHandle.{the_row as RunRow}
 pub use Rattle.std.proofs.Common.{[], ◌∷◌, refl, w32, w64}
 use Rattle.std.proofs.Common.{◌≡◌, ℕ, zero, suc, ◌+◌, ◌^◌, List, length, ap, subst, ◌∙◌, lit<, MutBor}
 use Rattle.std.proofs.raw_atomic.Walks.{proved}

@@ -1,6 +1,6 @@
 -- Which features are ready, as more bytes come.
 use Rattle.std.proofs.Common.{◌≡◌, ℕ, zero, suc, ◌+◌, ◌-◌, ◌%◌, ◌<◌, ◌≤◌, ◌^◌, nat_le, Bool, true, false, if◌then◌else◌, List, [], ◌∷◌, ◌++◌, length}
-use Rattle.std.proofs.Common.{length-append, take, slice_get, append_assoc, Option, Some, None, refl, ap, sym, subst, ◌∙◌, arith}
+use Rattle.std.proofs.Common.{length-append, take, slice_get, append_assoc, Option, Some, None, IfSome, IsSomeAnd, refl, ap, sym, subst, ◌∙◌, arith}
 use Rattle.std.proofs.lemmas.Bool.Decides.{nat_tests}
 use Rattle.std.proofs.lemmas.List.{take_all, take-append-le, length-take-le}
 use Rattle.std.proofs.lemmas.List.Sums.{sum_by-take-le}
@@ -17,14 +17,12 @@ use Rattle.geolint_c.specs.declared.latest.LatestFeatures.{LatestFeatures}
 use Rattle.geolint_c.specs.declared.latest.TheConstants.{ROOM}
 use Rattle.geolint_c.specs.declared.finding.Finding.{Finding}
 use Rattle.geolint_c.specs.Finding.{IsFeature}
-use Rattle.geolint_c.specs.Features.{Judging, OfFeatures, HasRoom, Judges, IsJudging, OfNext, IsNextOf, tells_more, ready_by}
-use Rattle.geolint_c.specs.Internal.Pulling.{Counted, OfLinter, HasRoomFor, most_in}
+use Rattle.geolint_c.specs.Features.{Judging, OfFeatures, HasRoom, Judges, IsNextOf, tells_more, ready_by}
+use Rattle.geolint_c.specs.Internal.Pulling.{Counted, HasRoomFor, most_in}
 use Rattle.geolint_c.specs.Latest.{Keeps}
 use Rattle.gj_rules.proofs.Features.FeaturesInTime.{as_many}
 use Rattle.gj_rules.proofs.Features.FeaturesByCommas.{one_if}
 use Rattle.gj_rules.proofs.Texts.LinterEvents.{take_both}
-
--- ---- lists
 
 -- ---- what is told and what is found
 
@@ -67,7 +65,8 @@ next_found latest found pulled feature told few h more room at says_so =
 -- where no more were told than were pulled, there is none
 pub none_next : (o : Option Judging) (pulled : ℕ) (ready : Bool) (told : Finding) (limits : Allowed) (bytes : List ℕ) → ready ≡ false
     → ready_by o pulled ≡ false
-    → OfLinter o Counted → IsJudging o pulled limits bytes → OfNext o pulled ready limits bytes told
+    → IfSome o Counted → IsSomeAnd o (λ linter. Judges linter pulled limits bytes)
+    → IsSomeAnd o (λ linter. OfFeatures linter limits bytes (λ found. IsNextOf (slice_get found pulled) ready told))
 none_next None pulled ready told limits bytes e r counts j = absurd j
 none_next (Some linter) pulled ready told limits bytes e r counts j = λ text rest t few.
     let n = counts limits bytes j.stands j.under text rest t few in

@@ -1,6 +1,6 @@
 -- What a handle stands for that reports features, and what each of its calls gives.
 use Rattle.std.specs.Prelude.{◌≡◌, ℕ, ◌+◌, ◌≤◌, ◌<◌, ◌^◌, true, false, Bool, not, ◌&&◌, nat_lt, if◌then◌else◌, List, [], ◌++◌, length, take, slice_get, Option}
-use Rattle.std.specs.Prelude.{Some, None}
+use Rattle.std.specs.Prelude.{Some, None, IsSomeAnd, option_and_then}
 use Rattle.gj_json.specs.Events.{all_events}
 use Rattle.gj_json.specs.Limits.{Allowed}
 use Rattle.gj_json.specs.Text.{IsTextWithin}
@@ -42,24 +42,16 @@ pub record Judges (linter : Judging) (pulled : ℕ) (limits : Allowed) (bytes : 
   pub under : limits_of linter ≡ limits
   pub room : OfFeatures linter limits bytes (HasRoom pulled)
 
-abbrev pub IsJudging : Option Judging → ℕ → Allowed → List ℕ → Type 0
-IsJudging None pulled limits bytes = ⊥
-IsJudging (Some linter) pulled limits bytes = Judges linter pulled limits bytes
-
 -- it was begun under these limits and fed these bytes, and has not ended
 abbrev pub StandsFor : FeatureHandle → Allowed → List ℕ → Type 0
-StandsFor handle limits bytes = (handle.ended ≡ false) × IsJudging handle.linter handle.pulled limits bytes
+StandsFor handle limits bytes = (handle.ended ≡ false) × IsSomeAnd handle.linter (λ linter. Judges linter handle.pulled limits bytes)
 
 abbrev pub HasEnded : FeatureHandle → Type 0
 HasEnded handle = handle.ended ≡ true
 
-abbrev pub refused_by : Option Judging → Option JsonFault
-refused_by None = None
-refused_by (Some linter) = refusal_of linter
-
 -- the refusal of what was fed, once there was one
 abbrev pub refusal : FeatureHandle → Option JsonFault
-refusal handle = refused_by handle.linter
+refusal handle = option_and_then refusal_of handle.linter
 
 -- more features were reported than were pulled
 abbrev pub tells_more : Judging → ℕ → Bool
@@ -105,13 +97,10 @@ abbrev pub IsNextOf : Option FeatureFinding → Bool → Finding → Type 0
 IsNextOf None ready told = ready ≡ false
 IsNextOf (Some finding) ready told = (ready ≡ true) × IsFeature finding told
 
-abbrev pub OfNext : Option Judging → ℕ → Bool → Allowed → List ℕ → Finding → Type 0
-OfNext None pulled ready limits bytes told = ⊥
-OfNext (Some linter) pulled ready limits bytes told = OfFeatures linter limits bytes (λ found. IsNextOf (slice_get found pulled) ready told)
-
 pub record IsNext (old : FeatureHandle) (told : Finding) (new : FeatureHandle) : Type 0 where
   pub stands : (limits : Allowed) (bytes : List ℕ) → StandsFor old limits bytes → StandsFor new limits bytes
-  pub finding : (limits : Allowed) (bytes : List ℕ) → StandsFor old limits bytes → OfNext old.linter old.pulled (is_ready old) limits bytes told
+  pub finding : (limits : Allowed) (bytes : List ℕ) → StandsFor old limits bytes
+      → IsSomeAnd old.linter (λ linter. OfFeatures linter limits bytes (λ found. IsNextOf (slice_get found old.pulled) (is_ready old) told))
   pub counted : is_ready old ≡ true → new.pulled ≡ old.pulled + 1
   pub none : is_ready old ≡ false → (told ≡ no_finding 6) × (new ≡ old)
 

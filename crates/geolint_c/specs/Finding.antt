@@ -51,12 +51,13 @@ pub record IsFeature (finding : FeatureFinding) (told : Finding) : Type 0 where
 
 -- ---- a record
 
-abbrev pub record_with : Record → Report → Finding
-record_with found report = record { number = found.number; place = found.place; end = found.end; id = 0; report = report }
+-- in a record of this number, which begins and ends there, with this report
+abbrev pub record_with : ℕ → ℕ → ℕ → Report → Finding
+record_with number place end report = record { number = number; place = place; end = end; id = 0; report = report }
 
--- nothing is found in a record of this number, which begins and ends there
+-- nothing is found in it
 abbrev pub clean_finding : ℕ → ℕ → ℕ → Finding
-clean_finding number place end = record { number = number; place = place; end = end; id = 0; report = valid_report [] }
+clean_finding number place end = record_with number place end (valid_report [])
 
 pub record IsRecord (found : Record) (told : Finding) : Type 0 where
   pub number : told.number ≡ found.number
@@ -67,7 +68,7 @@ pub record IsRecord (found : Record) (told : Finding) : Type 0 where
 
 -- no finding, and why there is none
 abbrev pub no_finding : ℕ → Finding
-no_finding status = record { number = 0; place = 0; end = 0; id = 0; report = no_report status }
+no_finding status = record_with 0 0 0 (no_report status)
 
 -- ---- the whole
 

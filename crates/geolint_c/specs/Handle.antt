@@ -1,11 +1,10 @@
 -- What a handle stands for, and what each of its calls gives.
-use Rattle.std.specs.Prelude.{◌≡◌, ◌⊎◌, ℕ, true, false, List, [], ◌++◌, length, take, Option, Some, None}
+use Rattle.std.specs.Prelude.{◌≡◌, ◌⊎◌, ℕ, true, false, List, [], ◌++◌, length, take, Option, Some, None, IsSomeAnd, option_and_then}
 use Rattle.gj_json.specs.Limits.{Allowed}
 use Rattle.gj_json.specs.Open.{open_at}
 use Rattle.gj_json.specs.Text.{IsText}
 use Rattle.gj_json.specs.Tree.{Text}
 use Rattle.gj_json.specs.declared.fault.JsonFault.{JsonFault}
-use Rattle.gj_rules.specs.declared.linter.Linter.{Linter}
 use Rattle.gj_rules.specs.declared.linter.Progress.{Progress}
 use Rattle.gj_rules.specs.declared.linter.Progress.TheVariants.{Open, Refused}
 use Rattle.gj_rules.specs.Linter.{StandsFor as LinterStandsFor, limits_of, refusal_of, refusal_in, offset_of, Answers}
@@ -16,24 +15,17 @@ use Rattle.geolint_c.specs.declared.report.Report.{Report}
 use Rattle.geolint_c.specs.Options.{AreAllowed, limits_meant}
 use Rattle.geolint_c.specs.Report.{Reports, no_report}
 
-abbrev pub IsLinting : Option Linter → Allowed → List ℕ → Type 0
-IsLinting None limits bytes = ⊥
-IsLinting (Some linter) limits bytes = LinterStandsFor linter bytes × (limits_of linter ≡ limits)
-
 -- it was begun under these limits and fed these bytes, and has not ended
 abbrev pub StandsFor : Handle → Allowed → List ℕ → Type 0
-StandsFor handle limits bytes = (handle.ended ≡ false) × IsLinting handle.linter limits bytes
+StandsFor handle limits bytes =
+    (handle.ended ≡ false) × IsSomeAnd handle.linter (λ linter. LinterStandsFor linter bytes × (limits_of linter ≡ limits))
 
 abbrev pub HasEnded : Handle → Type 0
 HasEnded handle = handle.ended ≡ true
 
-abbrev pub refused_by : Option Linter → Option JsonFault
-refused_by None = None
-refused_by (Some linter) = refusal_of linter
-
 -- the refusal of what was fed, once there was one
 abbrev pub refusal : Handle → Option JsonFault
-refusal handle = refused_by handle.linter
+refusal handle = option_and_then refusal_of handle.linter
 
 -- ---- begin
 
@@ -89,14 +81,11 @@ pub record IsDoomed (old : Handle) (doomed : ℕ) (new : Handle) : Type 0 where
 
 -- ---- levels
 
--- as many arrays and objects as are open there in each text that goes on from the bytes that were taken
-abbrev pub IsOpenIn : Option Linter → List ℕ → ℕ → Type 0
-IsOpenIn None bytes levels = ⊥
-IsOpenIn (Some linter) bytes levels =
-    (text : Text) (rest : List ℕ) → IsText text (take (offset_of linter) bytes ++ rest) → levels ≡ open_at (offset_of linter) text
-
+-- As many arrays and objects as are open there in each text that goes on from the bytes that were taken.
 pub record IsLevels (old : Handle) (levels : ℕ) (new : Handle) : Type 0 where
-  pub open_there : (limits : Allowed) (bytes : List ℕ) → StandsFor old limits bytes → IsOpenIn old.linter bytes levels
+  pub open_there : (limits : Allowed) (bytes : List ℕ) → StandsFor old limits bytes
+      → IsSomeAnd old.linter (λ linter. (text : Text) (rest : List ℕ) → IsText text (take (offset_of linter) bytes ++ rest)
+      → levels ≡ open_at (offset_of linter) text)
   pub ended : HasEnded old → levels ≡ 0
   pub unchanged : new ≡ old
 

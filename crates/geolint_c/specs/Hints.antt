@@ -33,7 +33,8 @@ wrong_by_rule rule =
     if nat_eq rule 1 then Some Wrong.NoObject
     else (if nat_eq rule 2 then Some Wrong.NoType
     else (if nat_eq rule 3 then Some Wrong.OtherType
-    else (if nat_eq rule 16 then Some Wrong.BeyondProfile else None)))
+    else (if nat_eq rule 11 then Some Wrong.OtherShape
+    else (if nat_eq rule 16 then Some Wrong.BeyondProfile else None))))
 
 abbrev pub wrong_if_valid : Report → Option Wrong
 wrong_if_valid report = if nat_lt 0 (out_of_range report).count then Some Wrong.OutOfRange else None

@@ -1,10 +1,9 @@
 -- What a handle stands for that passes over runs of features, and what each of its calls gives.
-use Rattle.std.specs.Prelude.{◌≡◌, ◌⊎◌, ℕ, ◌≤◌, true, false, List, [], ◌++◌, length, Option, Some, None}
+use Rattle.std.specs.Prelude.{◌≡◌, ◌⊎◌, ℕ, ◌≤◌, true, false, List, [], ◌++◌, length, Option, None, IsSomeAnd, option_and_then}
 use Rattle.gj_json.specs.Limits.{Allowed}
 use Rattle.gj_json.specs.declared.fault.JsonFault.{JsonFault}
 use Rattle.gj_runs.specs.Joiner.{Joins, limits_of, refusal_of}
 use Rattle.gj_runs.specs.Runs.{StandsAfterFeature, IsSumOf}
-use Rattle.gj_runs.specs.declared.joiner.Joiner.{Joiner}
 use Rattle.gj_runs.specs.declared.sum.FeatureSum.{FeatureSum}
 use Rattle.geolint_c.specs.declared.join.JoinHandle.{JoinHandle}
 use Rattle.geolint_c.specs.declared.report.Report.{Report}
@@ -16,24 +15,16 @@ use Rattle.geolint_c.specs.Sum.{SaysSum}
 
 -- ---- what it stands for
 
-abbrev pub IsJoining : Option Joiner → Allowed → List ℕ → Type 0
-IsJoining None limits bytes = ⊥
-IsJoining (Some joiner) limits bytes = Joins joiner bytes × (limits_of joiner ≡ limits)
-
 -- it was begun under these limits and given these bytes, fed or passed over, and has not ended
 abbrev pub StandsFor : JoinHandle → Allowed → List ℕ → Type 0
-StandsFor handle limits bytes = (handle.ended ≡ false) × IsJoining handle.joiner limits bytes
+StandsFor handle limits bytes = (handle.ended ≡ false) × IsSomeAnd handle.joiner (λ joiner. Joins joiner bytes × (limits_of joiner ≡ limits))
 
 abbrev pub HasEnded : JoinHandle → Type 0
 HasEnded handle = handle.ended ≡ true
 
-abbrev pub refused_by : Option Joiner → Option JsonFault
-refused_by None = None
-refused_by (Some joiner) = refusal_of joiner
-
 -- the refusal of what was fed, once there was one
 abbrev pub refusal : JoinHandle → Option JsonFault
-refusal handle = refused_by handle.joiner
+refusal handle = option_and_then refusal_of handle.joiner
 
 -- ---- begin
 

@@ -1,5 +1,5 @@
 -- What a handle stands for that reports the path to a place, and what each of its calls gives.
-use Rattle.std.specs.Prelude.{◌≡◌, ℕ, List, [], ◌++◌, take, replicate, slice_get, Option, Some, None, Result, Ok, Err}
+use Rattle.std.specs.Prelude.{◌≡◌, ℕ, List, [], ◌++◌, take, replicate, slice_get, Option, Some, None, IsSomeAnd, Result, Ok, Err}
 use Rattle.gj_json.specs.Limits.{Allowed}
 use Rattle.gj_json.specs.Locator.{StandsFor as LocatorStandsFor, limits_of, offset_of}
 use Rattle.gj_json.specs.Path.{path_at}
@@ -7,7 +7,6 @@ use Rattle.gj_json.specs.Reader.{Answers}
 use Rattle.gj_json.specs.Text.{IsText}
 use Rattle.gj_json.specs.Tree.{Text}
 use Rattle.gj_json.specs.declared.fault.JsonFault.{JsonFault}
-use Rattle.gj_json.specs.declared.locator.Locator.{Locator}
 use Rattle.gj_json.specs.declared.path.PathStep.{PathStep}
 use Rattle.geolint_c.specs.declared.locator.LocatorHandle.{LocatorHandle}
 use Rattle.geolint_c.specs.declared.locator.StepText.{StepText}
@@ -30,13 +29,9 @@ Shows (Some step) text = shown text ≡ step_text step
 
 -- ---- what it stands for
 
-abbrev pub IsFedTo : Option Locator → Allowed → List ℕ → Type 0
-IsFedTo None limits bytes = ⊥
-IsFedTo (Some locator) limits bytes = LocatorStandsFor locator bytes × (limits_of locator ≡ limits)
-
 -- it was begun under these limits and fed these bytes
 abbrev pub StandsFor : LocatorHandle → Allowed → List ℕ → Type 0
-StandsFor handle limits bytes = IsFedTo handle.locator limits bytes
+StandsFor handle limits bytes = IsSomeAnd handle.locator (λ locator. LocatorStandsFor locator bytes × (limits_of locator ≡ limits))
 
 pub record IsBegun (max_depth max_bytes : ℕ) (handle : LocatorHandle) : Type 0 where
   pub live : AreAllowed max_depth max_bytes → StandsFor handle (limits_meant max_depth max_bytes) []
@@ -61,12 +56,9 @@ pub record IsFed (old : LocatorHandle) (piece : List ℕ) (status : ℕ) (new : 
 -- ---- the path
 
 -- of each text that goes on from the bytes that were taken
-abbrev pub IsStepIn : Option Locator → List ℕ → ℕ → StepText → Type 0
-IsStepIn None bytes i told = ⊥
-IsStepIn (Some locator) bytes i told =
-    (text : Text) (rest : List ℕ) → IsText text (take (offset_of locator) bytes ++ rest) → Shows (slice_get (path_at (offset_of locator) text) i) told
-
 pub record IsStep (old : LocatorHandle) (i : ℕ) (told : StepText) (new : LocatorHandle) : Type 0 where
-  pub step : (limits : Allowed) (bytes : List ℕ) → StandsFor old limits bytes → IsStepIn old.locator bytes i told
+  pub step : (limits : Allowed) (bytes : List ℕ) → StandsFor old limits bytes
+      → IsSomeAnd old.locator (λ locator. (text : Text) (rest : List ℕ) → IsText text (take (offset_of locator) bytes ++ rest)
+      → Shows (slice_get (path_at (offset_of locator) text) i) told)
   pub none : old.locator ≡ None → told ≡ no_step
   pub unchanged : new ≡ old

@@ -1,5 +1,5 @@
 -- What a handle stands for that reports records, and what each of its calls gives.
-use Rattle.std.specs.Prelude.{◌≡◌, ◌↔◌, ℕ, zero, suc, ◌<◌, ◌≤◌, true, false, Bool, if◌then◌else◌, List, [], ◌∷◌, ◌++◌, length, take, Option, Some, None}
+use Rattle.std.specs.Prelude.{◌≡◌, ◌↔◌, ℕ, zero, suc, ◌<◌, ◌≤◌, true, false, Bool, if◌then◌else◌, List, [], ◌∷◌, ◌++◌, length, take, Option, Some, None, IsSomeAnd}
 use Rattle.gj_json.specs.Limits.{Allowed}
 use Rattle.gj_rules.specs.RecordFindings.{AreFindingsSoFar, AreAllFindings, whole_of}
 use Rattle.gj_rules.specs.RecordsStand.{StandsFor as RecordsStandFor, limits_of, framing_of as framing_under}
@@ -27,19 +27,15 @@ framing_of zero = Some Sequence
 framing_of (suc zero) = Some Lines
 framing_of (suc (suc n)) = None
 
-pub record Judges (records : Records) (last : LastRecord) (framing : Framing) (limits : Allowed) (bytes : List ℕ) (found : List Record) : Type 0 where
+pub record Judges (last : LastRecord) (framing : Framing) (limits : Allowed) (bytes : List ℕ) (found : List Record) (records : Records) : Type 0 where
   pub stands : RecordsStandFor records bytes found
   pub under : limits_of records ≡ limits
   pub framed : framing_under records ≡ framing
   pub last_of : IsLast last found
 
-abbrev pub IsJudging : Option Records → LastRecord → Framing → Allowed → List ℕ → List Record → Type 0
-IsJudging None last framing limits bytes found = ⊥
-IsJudging (Some records) last framing limits bytes found = Judges records last framing limits bytes found
-
 -- It was begun so and fed these bytes, has reported these records, and has not ended.
 abbrev pub StandsFor : RecordHandle → Framing → Allowed → List ℕ → List Record → Type 0
-StandsFor handle framing limits bytes found = (handle.ended ≡ false) × IsJudging handle.records handle.last framing limits bytes found
+StandsFor handle framing limits bytes found = (handle.ended ≡ false) × IsSomeAnd handle.records (Judges handle.last framing limits bytes found)
 
 abbrev pub HasEnded : RecordHandle → Type 0
 HasEnded handle = handle.ended ≡ true

@@ -1,5 +1,5 @@
 -- What a handle stands for that checks a run of features, and what each of its calls gives.
-use Rattle.std.specs.Prelude.{◌≡◌, ◌↔◌, ℕ, ◌+◌, ◌≤◌, ◌<◌, ◌^◌, List, [], ◌++◌, length, drop, Option, Some, None, IsSome}
+use Rattle.std.specs.Prelude.{◌≡◌, ◌↔◌, ℕ, ◌+◌, ◌≤◌, ◌<◌, ◌^◌, List, [], ◌++◌, length, drop, None, IsSome, IsSomeAnd}
 use Rattle.gj_json.specs.Events.{all_events}
 use Rattle.gj_json.specs.Limits.{Allowed}
 use Rattle.gj_json.specs.Text.{IsTextWithin}
@@ -9,7 +9,6 @@ use Rattle.gj_rules.specs.Linter.{Answers}
 use Rattle.gj_rules.specs.declared.linter.Progress.{Progress}
 use Rattle.gj_runs.specs.RunLinter.{StandsFor as RunStandsFor, limits_of}
 use Rattle.gj_runs.specs.Runs.{IsLongestSum, stand_at}
-use Rattle.gj_runs.specs.declared.run_linter.RunLinter.{RunLinter}
 use Rattle.gj_runs.specs.declared.sum.FeatureSum.{FeatureSum}
 use Rattle.geolint_c.specs.declared.run.RunHandle.{RunHandle}
 use Rattle.geolint_c.specs.declared.sum.Sum.{Sum}
@@ -19,13 +18,9 @@ use Rattle.geolint_c.specs.Sum.{SaysSum, no_sum}
 
 -- ---- what it stands for
 
-abbrev pub IsRunning : Option RunLinter → Allowed → ℕ → List ℕ → Type 0
-IsRunning None limits begin bytes = ⊥
-IsRunning (Some run) limits begin bytes = RunStandsFor run begin bytes × (limits_of run ≡ limits)
-
 -- it was begun at that place under these limits, and fed these bytes
 abbrev pub StandsFor : RunHandle → Allowed → ℕ → List ℕ → Type 0
-StandsFor handle limits begin bytes = IsRunning handle.run limits begin bytes
+StandsFor handle limits begin bytes = IsSomeAnd handle.run (λ run. RunStandsFor run begin bytes × (limits_of run ≡ limits))
 
 -- ---- begin
 

@@ -1,20 +1,28 @@
-//! The features of a text that comes in pieces, pulled from a handle. Here are the calls over values; `feature_stream` takes
-//! them to C.
-ghost use Rattle.std.specs.Prelude.{◌≡◌, ◌+◌, ◌<◌, ◌^◌, IsTrue};
-ghost use Rattle.geolint_c.specs.Features.{IsLive, IsBegun, IsFed, IsNext, IsFinished, IsOffset, tells_more, is_ready};
-ghost use Rattle.geolint_c.specs.Internal.Pulling.{Begins, Takes, IsPulled, Counted, OfLinter, GoesOn, ShowsOn};
-ghost use Rattle.geolint_c.specs.Handle.{status_of, BegunStatus};
+//! The features of a text that comes in pieces, pulled from a handle: the calls over values, and those of C on a handle in memory
+//! that the host provides.
+ghost use Rattle.std.specs.Prelude.{◌≡◌, ◌+◌, ◌<◌, ◌^◌, IsTrue, IfSome};
+ghost use denote.Memory.{lone};
+ghost use prog.Memory.{size};
+ghost use Rattle.geolint_c.specs.contracts.features.FeatureHandle.{the_row};
+ghost use Rattle.geolint_c.specs.Features.{IsBegun, IsFed, IsNext, IsFinished, IsOffset, tells_more, is_ready};
+ghost use Rattle.geolint_c.specs.Finding.{no_finding, no_progress};
+ghost use Rattle.geolint_c.specs.Internal.Pulling.{Begins, Takes, IsPulled, Counted, GoesOn, ShowsOn};
+ghost use Rattle.geolint_c.specs.Handle.{BegunStatus};
+ghost use Rattle.geolint_c.specs.Report.{no_report};
+ghost use Rattle.geolint_c.specs.Stream.{HasRoom, Holds, Leaves};
 ghost use Rattle.geolint_c.specs.declared.latest.TheConstants.{ROOM};
 
 use crate::commas::few_commas;
-use crate::finding::{Finding, Progress, finding_of_feature, no_finding, progress_of};
+use crate::finding::{Finding, Progress, finding_of_feature, no_finding, no_progress, progress_of};
+use crate::handle::{Memory, begun_status, status_of};
 use crate::latest::{LatestFeatures, ROOM};
 use crate::options::limits_of;
 use crate::report::{Report, no_report, report_of};
-use crate::status::{DONE, ENDED, LIMITS, NONE, READY, REFUSED};
+use crate::status::{DONE, ENDED, LIMITS, NONE, NULL, READY};
 use gj_json::Limits;
 use gj_rules::feature_laws::{features_by_commas, features_in_time, few_features};
 use gj_rules::{FeatureLinter, Progress as Shown};
+use std::mem::size_of;
 
 /// A linter that reports features, until it has ended.
 #[derive(Drop)]
@@ -24,16 +32,6 @@ pub struct FeatureHandle {
     /// How many features were pulled.
     pulled: u64,
     ended: bool,
-}
-
-/// The number by which a call reports what a piece shows.
-pub fn status_of(shown: Shown) -> u32
-    ensures { result ≡ status_of shown }
-{
-    match shown {
-        Shown::Open => DONE,
-        Shown::Refused(_) => REFUSED,
-    }
 }
 
 /// Before the first byte of an input under these limits.
@@ -125,33 +123,23 @@ impl FeatureHandle {
     pub fn begin_again(&mut self, max_depth: u32, max_bytes: u64) -> u32
         ensures { IsBegun max_depth max_bytes self.new × BegunStatus max_depth max_bytes result }
     {
-        match limits_of(max_depth, max_bytes) {
-            Some(limits) => {
-                self.renew(limits);
-                DONE
-            }
-            None => {
-                self.ended = true;
-                LIMITS
-            }
-        }
-    }
-
-    fn renew(&mut self, limits: Limits)
-        ensures { IsLive limits self.new }
-    {
+        let Some(limits) = limits_of(max_depth, max_bytes) else {
+            self.ended = true;
+            return LIMITS;
+        };
         match &mut self.linter {
             Some(linter) => judging_again(linter, limits),
             None => self.linter = Some(judging(limits)),
         }
         self.pulled = 0;
         self.ended = false;
+        DONE
     }
 
     /// Whether a finding is ready.
     fn is_ready(&self) -> bool
         ensures value { result ≡ is_ready self.now }
-        ensures counted { OfLinter self.now.linter Counted }
+        ensures counted { IfSome self.now.linter Counted }
         ensures below { IsTrue result → self.now.pulled + 1 < 2 ^ 64 }
     {
         match &self.linter {
@@ -223,4 +211,83 @@ impl FeatureHandle {
             None => no_report(ENDED),
         }
     }
+}
+
+/// How many bytes a handle takes. It lies where one of `geolint_size` may lie.
+#[unsafe(no_mangle)]
+pub extern "C" fn geolint_features_size() -> usize
+    ensures { result ≡ size (lone the_row.mir) }
+{
+    size_of::<FeatureHandle>()
+}
+
+/// Begins a handle in this memory, before the first byte of an input. Where the limits are not allowed, it has ended.
+#[unsafe(no_mangle)]
+pub unsafe extern "C" fn geolint_features_begin(
+    memory: *mut Memory,
+    max_depth: u32,
+    max_bytes: u64,
+) -> u32
+    requires* { HasRoom 𝓛 the_row memory }
+    ensures* begun { Leaves 𝓛 the_row memory (result ≡ 4) (λ new. IsBegun max_depth max_bytes new × BegunStatus max_depth max_bytes result) }
+{
+    begin_at!(memory as FeatureHandle, begun_status(max_depth, max_bytes))
+}
+
+/// As `geolint_features_begin`, in memory that has a handle. It writes little where that one was begun well.
+#[unsafe(no_mangle)]
+pub unsafe extern "C" fn geolint_features_begin_again(
+    memory: *mut Memory,
+    max_depth: u32,
+    max_bytes: u64,
+) -> u32
+    ghost held: { FeatureHandle }
+    requires* { Holds 𝓛 the_row memory held }
+    ensures* begun { Leaves 𝓛 the_row memory (result ≡ 4) (λ new. IsBegun max_depth max_bytes new × BegunStatus max_depth max_bytes result) }
+{
+    at_handle!(
+        memory as FeatureHandle,
+        NULL,
+        begin_again(max_depth, max_bytes)
+    )
+}
+
+/// Takes the next bytes of the input, up to where features have ended.
+#[unsafe(no_mangle)]
+pub unsafe extern "C" fn geolint_features_feed(memory: *mut Memory, piece: &[u8]) -> Progress
+    ghost held: { FeatureHandle }
+    requires* { Holds 𝓛 the_row memory held }
+    ensures* fed { Leaves 𝓛 the_row memory (result ≡ no_progress 4) (IsFed held piece.now result) }
+{
+    at_handle!(memory as FeatureHandle, no_progress(NULL), feed(piece))
+}
+
+/// The next feature that has ended.
+#[unsafe(no_mangle)]
+pub unsafe extern "C" fn geolint_features_next(memory: *mut Memory) -> Finding
+    ghost held: { FeatureHandle }
+    requires* { Holds 𝓛 the_row memory held }
+    ensures* told { Leaves 𝓛 the_row memory (result ≡ no_finding 4) (IsNext held result) }
+{
+    at_handle!(memory as FeatureHandle, no_finding(NULL), next())
+}
+
+/// How many bytes were taken: the place of the refused one, once there was one.
+#[unsafe(no_mangle)]
+pub unsafe extern "C" fn geolint_features_offset(memory: *mut Memory) -> u64
+    ghost held: { FeatureHandle }
+    requires* { Holds 𝓛 the_row memory held }
+    ensures* told { Leaves 𝓛 the_row memory (result ≡ 0) (IsOffset held result) }
+{
+    at_handle!(memory as FeatureHandle, 0, offset())
+}
+
+/// The verdict of what was fed, and the end of the handle.
+#[unsafe(no_mangle)]
+pub unsafe extern "C" fn geolint_features_finish(memory: *mut Memory) -> Report
+    ghost held: { FeatureHandle }
+    requires* { Holds 𝓛 the_row memory held }
+    ensures* finished { Leaves 𝓛 the_row memory (result ≡ no_report 4) (IsFinished held result) }
+{
+    at_handle!(memory as FeatureHandle, no_report(NULL), finish())
 }

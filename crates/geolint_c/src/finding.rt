@@ -10,7 +10,7 @@ use crate::report::{
     Report, no_report, report_of, report_of_broken, report_of_valid, report_of_warned,
     report_without_warning,
 };
-use gj_rules::{Feature, Record, SeqVerdict, Verdict};
+use gj_rules::{Feature, Record, SeqVerdict};
 
 /// What a call took of a piece: how many of its bytes, what they show, and 1 where a finding is ready, otherwise 0.
 #[repr(C)]
@@ -103,15 +103,15 @@ pub fn finding_of_feature(feature: &Feature) -> Finding
     }
 }
 
-/// What is found in a record, with this report.
+/// What is found in a record of this number, which begins and ends there, with this report.
 #[inline]
-fn record_with(found: &Record, report: Report) -> Finding
-    ensures { result ≡ record_with found.now report }
+fn record_with(number: u64, place: u64, end: u64, report: Report) -> Finding
+    ensures { result ≡ record_with number place end report }
 {
     Finding {
-        number: found.number,
-        place: found.place,
-        end: found.end,
+        number,
+        place,
+        end,
         id: 0,
         report,
     }
@@ -121,38 +121,26 @@ fn record_with(found: &Record, report: Report) -> Finding
 pub fn clean_finding(number: u64, place: u64, end: u64) -> Finding
     ensures { result ≡ clean_finding number place end }
 {
-    Finding {
-        number,
-        place,
-        end,
-        id: 0,
-        report: report_without_warning(),
-    }
+    record_with(number, place, end, report_without_warning())
 }
 
 /// What is found in a record.
 pub fn finding_of_record(found: &Record) -> Finding
     ensures { IsRecord found.now result }
 {
-    match &found.verdict {
-        Verdict::Valid(warnings) if warnings.is_empty() => {
-            record_with(found, report_without_warning())
-        }
-        verdict => record_with(found, report_of(verdict)),
-    }
+    record_with(
+        found.number,
+        found.place,
+        found.end,
+        report_of(&found.verdict),
+    )
 }
 
 /// No finding, and why there is none.
 pub fn no_finding(status: u32) -> Finding
     ensures { result ≡ no_finding status }
 {
-    Finding {
-        number: 0,
-        place: 0,
-        end: 0,
-        id: 0,
-        report: no_report(status),
-    }
+    record_with(0, 0, 0, no_report(status))
 }
 
 /// What an input of records is as a whole.

@@ -49,6 +49,7 @@ fn wrong_by_rule(rule: u32) -> Option<Wrong>
         1 => Some(Wrong::NoObject),
         2 => Some(Wrong::NoType),
         3 => Some(Wrong::OtherType),
+        11 => Some(Wrong::OtherShape),
         16 => Some(Wrong::BeyondProfile),
         _ => None,
     }

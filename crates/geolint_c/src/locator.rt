@@ -1,13 +1,20 @@
-//! The path to a place, by a handle. Here are the calls over values; `locator_stream` takes them to C.
+//! The path to a place, by a handle: the calls over values, and those of C on a handle in memory that the host provides.
 ghost use Rattle.std.specs.Prelude.{◌≡◌, ◌++◌, ◌+◌, ◌≤◌, length, slice_get};
+ghost use denote.Memory.{lone};
+ghost use prog.Memory.{size};
 ghost use Rattle.gj_json.specs.Path.{steps_of};
+ghost use Rattle.geolint_c.specs.contracts.locator.LocatorHandle.{the_row};
+ghost use Rattle.geolint_c.specs.Handle.{BegunStatus};
 ghost use Rattle.geolint_c.specs.Locator.{IsBegun, IsFed, IsStep, shown, step_text, no_step, Shows};
+ghost use Rattle.geolint_c.specs.Stream.{HasRoom, Holds, Leaves};
 ghost use Rattle.geolint_c.specs.declared.locator.TheConstants.{STEP_ROOM};
 
+use crate::handle::{Memory, begun_status};
 use crate::options::limits_of;
-use crate::status::{DONE, ENDED, REFUSED};
+use crate::status::{DONE, ENDED, NULL, REFUSED};
 use gj_json::{Locator, Path, PathStep};
 use itoa::Buffer;
+use std::mem::size_of;
 
 /// No step has a longer text: that to an element with an index of 20 digits has 22 bytes.
 const STEP_ROOM: usize = 24;
@@ -117,4 +124,45 @@ impl LocatorHandle {
             None => no_step(),
         }
     }
+}
+
+/// How many bytes a handle takes. It lies where one of `geolint_size` may lie.
+#[unsafe(no_mangle)]
+pub extern "C" fn geolint_locator_size() -> usize
+    ensures { result ≡ size (lone the_row.mir) }
+{
+    size_of::<LocatorHandle>()
+}
+
+/// Begins a handle in this memory, before the first byte of an input. Where the limits are not allowed, it has ended.
+#[unsafe(no_mangle)]
+pub unsafe extern "C" fn geolint_locator_begin(
+    memory: *mut Memory,
+    max_depth: u32,
+    max_bytes: u64,
+) -> u32
+    requires* { HasRoom 𝓛 the_row memory }
+    ensures* begun { Leaves 𝓛 the_row memory (result ≡ 4) (λ new. IsBegun max_depth max_bytes new × BegunStatus max_depth max_bytes result) }
+{
+    begin_at!(memory as LocatorHandle, begun_status(max_depth, max_bytes))
+}
+
+/// Takes the next bytes of the text.
+#[unsafe(no_mangle)]
+pub unsafe extern "C" fn geolint_locator_feed(memory: *mut Memory, piece: &[u8]) -> u32
+    ghost held: { LocatorHandle }
+    requires* { Holds 𝓛 the_row memory held }
+    ensures* fed { Leaves 𝓛 the_row memory (result ≡ 4) (IsFed held piece.now result) }
+{
+    at_handle!(memory as LocatorHandle, NULL, feed(piece))
+}
+
+/// The text of a step of the path, counted from 0 at the root.
+#[unsafe(no_mangle)]
+pub unsafe extern "C" fn geolint_locator_step(memory: *mut Memory, i: u32) -> StepText
+    ghost held: { LocatorHandle }
+    requires* { Holds 𝓛 the_row memory held }
+    ensures* told { Leaves 𝓛 the_row memory (result ≡ no_step) (IsStep held i result) }
+{
+    at_handle!(memory as LocatorHandle, no_step(), step(i))
 }

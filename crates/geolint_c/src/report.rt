@@ -97,13 +97,8 @@ pub fn report_without_warning() -> Report
     ensures { result ≡ valid_report [] }
 {
     Report {
-        status: DONE,
         verdict: VALID,
-        rule: 0,
-        cause: 0,
-        place: 0,
-        warned: 0,
-        warnings: nothing_warned(),
+        ..no_report(DONE)
     }
 }
 
@@ -137,13 +132,10 @@ pub fn report_of_broken(fault: Fault) -> Report
     ensures { result ≡ broken_report fault }
 {
     Report {
-        status: DONE,
         verdict: BROKEN,
         rule: fault.rule.number() as u32,
-        cause: 0,
         place: fault.place,
-        warned: 0,
-        warnings: nothing_warned(),
+        ..no_report(DONE)
     }
 }
 
@@ -151,13 +143,10 @@ fn report_of_refusal(fault: JsonFault) -> Report
     ensures { result ≡ refusal_report fault }
 {
     Report {
-        status: DONE,
         verdict: NOT_JSON,
-        rule: 0,
         cause: cause_number(fault.cause),
         place: fault.place,
-        warned: 0,
-        warnings: nothing_warned(),
+        ..no_report(DONE)
     }
 }
 

@@ -9,6 +9,7 @@ use Rattle.geolint_report.specs.declared.every.listing.Asked.{Asked}
 use Rattle.geolint_report.specs.declared.every.cursor.Mark.{Mark}
 use Rattle.geolint_report.specs.declared.every.listing.Note.{Note}
 use Rattle.geolint_report.specs.declared.every.tally.Tally.{Tally}
+use Rattle.geolint_report.specs.declared.judge.Finding.{Finding}
 use Rattle.geolint_report.specs.declared.judge.Reading.{Reading}
 use Rattle.report_forms.specs.declared.options.Every.{Every}
 use Rattle.report_forms.specs.declared.options.Options.{Options}
@@ -17,7 +18,7 @@ use Rattle.geolint_report.specs.Further.{AreNextBy}
 use Rattle.geolint_report.specs.Marks.{IsMarkBy}
 use Rattle.geolint_report.specs.Judged.{Finds, framing_in}
 use Rattle.geolint_files.specs.Run.{FeatureLine, feature_line, others_line, ToldFile, judged, listed}
-use Rattle.geolint_files.specs.Told.{reading_of, HasSites, IsToldOnce, IsToldTwice}
+use Rattle.geolint_files.specs.Told.{reading_of, shows, HasSites, IsFoundOnce, IsToldOnce, IsToldTwice}
 
 -- ---- what is asked
 
@@ -93,24 +94,24 @@ abbrev pub IsSpotBy : Option (List ℕ) → Note → Option Mark → Type 0
 IsSpotBy had note None = ⊤
 IsSpotBy had note (Some mark) = IsMarkBy None had note.told.place mark × (mark.path ≡ None)
 
--- What is reported of a source that had these bytes: of its places at most the lines and columns.
+-- What is reported of a source that had these bytes: of the places of its notes at most the lines and columns.
 -- Of a text that is refused no feature is reported.
-abbrev pub IsListedOnce : Reading → Asked → Allowed → List ℕ → Option (List ℕ) → (failed now_failed : ℕ) → ToldFile → Type 0
-IsListedOnce reading asked limits name had failed now_failed (listed report lines tally) =
-    (is_no_text report.finding ≡ false) × (report.name.now ≡ name) × (report.sites ≡ None) × (now_failed ≡ failed) × ((left : Option (List ℕ)) × Finds reading limits had left report.finding)
+abbrev pub IsListedOnce : (Finding → Bool) → Reading → Asked → Allowed → List ℕ → Option (List ℕ) → (failed now_failed : ℕ) → ToldFile → Type 0
+IsListedOnce Shows reading asked limits name had failed now_failed (listed report lines tally) =
+    (is_no_text report.finding ≡ false) × (report.name.now ≡ name) × (now_failed ≡ failed) × IsFoundOnce Shows reading limits had report
     × AreListed (IsMarkedBy (IsSpotBy had)) (framing_in reading) asked limits name had lines tally
-IsListedOnce reading asked limits name had failed now_failed (judged report) =
-    (is_no_text report.finding ≡ true) × IsToldOnce reading limits name had failed now_failed (judged report)
-IsListedOnce reading asked limits name had failed now_failed file = IsToldOnce reading limits name had failed now_failed file
+IsListedOnce Shows reading asked limits name had failed now_failed (judged report) =
+    (is_no_text report.finding ≡ true) × IsToldOnce Shows reading limits name had failed now_failed (judged report)
+IsListedOnce Shows reading asked limits name had failed now_failed file = IsToldOnce Shows reading limits name had failed now_failed file
 
 -- where its features are asked for, and where they are not
-abbrev pub IsOnceBy : Option Asked → Reading → Allowed → List ℕ → Option (List ℕ) → (failed now_failed : ℕ) → ToldFile → Type 0
-IsOnceBy (Some asked) reading = IsListedOnce reading asked
-IsOnceBy None reading = IsToldOnce reading
+abbrev pub IsOnceBy : Option Asked → (Finding → Bool) → Reading → Allowed → List ℕ → Option (List ℕ) → (failed now_failed : ℕ) → ToldFile → Type 0
+IsOnceBy (Some asked) Shows reading = IsListedOnce Shows reading asked
+IsOnceBy None Shows reading = IsToldOnce Shows reading
 
--- what is reported of a source of this name
-abbrev pub IsOnce : Options → List ℕ → Option (List ℕ) → (failed now_failed : ℕ) → ToldFile → Type 0
-IsOnce options name = IsOnceBy (asked_for options name) (reading_of options name) options.limits name
+-- what is reported of a source of this name, whose text may be shown
+abbrev pub IsOnce : Options → Bool → List ℕ → Option (List ℕ) → (failed now_failed : ℕ) → ToldFile → Type 0
+IsOnce options is_shown name = IsOnceBy (asked_for options name) (shows is_shown options.format) (reading_of options name) options.limits name
 
 -- ---- a source that is read again
 

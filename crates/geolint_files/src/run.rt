@@ -18,6 +18,7 @@ use crate::outcome::Outcome;
 use crate::walk::{Others, Pending, Walk, framing_by, is_taken};
 use crate::words::Order;
 pub use features::asked_in;
+use geolint_report::every::spots::{Spots, Unplaced};
 use geolint_report::every::tally::Tally;
 use geolint_report::judge::{Reading, judge};
 use geolint_report::line::put;
@@ -198,7 +199,7 @@ impl<'a, W: Write + Drop> Run<'a, W> {
     ghost use Rattle.geolint_files.specs.declared.run.Failure.{Failure};
     ghost use Rattle.geolint_files.specs.Internal.RunState.{HasTold, IsFresh, TellsFile, TellsFiles, SameTold, Unchanged};
     ghost use Rattle.geolint_files.specs.Run.{ToldFile, judged, not_read, finding_in, tallies_in, IsWholeReport, begin_of, end_of, summary_in};
-    ghost use Rattle.geolint_files.specs.Told.{reading_of, framing_by, IsToldOnce, IsToldTwice, HasSites};
+    ghost use Rattle.geolint_files.specs.Told.{reading_of, framing_by, shows, IsToldOnce, IsToldTwice, HasSites};
     ghost use Rattle.geolint_files.specs.Listed.{IsOnce, IsTwice};
     ghost use Rattle.geolint_files.specs.Named.{AreOf, AreOfList, AreOfOrder, GoesOn, name_in, next_in};
     ghost use Rattle.std.specs.declared.alloc.Global.{Global};
@@ -441,7 +442,7 @@ impl<'a, W: Write + Drop> Run<'a, W> {
     {
         if path == b"-".as_slice() {
             let input = self.rt.stdin();
-            return self.judge_stream(path, &mut FromRead::new(input));
+            return self.judge_stream(path, &mut FromRead::new(input), true);
         }
         let mut walk = Walk::of(&self.rt, path, shown_folder(&self.rt, path, takes_streams))?;
         for _ in 0..u64::MAX {
@@ -537,7 +538,7 @@ impl<'a, W: Write + Drop> Run<'a, W> {
                 if now.is_file() && is_shown {
                     self.judge_file(name, &mut FileSource::new(file))
                 } else if now.is_file() || takes_streams {
-                    self.judge_stream(name, &mut FromRead::new(file))
+                    self.judge_stream(name, &mut FromRead::new(file), is_shown)
                 } else {
                     self.tell_unread(name, &no_file())
                 }
@@ -575,15 +576,20 @@ impl<'a, W: Write + Drop> Run<'a, W> {
         framing_by(self.options.framing, name)
     }
 
-    /// Checks what can be read once only, and its features where these are asked for.
-    fn judge_stream<S: Source>(&mut self, name: &[u8], source: &mut S) -> Result<(), Failure>
+    /// Checks what can be read once only, and its features where these are asked for. Its text may be shown.
+    fn judge_stream<S: Source>(
+        &mut self,
+        name: &[u8],
+        source: &mut S,
+        is_shown: bool,
+    ) -> Result<(), Failure>
         ensures { OnOk result ((file : ToldFile)
-            × IsOnce self.old.options name.now (S.remaining source.old) (S.failed_reads source.old) (S.failed_reads source.new) file
+            × IsOnce self.old.options is_shown name.now (S.remaining source.old) (S.failed_reads source.old) (S.failed_reads source.new) file
             × (name_in file ≡ name.now) × TellsFile W.contents file self.old self.new) }
     {
         match self.asked_for(name) {
-            Some(asked) => self.list_once(name, source, asked),
-            None => self.judge_once(name, source),
+            Some(asked) => self.list_once(name, source, asked, is_shown),
+            None => self.judge_once(name, source, is_shown),
         }
     }
 
@@ -599,23 +605,33 @@ impl<'a, W: Write + Drop> Run<'a, W> {
         }
     }
 
-    /// Reports what a source has. No line is known of its places.
-    fn judge_once<S: Source>(&mut self, name: &[u8], source: &mut S) -> Result<(), Failure>
+    /// Reports what a source has. Its last bytes are kept, so the lines of places among them are known.
+    ///
+    /// They have room of their own, so a file that is read again pays nothing for it.
+    #[inline(never)]
+    fn judge_once<S: Source>(
+        &mut self,
+        name: &[u8],
+        source: &mut S,
+        is_shown: bool,
+    ) -> Result<(), Failure>
         ensures { OnOk result ((file : ToldFile)
-            × IsToldOnce (reading_of self.old.options name.now) self.old.options.limits name.now (S.remaining source.old) (S.failed_reads source.old)
+            × IsToldOnce (shows is_shown self.old.options.format) (reading_of self.old.options name.now) self.old.options.limits name.now (S.remaining source.old) (S.failed_reads source.old)
             (S.failed_reads source.new) file
             × TellsFile W.contents file self.old self.new) }
     {
         let reading = self.reading(name);
         self.progress.add_file(None);
+        let mut spots = Spots::new(self.rt.alloc());
         match judge(
             source,
             self.options.limits,
             reading,
             self.linter,
             &mut self.progress,
+            &mut spots,
         ) {
-            Ok(finding) => self.tell(name, finding, None),
+            Ok(finding) => self.tell_once(name, finding, &spots, reading, is_shown),
             Err(error) => self.tell_unread(name, &error),
         }
     }
@@ -635,6 +651,7 @@ impl<'a, W: Write + Drop> Run<'a, W> {
             reading,
             self.linter,
             &mut self.progress,
+            &mut Unplaced,
         ) {
             Ok(finding) => self.tell_found(name, finding, source, reading),
             Err(error) => self.tell_unread(name, &error),

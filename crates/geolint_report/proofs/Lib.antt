@@ -10,6 +10,7 @@ mod FollowedPaths
 mod ToldPaths
 mod TextPlaces
 mod KeptExcerpts
+mod HeldSites
 mod ReportedSites
 mod PlacesInOrder
 pub mod CodeSlots

@@ -9,6 +9,7 @@ pub mod Sites
 pub mod Found
 pub mod Report
 pub mod Sought
+pub mod Held
 pub mod Items
 pub mod Tallies
 pub mod Every

@@ -4,7 +4,7 @@ ghost use Rattle.std.specs.Prelude.{◌≤◌, length};
 
 use crate::judge::{Finding, Reading};
 use crate::sites::Sites;
-use crate::source::Rewind;
+use crate::source::Peek;
 use crate::texts::Code;
 use crate::written::{MOST_BYTES, front, written_length};
 use gj_coords::Rule;
@@ -84,7 +84,7 @@ impl Found {
 }
 
 /// What is at the place of what was found in a source that is read so, of which these sites were found.
-pub fn found_at<S: Rewind>(
+pub fn found_at<S: Peek>(
     finding: &Finding,
     sites: &Sites,
     reading: Reading,
@@ -101,7 +101,7 @@ pub fn found_at<S: Rewind>(
 }
 
 /// What is at the place where a rule is broken. The path is that of the place.
-fn find_found<S: Rewind>(rule: Rule, place: u64, path: Option<&Path>, source: &S) -> Option<Found> {
+fn find_found<S: Peek>(rule: Rule, place: u64, path: Option<&Path>, source: &S) -> Option<Found> {
     match rule {
         Rule::G2 | Rule::G3 => found_type(rule, place, path, source),
         Rule::G11 => found_shape(place, path, source),
@@ -132,7 +132,7 @@ fn due(rule: Rule) -> &'static [u8] {
 }
 
 /// The value at a place, as it is written but for the ends of lines.
-fn found_value<S: Rewind>(place: u64, source: &S) -> Option<Found> {
+fn found_value<S: Peek>(place: u64, source: &S) -> Option<Found> {
     let mut found = Found::nothing();
     let mut bytes = [0; MOST_BYTES];
     let count = source.peek(place, &mut bytes);
@@ -150,7 +150,7 @@ const TOO_FEW: &[u8] = b"; one level of brackets is missing";
 const TOO_MANY: &[u8] = b"; one level of brackets is too many";
 
 /// A value in coordinates, and what is due there. An array stands in a position, and a number outside of each.
-fn found_shape<S: Rewind>(place: u64, path: Option<&Path>, source: &S) -> Option<Found> {
+fn found_shape<S: Peek>(place: u64, path: Option<&Path>, source: &S) -> Option<Found> {
     let mut found = found_value(place, source)?;
     let (due, level): (&'static [u8], &'static [u8]) = match found.bytes[0] {
         b'[' => (b"; a number is due", TOO_MANY),
@@ -178,7 +178,7 @@ fn is_first(path: Option<&Path>) -> bool {
 }
 
 /// An object without a type, or a type, and the types that are allowed there (RFC 7946, section 1.4), by the path to it.
-fn found_type<S: Rewind>(rule: Rule, place: u64, path: Option<&Path>, source: &S) -> Option<Found> {
+fn found_type<S: Peek>(rule: Rule, place: u64, path: Option<&Path>, source: &S) -> Option<Found> {
     let mut found = found_value(place, source)?;
     if let Some(path) = path {
         let (due, steps): (&'static [u8], u16) = match rule {
@@ -281,7 +281,7 @@ impl EventSink for Elements {
 }
 
 /// The elements of the array that begins at a place, if it ends.
-fn elements_at<S: Rewind>(place: u64, source: &S) -> Option<Elements> {
+fn elements_at<S: Peek>(place: u64, source: &S) -> Option<Elements> {
     let mut elements = Elements::none();
     let mut reader = Reader::new(Limits::usual());
     let mut piece = [0; PIECE];
@@ -302,7 +302,7 @@ fn elements_at<S: Rewind>(place: u64, source: &S) -> Option<Elements> {
 }
 
 /// How many elements an array has that breaks one of these rules, and how many it must have.
-fn found_elements<S: Rewind>(rule: Rule, place: u64, source: &S) -> Option<Found> {
+fn found_elements<S: Peek>(rule: Rule, place: u64, source: &S) -> Option<Found> {
     let elements = elements_at(place, source)?;
     let mut found = Found::nothing();
     found.add_number(elements.count);
@@ -326,7 +326,7 @@ fn found_elements<S: Rewind>(rule: Rule, place: u64, source: &S) -> Option<Found
 }
 
 /// The first and the last position of a ring.
-fn found_ends<S: Rewind>(place: u64, source: &S) -> Option<Found> {
+fn found_ends<S: Peek>(place: u64, source: &S) -> Option<Found> {
     let elements = elements_at(place, source)?;
     let mut found = Found::nothing();
     found.add(b"first position ");
@@ -337,7 +337,7 @@ fn found_ends<S: Rewind>(place: u64, source: &S) -> Option<Found> {
 }
 
 /// Adds the position at a place, as it is written, in its first bytes and on one line.
-fn add_position<S: Rewind>(found: &mut Found, place: u64, source: &S) {
+fn add_position<S: Peek>(found: &mut Found, place: u64, source: &S) {
     let mut bytes = [0; MOST_BYTES];
     let count = source.peek(place, &mut bytes);
     let read = front(&bytes, count);

@@ -5,7 +5,7 @@ ghost use Rattle.gj_rules.specs.Linter.{limits_of};
 
 use crate::every::cursor::lesser;
 use crate::judge::{Finding, PIECE};
-use crate::source::Rewind;
+use crate::source::Peek;
 use gj_coords::{Fault, Kind, Rule};
 use gj_hints::{Clues, Hint, Wrong, hint};
 use gj_json::{Cause, JsonFault, Limits};
@@ -27,7 +27,7 @@ struct Symptom {
 }
 
 /// What a source looks like in which this was found, by this linter if it is a text.
-pub fn find_hint<S: Rewind>(finding: &Finding, linter: &Linter, source: &S) -> Option<Hint> {
+pub fn find_hint<S: Peek>(finding: &Finding, linter: &Linter, source: &S) -> Option<Hint> {
     let symptom = symptom_of(finding, linter)?;
     let mut head = [0; HEAD];
     let head_count = source.peek(0, &mut head);
@@ -47,7 +47,7 @@ pub fn find_hint<S: Rewind>(finding: &Finding, linter: &Linter, source: &S) -> O
 
 /// Feeds a linter the bytes before the one that refuses a text, where another linter has read them: a hint depends on what is
 /// open there. They are looked at once more. No clause says what a look gives, nor what the linter then stands for.
-pub fn feed_before_fault<S: Rewind>(
+pub fn feed_before_fault<S: Peek>(
     finding: &Finding,
     limits: Limits,
     linter: &mut Linter,
@@ -61,7 +61,7 @@ pub fn feed_before_fault<S: Rewind>(
     }
 }
 
-fn feed_before<S: Rewind>(place: u64, linter: &mut Linter, source: &S)
+fn feed_before<S: Peek>(place: u64, linter: &mut Linter, source: &S)
     ensures { limits_of linter.new ≡ limits_of linter.old }
 {
     let mut piece = [0; PIECE];
@@ -122,6 +122,7 @@ fn broken_symptom(fault: &Fault) -> Option<Symptom> {
         Rule::G1 => Wrong::NoObject,
         Rule::G2 => Wrong::NoType,
         Rule::G3 => Wrong::OtherType,
+        Rule::G11 => Wrong::OtherShape,
         Rule::G16 => Wrong::BeyondProfile,
         _ => return None,
     };

@@ -5,7 +5,9 @@ ghost use Rattle.std.specs.Io.KnownBytes.{Consumes, ReadConsumes};
 ghost use Rattle.gj_json.specs.Limits.{Allowed};
 ghost use Rattle.geolint_report.specs.Judged.{CountsFailure};
 ghost use Rattle.geolint_report.specs.ReadingLoop.{one_more, CountsBytes, Ends, StopsBy};
+ghost use Rattle.geolint_report.specs.Spots.{FollowedFrom};
 
+use crate::every::spots::Follower;
 use crate::progress::Meter;
 use gj_json::Limits;
 
@@ -102,13 +104,14 @@ pub struct Halt<E> {
 
 /// Reads a source piece by piece, until it ends or what is fed is decided, but not beyond the bytes that are allowed.
 ///
-/// No read follows the one whose bytes decide.
-pub fn read_all<S, P: Pieces<S>, L, F: Feeds<L>, C: Counts>(
+/// No read follows the one whose bytes decide. The follower gets the bytes as they come.
+pub fn read_all<S, P: Pieces<S>, L, F: Feeds<L>, C: Counts, W: Follower>(
     source: &mut S,
     fed: &mut L,
     limits: Limits,
     piece: &mut [u8],
     counts: &mut C,
+    follower: &mut W,
 ) -> Result<Stage, Halt<P::Error>>
     ensures few { P.reads source.new ≤ P.reads source.old + (limits.bytes + 1) }
     ensures failed { CountsFailure (P.failed_reads source.old) (P.failed_reads source.new) result }
@@ -122,6 +125,8 @@ pub fn read_all<S, P: Pieces<S>, L, F: Feeds<L>, C: Counts>(
         (P.remaining source.old) (P.remaining source.new) (P.reads source.old) (P.reads source.new) }
     ensures ends { IfOk result (λ stage. 0 < length piece.old → F.stands fed.old [] → F.limits fed.old ≡ limits → Ends (F.stands fed.new) (F.decided fed.new)
         (P.remaining source.old) (P.remaining source.new) stage) }
+    ensures followed { W.follows follower.old [] → IfOk result (λ stage.
+        FollowedFrom (P.remaining source.old) (P.remaining source.new) (W.follows follower.new)) }
 {
     let most = limits.bytes();
     let mut offset = 0u64;
@@ -132,6 +137,7 @@ pub fn read_all<S, P: Pieces<S>, L, F: Feeds<L>, C: Counts>(
             Ok(count) => {
                 offset += count as u64;
                 counts.add_bytes(count);
+                follower.follow(&piece[..count], &[]);
                 match F::feed(fed, &piece[..count]) {
                     Stage::Open => {
                         // What is open has no more bytes than are allowed.

@@ -8,7 +8,7 @@ use crate::judge::PIECE;
 use crate::progress::Meter;
 use crate::source::Source;
 use gj_json::{Limits, Path};
-use gj_places::{Excerpt, Lines};
+use gj_places::{Excerpt, Kept, Lines, Recent};
 use gj_rules::Framing;
 use std::io;
 
@@ -68,6 +68,8 @@ impl Sites {
     ghost use Rattle.geolint_report.specs.Internal.SecondReading.{Reaches, Follows, Tells, AreWithin, Shows, Seeks, Settles};
     ghost use Rattle.geolint_report.specs.Judged.{CountsFailure};
     ghost use Rattle.geolint_report.specs.Report.{site_in};
+    ghost use Rattle.geolint_report.specs.Held.{AreHeldIn};
+    ghost use Rattle.gj_places.specs.Recalling.{Recalls, KeepsMost};
 
     /// Where no place is sought.
     pub fn none() -> Sites
@@ -159,6 +161,24 @@ impl Sites {
         }
         self.end(&finder);
         Ok(())
+    }
+
+    /// Finds the places in the last bytes of a text, which was read once. Where one of them is before these, none is found.
+    pub fn recall(&mut self, recent: &Recent, limits: Limits, framing: Option<Framing>)
+        ensures held { (text : List ℕ) → Recalls recent.now text → KeepsMost recent.now → NoneFound self.old.sites → IsUnread self.old
+            → IsNonDecreasing (sought self.old) → AreHeldIn limits framing text self.new }
+        ensures sought { sought self.new ≡ sought self.old }
+    {
+        let _most = limits.bytes();
+        let kept = recent.kept();
+        if self.count > 0 && self.sites[0].place < kept.passed {
+            return;
+        }
+        let mut finder = Finder::behind(limits, framing, &kept);
+        self.excerpt = kept.excerpt;
+        self.take(&mut finder, kept.older);
+        self.take(&mut finder, kept.newer);
+        self.end(&finder);
     }
 
     /// Takes the next bytes of the file.
@@ -292,7 +312,7 @@ impl Sites {
 }
 
 /// The bytes from an index on.
-fn rest_of(bytes: &[u8], begin: usize) -> &[u8]
+pub(crate) fn rest_of(bytes: &[u8], begin: usize) -> &[u8]
     ensures { result.now ≡ drop begin bytes.now }
 {
     match bytes.get(begin..) {
@@ -322,6 +342,8 @@ impl Finder {
     ghost use Rattle.geolint_report.specs.Sites.{AreRight, ArePaths, IsPathOf, NoneFound, text_of};
     ghost use Rattle.geolint_report.specs.Internal.SecondReading.{Reaches, Follows, Tells, IsLocated};
     ghost use Rattle.geolint_report.specs.Internal.TextPaths.{StandsIn, KeepsIn};
+    ghost use Rattle.std.specs.Io.Iter.{u64_saturate};
+    ghost use Rattle.gj_places.specs.Counting.{StandsFor};
 
     fn new(limits: Limits, framing: Option<Framing>) -> Finder
         ensures begins { (sites : Sites) → AreRight [] sites.sites → Reaches result sites [] [] }
@@ -333,6 +355,30 @@ impl Finder {
             text_path: TextPath::new(limits, framing),
             lines: Lines::new(),
             offset: 0,
+            counted: 0,
+            located: 0,
+            next: 0,
+        }
+    }
+
+    /// Before the first of the bytes that are kept of a text.
+    fn behind(limits: Limits, framing: Option<Framing>, kept: &Kept<'_>) -> Finder
+        ensures begins { (sites : Sites) (before : List ℕ) → kept.now.passed ≡ u64_saturate (length before) → StandsFor kept.now.lines before
+            → AreRight before sites.sites → Reaches result sites before [] }
+        ensures follows { (sites : Sites) (before : List ℕ) → kept.now.passed ≡ u64_saturate (length before) → ArePaths framing before sites.sites
+            → Follows framing result sites before [] }
+        ensures tells { (sites : Sites) → kept.now.passed ≡ 0 → NoneFound sites.sites → Tells limits framing result sites [] [] }
+        ensures next { result.next ≡ 0 }
+    {
+        let text_path = if kept.passed == 0 {
+            TextPath::new(limits, framing)
+        } else {
+            TextPath::lost(limits, framing)
+        };
+        Finder {
+            text_path,
+            lines: kept.lines,
+            offset: kept.passed,
             counted: 0,
             located: 0,
             next: 0,

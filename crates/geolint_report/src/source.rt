@@ -34,8 +34,16 @@ pub trait Source {
         ensures failed { CountsFailure (failed_reads self.old) (failed_reads self.new) result };
 }
 
+/// What can be looked at by the places of its bytes.
+pub trait Peek {
+    /// Looks at the bytes from a place on: how many came into the piece, none where that failed. The next read gives
+    /// what it gave without this, and no failure is counted.
+    fn peek(&self, place: u64, piece: &mut [u8]) -> usize
+        ensures { result ≤ length piece.new };
+}
+
 /// A source that can be read a second time.
-pub trait Rewind: Source {
+pub trait Rewind: Source + Peek {
     /// How many bytes it has, where that is known before they are read.
     fn size(&self) -> Option<u64>;
 
@@ -52,11 +60,6 @@ pub trait Rewind: Source {
         ensures bytes { GivesFrom (Self.text self.old) place result piece.new }
         ensures text { Self.text self.new ≡ Self.text self.old }
         ensures failed { CountsFailure (Self.failed_reads self.old) (Self.failed_reads self.new) result };
-
-    /// Looks at the bytes from a place on: how many came into the piece, none where that failed. The next read gives
-    /// what it gave without this, and no failure is counted.
-    fn peek(&self, place: u64, piece: &mut [u8]) -> usize
-        ensures { result ≤ length piece.new };
 
     /// An error where the bytes may be others than those of the first reading.
     fn expect_unchanged(&mut self) -> io::Result<()>
@@ -174,6 +177,12 @@ impl Source for FileSource {
     }
 }
 
+impl Peek for FileSource {
+    fn peek(&self, place: u64, piece: &mut [u8]) -> usize {
+        fill_from(&self.file, place, piece).unwrap_or(0)
+    }
+}
+
 impl Rewind for FileSource {
     fn size(&self) -> Option<u64> {
         self.before.as_ref().map(|before| before.len())
@@ -197,10 +206,6 @@ impl Rewind for FileSource {
                 Err(error)
             }
         }
-    }
-
-    fn peek(&self, place: u64, piece: &mut [u8]) -> usize {
-        fill_from(&self.file, place, piece).unwrap_or(0)
     }
 
     fn expect_unchanged(&mut self) -> io::Result<()> {

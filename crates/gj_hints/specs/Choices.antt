@@ -1,6 +1,6 @@
 -- The words for the bytes that can follow in a text, and which bytes each means.
 use Rattle.std.specs.Prelude.{ℕ, Bool, ◌||◌, List, nat_eq, get_or, codes}
-use Rattle.gj_hints.specs.Spellings.{is_between}
+use Rattle.gj_hints.specs.Encodings.{is_between}
 use Rattle.gj_hints.specs.declared.choice.Choice.{Choice}
 use Rattle.gj_hints.specs.declared.choice.Choice.TheVariants.{ValueOrMark, Value, Character, Escape, Name, Hexadecimal, Exactly}
 use Rattle.gj_hints.specs.declared.choice.Choice.TheVariants.{Number, AfterZero, AfterPoint, Exponent, Digit, Continuation}

@@ -1,8 +1,9 @@
 pub mod Hints
+pub mod Signs
+pub mod Bytes
+pub mod Encodings
 pub mod Choices
 pub mod Expected
-pub mod Formats
 pub mod Numbers
-pub mod Spellings
 pub mod Swapped
 pub mod Texts

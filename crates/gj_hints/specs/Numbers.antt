@@ -3,7 +3,7 @@ use Rattle.std.specs.Prelude.{ℕ, Bool, ◌||◌, ◌&&◌, List, take, drop, c
 use Rattle.std.specs.Char.{is_ascii_digit}
 use Rattle.std.specs.List.{prefix_len, list_any}
 use Rattle.gj_hints.specs.declared.kind.Hint.{Hint}
-use Rattle.gj_hints.specs.Formats.{begins}
+use Rattle.gj_hints.specs.Bytes.{begins}
 
 -- ---- its parts
 

@@ -1,24 +1,21 @@
 -- A position whose latitude comes before its longitude, or whose numbers are no degrees.
-use Rattle.std.specs.Prelude.{ℕ, ◌+◌, ◌-◌, ◌*◌, Bool, false, not, ◌||◌, ◌&&◌, List, [], ◌∷◌, length, take, drop, nat_eq, nat_le, nat_lt, if◌then◌else◌}
+use Rattle.std.specs.Prelude.{ℕ, ◌+◌, ◌-◌, ◌*◌, Bool, false, ◌||◌, ◌&&◌, List, [], ◌∷◌, length, take, drop, nat_eq, nat_le, nat_lt, codes, if◌then◌else◌}
 use Rattle.std.specs.Char.{is_ascii_digit, is_ascii_whitespace}
 use Rattle.std.specs.List.{prefix_len, list_all}
-use Rattle.gj_hints.specs.Formats.{without_white}
+use Rattle.gj_hints.specs.Bytes.{is_before, until, without_white}
 
 -- ---- a number of an array
 
--- it is neither the comma nor the bracket after it
-abbrev pub is_inside : ℕ → Bool
-is_inside byte = not (nat_eq byte 44 || nat_eq byte 93)
-
+-- up to the comma or the bracket after it
 abbrev pub field : List ℕ → List ℕ
-field bytes = take (prefix_len is_inside bytes) bytes
+field bytes = until bytes (codes ",]")
 
 abbrev pub behind_first : List ℕ → List ℕ
 behind_first [] = []
 behind_first (first ∷ more) = more
 
 abbrev pub behind_field : List ℕ → List ℕ
-behind_field bytes = behind_first (drop (prefix_len is_inside bytes) bytes)
+behind_field bytes = behind_first (drop (prefix_len (is_before (codes ",]")) bytes) bytes)
 
 -- digits, white space, `-` and `.`: no exponent
 abbrev pub is_plain_byte : ℕ → Bool

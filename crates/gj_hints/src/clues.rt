@@ -1,15 +1,23 @@
 //! What a hint goes by.
 ghost use Rattle.std.specs.Prelude.{◌≡◌};
-ghost use Rattle.gj_hints.specs.Hints.{out_of_range, hint_of, refused, second_text, is_esri, when};
+ghost use Rattle.gj_hints.specs.Hints.{anywhere, by_bytes_around, by_bytes_inside, by_sign, out_of_range, hint_of, refused, following, other_type, is_esri, when};
 
-use crate::formats::{begins, holds, kind_of};
+use crate::bytes::{begins, holds_one_of};
 use crate::kind::Hint;
 use crate::number::number_hint;
-use crate::spelling::spelling;
+use crate::sign::{first_around, first_seen};
+use crate::signs::{AROUND, INSIDE, SIGNS};
 use crate::swapped::{are_metres, is_swapped};
 
-/// The byte that begins a record of a text sequence (RFC 8142).
-const SEPARATOR: [u8; 1] = [0x1E];
+/// What stands in Esri's JSON, and not in GeoJSON.
+const ESRI: [&[u8]; 6] = [
+    b"\"esriGeometry",
+    b"\"spatialReference\"",
+    b"\"attributes\"",
+    b"\"fieldAliases\"",
+    b"\"rings\"",
+    b"\"paths\"",
+];
 
 /// What is wrong with a file, as far as a hint depends on it.
 #[derive(Clone, Copy, Debug, PartialEq, Eq)]
@@ -24,6 +32,8 @@ pub enum Wrong {
     NoType,
     /// A `type` is not allowed.
     OtherType,
+    /// Coordinates are not of the shape that their type asks for.
+    OtherShape,
     /// A number is longer, greater or nearer to zero than is read.
     BeyondProfile,
     /// A position is out of range.
@@ -47,13 +57,11 @@ pub fn hint(wrong: Wrong, clues: &Clues<'_>) -> Option<Hint>
 {
     match wrong {
         Wrong::Refused => refused(clues),
-        Wrong::TextFollows => match second_text(clues.after) {
-            Some(hint) => Some(hint),
-            None => refused(clues),
-        },
+        Wrong::TextFollows => following(clues),
         Wrong::NoObject => when(begins(clues.after, b"\"{"), Hint::TextInString),
         Wrong::NoType => when(is_esri(clues.head), Hint::EsriJson),
-        Wrong::OtherType => when(begins(clues.after, b"\"Topology\""), Hint::TopoJson),
+        Wrong::OtherType => other_type(clues.after),
+        Wrong::OtherShape => when(begins(clues.after, b"null"), Hint::NullGeometry),
         Wrong::BeyondProfile => Some(number_hint(clues.after)),
         Wrong::OutOfRange => out_of_range(clues.after),
     }
@@ -70,35 +78,74 @@ fn out_of_range(after: &[u8]) -> Option<Hint>
     }
 }
 
-/// What a file that is no JSON text looks like, or else what its first byte that is refused looks like.
+/// What a file is, or what is wrong where it is refused.
 fn refused(clues: &Clues<'_>) -> Option<Hint>
     ensures { result ≡ refused clues.now }
 {
-    match kind_of(clues.head) {
+    match anywhere(clues) {
         Some(hint) => Some(hint),
-        None => {
-            if clues.before.is_empty() && begins(clues.after, &SEPARATOR) {
-                Some(Hint::TextSequence)
-            } else {
-                spelling(clues.before, clues.after)
-            }
-        }
+        None => by_bytes_inside(clues),
     }
 }
 
-fn second_text(after: &[u8]) -> Option<Hint>
-    ensures { result ≡ second_text after.now }
+/// What is seen of a file, also after a whole text.
+fn anywhere(clues: &Clues<'_>) -> Option<Hint>
+    ensures { result ≡ anywhere clues.now }
 {
-    when(begins(after, b"{") || begins(after, b"["), Hint::SecondText)
+    match by_sign(clues) {
+        Some(hint) => Some(hint),
+        None => by_bytes_around(clues),
+    }
+}
+
+#[tactic(auto, unfolding(crate::specs::Hints::by_sign))]
+fn by_sign(clues: &Clues<'_>) -> Option<Hint>
+    ensures { result ≡ by_sign clues.now }
+{
+    first_seen(&SIGNS, clues)
+}
+
+#[tactic(auto, unfolding(crate::specs::Hints::by_bytes_around))]
+fn by_bytes_around(clues: &Clues<'_>) -> Option<Hint>
+    ensures { result ≡ by_bytes_around clues.now }
+{
+    first_around(&AROUND, clues)
+}
+
+#[tactic(auto, unfolding(crate::specs::Hints::by_bytes_inside))]
+fn by_bytes_inside(clues: &Clues<'_>) -> Option<Hint>
+    ensures { result ≡ by_bytes_inside clues.now }
+{
+    first_around(&INSIDE, clues)
+}
+
+/// What follows a whole text.
+fn following(clues: &Clues<'_>) -> Option<Hint>
+    ensures { result ≡ following clues.now }
+{
+    if begins(clues.after, b"{") || begins(clues.after, b"[") {
+        Some(Hint::SecondText)
+    } else {
+        anywhere(clues)
+    }
+}
+
+/// What a `type` looks like that is not allowed.
+fn other_type(after: &[u8]) -> Option<Hint>
+    ensures { result ≡ other_type after.now }
+{
+    if begins(after, b"\"Topology\"") {
+        Some(Hint::TopoJson)
+    } else {
+        when(begins(after, b"null"), Hint::NullGeometry)
+    }
 }
 
 /// Whether the first bytes are those of Esri's JSON.
 fn is_esri(head: &[u8]) -> bool
     ensures { result ≡ is_esri head.now }
 {
-    holds(head, b"\"esriGeometry")
-        || holds(head, b"\"spatialReference\"")
-        || holds(head, b"\"attributes\"")
+    holds_one_of(head, &ESRI)
 }
 
 fn when(holds: bool, hint: Hint) -> Option<Hint>

@@ -40,6 +40,47 @@ pub enum Hint {
     LargeNumber,
     /// A number is nearer to zero than any that is read.
     SmallNumber,
+    /// A PNG, JPEG, GIF or TIFF.
+    Image,
+    Gpx,
+    /// GPX that begins with waypoints.
+    Waypoints,
+    /// A table of columns, as a CSV.
+    Columns,
+    /// A table as psql prints it.
+    Psql,
+    /// A text as a CSV has it.
+    DoubledQuotes,
+    /// A text in a program in JavaScript.
+    Script,
+    /// It begins with a word.
+    PlainText,
+    /// A text is where the byte RS is due.
+    NoSeparator,
+    /// Marks of a merge.
+    Conflict,
+    Zeros,
+    PythonWord,
+    /// What Python prints.
+    PythonText,
+    /// A word that is none of JSON's, where a value is due.
+    Word,
+    /// A name without quotation marks.
+    PlainName,
+    /// A line break or a tab in a string.
+    LineBreak,
+    Backslash,
+    /// A quotation mark in a string.
+    InnerQuote,
+    TypographicQuotes,
+    NumberForm,
+    DecimalComma,
+    MissingComma,
+    MissingBrace,
+    /// A comma after a whole text.
+    CommaBetween,
+    /// A type or coordinates are null.
+    NullGeometry,
 }
 
 impl Hint {
@@ -55,19 +96,21 @@ impl Hint {
             Hint::Gzip => "the file is compressed by gzip: gzip -dc < IN > OUT.geojson",
             Hint::Zip => "the file is a zip archive: unzip IN, and see what is in it",
             Hint::Shapefile =>
-                "the file is a shapefile: ogr2ogr -f GeoJSON OUT.geojson IN, if its name ends with .shp",
+                "the file is a shapefile: ogr2ogr -f GeoJSON -lco RFC7946=YES OUT.geojson IN, if its name ends with .shp",
             Hint::GeoPackage =>
-                "the file is an SQLite database, such as a GeoPackage: ogr2ogr -f GeoJSON OUT.geojson IN, with the name of a layer after it where there are several",
-            Hint::FlatGeobuf => "the file is a FlatGeobuf: ogr2ogr -f GeoJSON OUT.geojson IN",
-            Hint::Parquet => "the file is a Parquet file: ogr2ogr -f GeoJSON OUT.geojson IN",
+                "the file is an SQLite database, such as a GeoPackage: ogr2ogr -f GeoJSON -lco RFC7946=YES OUT.geojson IN, with the name of a layer after it where there are several",
+            Hint::FlatGeobuf =>
+                "the file is a FlatGeobuf: ogr2ogr -f GeoJSON -lco RFC7946=YES OUT.geojson IN",
+            Hint::Parquet =>
+                "the file is a Parquet file: ogr2ogr -f GeoJSON -lco RFC7946=YES OUT.geojson IN",
             Hint::Pdf =>
-                "the file is a PDF document: ask for the data; ogr2ogr -f GeoJSON OUT.geojson IN reads a PDF with map layers",
-            Hint::Kml => "the file is KML: ogr2ogr -f GeoJSON OUT.geojson IN",
-            Hint::Gml => "the file is GML: ogr2ogr -f GeoJSON OUT.geojson IN",
+                "the file is a PDF document: ask for the data; ogr2ogr -f GeoJSON -lco RFC7946=YES OUT.geojson IN reads a PDF with map layers",
+            Hint::Kml => "the file is KML: ogr2ogr -f GeoJSON -lco RFC7946=YES OUT.geojson IN",
+            Hint::Gml => "the file is GML: ogr2ogr -f GeoJSON -lco RFC7946=YES OUT.geojson IN",
             Hint::Html =>
                 "the file is a web page, mostly one that shows an error or asks to log in: curl -fL -o OUT.geojson URL",
             Hint::Xml =>
-                "the file is XML: ogr2ogr -f GeoJSON OUT.geojson IN, if it is a map format; of GPX: ogr2ogr -f GeoJSON OUT.geojson IN tracks",
+                "the file is XML: ogr2ogr -f GeoJSON -lco RFC7946=YES OUT.geojson IN, if it is a map format",
             Hint::Utf16 => "the file is in UTF-16: iconv -f UTF-16 -t UTF-8 IN > OUT.geojson",
             Hint::Latin1 =>
                 "these letters are not in UTF-8: iconv -f WINDOWS-1252 -t UTF-8 IN > OUT.geojson",
@@ -84,21 +127,66 @@ impl Hint {
             Hint::SecondText =>
                 "a second text follows the first: geolint-files --ndjson IN, if each line is a text, or else jq -c . IN > OUT.ndjson",
             Hint::TextSequence => "the file is a text sequence (RFC 8142): geolint-files --seq IN",
-            Hint::TopoJson => "the file is TopoJSON: ogr2ogr -f GeoJSON OUT.geojson IN",
+            Hint::TopoJson =>
+                "the file is TopoJSON: ogr2ogr -f GeoJSON -lco RFC7946=YES OUT.geojson IN",
             Hint::EsriJson =>
-                "the file is Esri JSON: ask the server with f=geojson, or ogr2ogr -f GeoJSON OUT.geojson IN",
+                "the file is Esri JSON: ask the server with f=geojson, or ogr2ogr -f GeoJSON -lco RFC7946=YES OUT.geojson IN",
             Hint::TextInString =>
                 "an object is inside a string: leave out its quotation marks and their backslashes; if it is the whole file: jq fromjson IN > OUT.geojson",
             Hint::SwappedAxes =>
-                "latitude and longitude look swapped; the longitude comes first: ogr2ogr -ct '+proj=axisswap +order=2,1' OUT.geojson IN",
+                "latitude and longitude look swapped; the longitude comes first: ogr2ogr -ct '+proj=axisswap +order=2,1' -lco RFC7946=YES OUT.geojson IN",
             Hint::Metres =>
-                "the coordinates look like metres, not degrees: ogr2ogr -t_srs EPSG:4326 OUT.geojson IN, with -s_srs where the file names no reference system",
+                "the coordinates look like metres, not degrees: ogr2ogr -t_srs EPSG:4326 -lco RFC7946=YES OUT.geojson IN, with -s_srs where the file names no reference system",
             Hint::ManyDigits => {
                 "the number has more than 30 digits; 17 are enough for any double, and 7 decimal places are a centimetre"
             }
             Hint::LargeNumber => "the number is too large, above 10 to the power of 400",
             Hint::SmallNumber =>
                 "the number is nearly zero, below 10 to the power of -400: write 0",
+            Hint::Image => "the file is an image: ask for the data that it shows",
+            Hint::Gpx =>
+                "the file is GPX: ogr2ogr -f GeoJSON -lco RFC7946=YES OUT.geojson IN tracks, or with routes at the end if it has those",
+            Hint::Waypoints =>
+                "the file is GPX: ogr2ogr -f GeoJSON -lco RFC7946=YES OUT.geojson IN waypoints, or with tracks or routes at the end if it has those too",
+            Hint::Columns =>
+                "the file is a table, such as a CSV: ogr2ogr -f GeoJSON -lco RFC7946=YES OUT.geojson CSV:/vsistdin/ -oo 'X_POSSIBLE_NAMES=lon*,lng,x' -oo 'Y_POSSIBLE_NAMES=lat*,y' < IN",
+            Hint::Psql =>
+                "the file is a table as psql prints it: psql -At prints the text alone; of one column and row: sed -n 3p IN > OUT.geojson",
+            Hint::DoubledQuotes =>
+                "the text is in quotation marks, and its own are doubled, as in a CSV: python3 -c 'import sys; print(sys.stdin.read().strip()[1:-1].replace(2 * chr(34), chr(34)))' < IN > OUT.geojson",
+            Hint::Script =>
+                "the file is a script: perl -0777 -pe 's/^[^{]*//; s/[^}]*$//' IN > OUT.geojson leaves out what stands before the first { and after the last }",
+            Hint::PlainText =>
+                "the file begins with a word and is no JSON; look at what it says: head IN",
+            Hint::NoSeparator =>
+                "each text of a text sequence comes after a byte RS, and here is none: geolint-files --ndjson IN, if each line is a text",
+            Hint::Conflict =>
+                "a merge left both sides of a conflict: keep one of them, without the lines of <<<<<<<, ======= and >>>>>>>",
+            Hint::Zeros =>
+                "there are bytes of zero: the file was not written or copied to its end; fetch or write it again",
+            Hint::PythonWord =>
+                "JSON has true, false and null for Python's True, False and None: sed 's/: *True/: true/g; s/: *False/: false/g; s/: *None/: null/g' IN > OUT.geojson",
+            Hint::PythonText =>
+                "the text is as Python prints it: python3 -c 'import ast, json, sys; print(json.dumps(ast.literal_eval(sys.stdin.read())))' < IN > OUT.geojson",
+            Hint::Word =>
+                "JSON has no words but true, false and null: a text needs quotation marks, and what is not known is null",
+            Hint::PlainName => "a name needs quotation marks: json5 -o OUT.geojson IN",
+            Hint::LineBreak =>
+                "a line break or a tab in a string is written as a backslash with n or t: python3 -c 'import json, sys; json.dump(json.load(sys.stdin, strict=False), sys.stdout)' < IN > OUT.geojson",
+            Hint::Backslash => "a backslash in a string is written twice, as in the path of a file",
+            Hint::InnerQuote => "a quotation mark in a string needs a backslash before it",
+            Hint::TypographicQuotes =>
+                "JSON has no typographic quotation marks: python3 -c 'import sys; print(sys.stdin.read().translate({8220: 34, 8221: 34, 8222: 34}))' < IN > OUT.geojson makes all of them straight",
+            Hint::NumberForm =>
+                "JSON writes 0.5 for .5, 5.0 for 5. and 5 for +5 or 05: json5 -o OUT.geojson IN, where no 0 comes before a digit",
+            Hint::DecimalComma => "a number has a point and no comma: write 41.5 for 41,5",
+            Hint::MissingComma => "a comma is missing before this",
+            Hint::MissingBrace =>
+                "the object before this one is closed, and that around it is not: write } where it ends",
+            Hint::CommaBetween =>
+                "a comma comes after a whole text: sed 's/,[[:space:]]*$//' IN > OUT.ndjson, if each line is a text",
+            Hint::NullGeometry =>
+                "a geometry that is not known is null as a whole, without a type and coordinates",
         }
     }
 }

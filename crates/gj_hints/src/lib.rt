@@ -6,13 +6,15 @@
 //! a text is refused: `specs/Expected.antt` has what the words mean.
 #![tactic(auto)]
 
+mod bytes;
 mod choice;
 mod clues;
+mod encoding;
 mod expected;
-mod formats;
 mod kind;
 mod number;
-mod spelling;
+mod sign;
+mod signs;
 mod swapped;
 
 pub use choice::{CHOICES, Choice};

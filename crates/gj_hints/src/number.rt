@@ -4,7 +4,7 @@ ghost use Rattle.std.specs.List.{prefix_len};
 ghost use Rattle.gj_hints.specs.Numbers.{number_hint, has_many_digits, behind_thirty, is_small, mantissa, exponent, significant, is_in_mantissa, is_idle};
 ghost use Rattle.gj_hints.specs.Numbers.{has_value, is_value, has_point};
 
-use crate::formats::begins;
+use crate::bytes::begins;
 use crate::kind::Hint;
 
 /// The reason why the number that the bytes begin with is not read.

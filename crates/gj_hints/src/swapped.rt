@@ -2,10 +2,10 @@
 ghost use Rattle.std.specs.Prelude.{◌≡◌, ◌≤◌, ◌-◌, length};
 ghost use Rattle.std.specs.Char.{is_ascii_digit};
 ghost use Rattle.std.specs.List.{prefix_len};
-ghost use Rattle.gj_hints.specs.Swapped.{is_inside, field, behind_field, is_plain, is_plain_byte, without_sign, digits_of, whole, degrees, are_swapped};
+ghost use Rattle.gj_hints.specs.Swapped.{field, behind_field, is_plain, is_plain_byte, without_sign, digits_of, whole, degrees, are_swapped};
 ghost use Rattle.gj_hints.specs.Swapped.{is_swapped, is_long, are_metres};
 
-use crate::formats::without_white;
+use crate::bytes::{until, until_len, without_white};
 
 /// Whether the position that begins with these bytes is right once its first two numbers are swapped, and is out of range as
 /// it is.
@@ -50,34 +50,16 @@ fn are_swapped(first: &[u8], second: &[u8]) -> bool
 fn field(bytes: &[u8]) -> &[u8]
     ensures { result.now ≡ field bytes.now }
 {
-    &bytes[..field_len(bytes)]
+    until(bytes, b",]")
 }
 
 fn behind_field(bytes: &[u8]) -> &[u8]
     ensures { result.now ≡ behind_field bytes.now }
 {
-    match &bytes[field_len(bytes)..] {
+    match &bytes[until_len(bytes, b",]")..] {
         [_, rest @ ..] => rest,
         [] => &[],
     }
-}
-
-fn field_len(bytes: &[u8]) -> usize
-    ensures value { result ≡ prefix_len is_inside bytes.now }
-    ensures within { result ≤ length bytes.now }
-{
-    for i in 0..bytes.len() {
-        if !is_inside(bytes[i]) {
-            return i;
-        }
-    }
-    bytes.len()
-}
-
-fn is_inside(byte: u8) -> bool
-    ensures { result ≡ is_inside byte }
-{
-    !(byte == b',' || byte == b']')
 }
 
 /// Whether a number is written without an exponent.

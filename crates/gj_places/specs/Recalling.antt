@@ -1,7 +1,9 @@
 -- Which bytes of a text are kept, and how many come before them.
-use Rattle.std.specs.Prelude.{◌≡◌, ◌⊎◌, ◌≤◌, ℕ, List, ◌++◌, length, take}
+use Rattle.std.specs.Prelude.{◌≡◌, ◌⊎◌, ◌≤◌, ℕ, List, [], ◌++◌, length, take}
 use Rattle.std.specs.Io.Iter.{u64_saturate}
 use Rattle.gj_places.specs.Counting.{StandsFor}
+use Rattle.gj_places.specs.Keeping.{Keeps}
+use Rattle.gj_places.specs.declared.recent.Kept.{Kept}
 use Rattle.gj_places.specs.declared.recent.Part.{Part}
 use Rattle.gj_places.specs.declared.recent.Recent.{Recent}
 
@@ -20,3 +22,12 @@ pub record Recalls (recent : Recent) (bytes : List ℕ) : Type 0 where
 -- all bytes are kept, or so many before the newer ones
 pub record KeepsMost (recent : Recent) : Type 0 where
   pub older : (recent.passed ≡ 0) ⊎ (49152 ≤ length (held recent.older))
+
+-- the text ends with these bytes, and what is told of those before them is right: all are among them, or so many before the newer ones
+pub record IsKept (kept : Kept) (bytes : List ℕ) : Type 0 where
+  pub before : List ℕ
+  pub all : bytes ≡ before ++ (kept.older.now ++ kept.newer.now)
+  pub passed : kept.passed ≡ u64_saturate (length before)
+  pub lines : StandsFor kept.lines before
+  pub excerpt : Keeps kept.excerpt before []
+  pub most : (before ≡ []) ⊎ (48896 ≤ length kept.older.now)

@@ -13,7 +13,7 @@ use unicode_width::UnicodeWidthStr;
 const MOST_SHOWN: usize = 50;
 
 /// The number of bytes that are kept before the place, and from it on: enough for more characters than are shown.
-const MOST_BYTES: usize = 256;
+pub(crate) const MOST_BYTES: usize = 256;
 
 /// What stands where a part of the line is left out.
 const LEFT_OUT: &str = "...";

@@ -13,5 +13,5 @@ mod string;
 
 pub use excerpt::{Excerpt, Shown, is_harmful};
 pub use lines::Lines;
-pub use recent::Recent;
+pub use recent::{Kept, Recent};
 pub use string::json_string;

@@ -2,6 +2,7 @@
 ghost use Rattle.std.specs.Prelude.{◌≤◌, ◌++◌, List, ℕ, length};
 ghost use Rattle.gj_places.specs.Counting.{StandsFor};
 
+use crate::excerpt::{Excerpt, MOST_BYTES};
 use crate::lines::Lines;
 
 /// The number of bytes in each of the two parts that are kept.
@@ -70,11 +71,24 @@ pub struct Recent {
     newer: Part,
 }
 
+/// The last bytes of a text, and what is known of those before them.
+#[derive(Drop)]
+pub struct Kept<'a> {
+    /// How many bytes come before them. It stays at `u64::MAX` once there.
+    pub passed: u64,
+    /// The place of the first of them.
+    pub lines: Lines,
+    /// The part of the line around that place, as far as it is before it.
+    pub excerpt: Excerpt,
+    pub older: &'a [u8],
+    pub newer: &'a [u8],
+}
+
 impl Recent {
     ghost use Rattle.std.specs.Prelude.{◌≡◌, ◌≤◌, ◌<◌, ◌+◌, ◌-◌, ◌^◌, ℕ, ◌++◌, [], List, length, take, IfSome};
     ghost use Rattle.std.specs.Option.{IsSome};
     ghost use Rattle.gj_places.specs.Counting.{StandsFor};
-    ghost use Rattle.gj_places.specs.Recalling.{held, Recalls, KeepsMost};
+    ghost use Rattle.gj_places.specs.Recalling.{held, Recalls, KeepsMost, IsKept};
     ghost use Rattle.gj_places.specs.declared.recent.TheConstants.{PIECE};
 
     /// Of a text of which nothing was read.
@@ -148,6 +162,29 @@ impl Recent {
             Some(after(self.at_newer, &self.newer.bytes()[..rest]))
         } else {
             None
+        }
+    }
+
+    /// The last bytes, and what is known of those before them. Where bytes were forgotten, the first of the others only tell what an
+    /// excerpt has before a place.
+    pub fn kept(&self) -> Kept<'_>
+        ensures { (bytes : List ℕ) → Recalls self.now bytes → KeepsMost self.now → IsKept result bytes }
+    {
+        let older = self.older.bytes();
+        let count = if self.passed == 0 {
+            0
+        } else {
+            MOST_BYTES.min(older.len())
+        };
+        let (front, rest) = older.split_at(count);
+        let mut excerpt = Excerpt::new();
+        excerpt.feed_before(front);
+        Kept {
+            passed: self.passed.saturating_add(count as u64),
+            lines: after(self.at_older, front),
+            excerpt,
+            older: rest,
+            newer: self.newer.bytes(),
         }
     }
 }

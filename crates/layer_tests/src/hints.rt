@@ -18,7 +18,7 @@ fn said(file: &[u8], place: usize, wrong: Wrong) -> Option<Hint> {
 }
 
 /// What a file begins with, and what it is.
-static OF_ANOTHER_KIND: [(&[u8], Hint); 21] = [
+static OF_ANOTHER_KIND: [(&[u8], Hint); 38] = [
     (b"\x1F\x8B\x08\x00\x00", Hint::Gzip),
     (b"PK\x03\x04\x14\x00", Hint::Zip),
     (b"%PDF-1.7\n", Hint::Pdf),
@@ -41,7 +41,27 @@ static OF_ANOTHER_KIND: [(&[u8], Hint); 21] = [
         b"\xEF\xBB\xBF<?xml version=\"1.0\"?><wfs:FeatureCollection xmlns:gml=\"http://www.opengis.net/gml/3.2\">",
         Hint::Gml,
     ),
-    (b"<?xml version=\"1.0\"?>\n<gpx version=\"1.1\">", Hint::Xml),
+    (b"<?xml version=\"1.0\"?>\n<gpx version=\"1.1\">", Hint::Gpx),
+    (
+        b"<gpx version=\"1.1\"><wpt lat=\"54\" lon=\"9\"/>",
+        Hint::Waypoints,
+    ),
+    (b"<osm version=\"0.6\">", Hint::Xml),
+    (b"\x89PNG\r\n\x1A\n", Hint::Image),
+    (b"\xFF\xD8\xFF\xE0\x00\x10JFIF", Hint::Image),
+    (b"GIF89a", Hint::Image),
+    (b"II*\x00\x08\x00", Hint::Image),
+    (b"MM\x00*\x00\x00", Hint::Image),
+    (b"name,lon,lat\nKirk,9.4,54.7\n", Hint::Columns),
+    (b"\xEF\xBB\xBF\"name\";\"lon\"\n", Hint::Columns),
+    (b"Sorry, this is not there.\n", Hint::PlainText),
+    (b"POLYGON((9 54,9 55,8 55,9 54))\n", Hint::PlainText),
+    (b" json_agg \n----------\n {}\n", Hint::Psql),
+    (b"var map = {\"type\":\"Point\"};", Hint::Script),
+    (b"show({\"type\":\"Point\"});", Hint::Script),
+    (b"export default {\"type\":\"Point\"};", Hint::Script),
+    (b"<<<<<<< HEAD\n{}\n=======\n", Hint::Conflict),
+    (b"{}", Hint::NoSeparator),
     (b"\x1E{}\n", Hint::TextSequence),
     (b"'{}'", Hint::SingleQuotes),
     (b"# a note\n{}", Hint::Comment),
@@ -59,7 +79,7 @@ fn names_files_of_another_kind(rt: HostRuntime) {
 /// A file, the place where something is wrong in it, what is said, and what it is.
 type Row = (&'static [u8], usize, Option<Hint>, &'static str);
 
-static LIKE_JSON: [Row; 29] = [
+static LIKE_JSON: [Row; 54] = [
     (b"[NaN]", 1, Some(Hint::NotANumber), "Python's word"),
     (b"[-nan]", 2, Some(Hint::NotANumber), "C's word"),
     (
@@ -68,7 +88,18 @@ static LIKE_JSON: [Row; 29] = [
         Some(Hint::NotANumber),
         "the n could begin null",
     ),
-    (b"[nax]", 2, None, "another word"),
+    (b"[nax]", 2, Some(Hint::Word), "another word"),
+    (b"[NULL]", 1, Some(Hint::Word), "in capitals"),
+    (
+        b"{\"a\":undefined}",
+        5,
+        Some(Hint::Word),
+        "JavaScript's word",
+    ),
+    (b"{\"a\":True}", 5, Some(Hint::PythonWord), "Python's word"),
+    (b"{'a': None}", 1, Some(Hint::PythonText), "and its quotes"),
+    (b"{'a': (9, 54)}", 1, Some(Hint::PythonText), "a tuple"),
+    (b"{a:1}", 1, Some(Hint::PlainName), "a name"),
     (b"[Infinity]", 1, Some(Hint::Infinity), "Python's word"),
     (b"[-Infinity]", 2, Some(Hint::Infinity), "and its negative"),
     (b"[inf]", 1, Some(Hint::Infinity), "C's word"),
@@ -137,13 +168,13 @@ static LIKE_JSON: [Row; 29] = [
     (
         b"[\"\xC3\x9F\n\"]",
         4,
-        None,
+        Some(Hint::LineBreak),
         "a line break after a whole letter",
     ),
     (
         b"[\"\xE2\x82\xAC\n\"]",
         5,
-        None,
+        Some(Hint::LineBreak),
         "and after one of three bytes",
     ),
     (
@@ -151,6 +182,65 @@ static LIKE_JSON: [Row; 29] = [
         1,
         None,
         "a letter in UTF-8 outside a string",
+    ),
+    (b"[\"C:\\maps\"]", 5, Some(Hint::Backslash), "no escape"),
+    (b"[\"\\u00g0\"]", 6, None, "a digit of an escape"),
+    (
+        b"{\"a\":\"the \"old\" pier\"}",
+        11,
+        Some(Hint::InnerQuote),
+        "a quotation mark",
+    ),
+    (
+        b"{\"a\":\"12\" pipe\"}",
+        10,
+        Some(Hint::InnerQuote),
+        "a mark of inches",
+    ),
+    (b"{\"a\" b", 5, None, "a colon is missing"),
+    (
+        b"{\xE2\x80\x9Ca\xE2\x80\x9D:1}",
+        1,
+        Some(Hint::TypographicQuotes),
+        "typographic",
+    ),
+    (b"[.5]", 1, Some(Hint::NumberForm), "a point first"),
+    (b"[-.5]", 2, Some(Hint::NumberForm), "after a sign"),
+    (b"[+5]", 1, Some(Hint::NumberForm), "a plus"),
+    (b"[1, 05]", 5, Some(Hint::NumberForm), "a zero first"),
+    (b"[1.]", 3, Some(Hint::NumberForm), "a point last"),
+    (b"[...]", 1, None, "left out"),
+    (
+        b"{\"a\":41,5}",
+        8,
+        Some(Hint::DecimalComma),
+        "a decimal comma",
+    ),
+    (
+        b"{\"a\":1 \"b\":2}",
+        7,
+        Some(Hint::MissingComma),
+        "a comma too few",
+    ),
+    (b"{\"a\" \"b\"}", 5, None, "a colon too few"),
+    (
+        b"{\"a\":{},\n{",
+        9,
+        Some(Hint::MissingBrace),
+        "a brace too few",
+    ),
+    (
+        b"{}\n,{",
+        3,
+        Some(Hint::CommaBetween),
+        "a comma between two records",
+    ),
+    (b"{\"a\":\x00\x00", 5, Some(Hint::Zeros), "zeros"),
+    (
+        b"[\n=======\n",
+        2,
+        Some(Hint::Conflict),
+        "a mark of a merge",
     ),
     (b"[1", 2, None, "the end of the file"),
     (b"[\"\xC3", 3, None, "the end inside a letter"),
@@ -163,10 +253,17 @@ fn names_what_only_looks_like_json(rt: HostRuntime) {
     }
 }
 
-static SECOND_TEXTS: [Row; 4] = [
+static SECOND_TEXTS: [Row; 6] = [
     (b"{}\n{}", 3, Some(Hint::SecondText), "in a line of its own"),
     (b"{} []", 3, Some(Hint::SecondText), "an array"),
-    (b"{}, {}", 2, None, "a list without its brackets"),
+    (
+        b"{}, {}",
+        2,
+        Some(Hint::CommaBetween),
+        "a list without its brackets",
+    ),
+    (b"{}\"", 2, None, "a quotation mark"),
+    (b"\"{\"\"type\"\"", 3, Some(Hint::DoubledQuotes), "of a CSV"),
     (b"{} # a note", 3, Some(Hint::Comment), "a note is none"),
 ];
 
@@ -180,7 +277,7 @@ fn names_a_second_text(rt: HostRuntime) {
 }
 
 /// A file, the place where something is wrong in it, what that is, and what is said.
-static OTHER_FORMATS: [(&[u8], usize, Wrong, Option<Hint>); 8] = [
+static OTHER_FORMATS: [(&[u8], usize, Wrong, Option<Hint>); 12] = [
     (
         b"{\"type\": \"Topology\", \"objects\": {}}",
         9,
@@ -188,6 +285,25 @@ static OTHER_FORMATS: [(&[u8], usize, Wrong, Option<Hint>); 8] = [
         Some(Hint::TopoJson),
     ),
     (b"{\"type\": \"point\"}", 9, Wrong::OtherType, None),
+    (
+        b"{\"type\": null}",
+        9,
+        Wrong::OtherType,
+        Some(Hint::NullGeometry),
+    ),
+    (
+        b"{\"type\":\"Point\",\"coordinates\":null}",
+        30,
+        Wrong::OtherShape,
+        Some(Hint::NullGeometry),
+    ),
+    (b"[\"9\",\"54\"]", 1, Wrong::OtherShape, None),
+    (
+        b"{\"rings\":[[[9,54],[9,55],[8,55],[9,54]]]}",
+        0,
+        Wrong::NoType,
+        Some(Hint::EsriJson),
+    ),
     (
         b"{\"geometryType\":\"esriGeometryPoint\",\"features\":[]}",
         0,
@@ -306,7 +422,7 @@ fn says_why_a_number_is_not_read(rt: HostRuntime) {
     }
 }
 
-static HINTS: [Hint; 27] = [
+static HINTS: [Hint; 53] = [
     Hint::Gzip,
     Hint::Zip,
     Hint::Shapefile,
@@ -331,9 +447,35 @@ static HINTS: [Hint; 27] = [
     Hint::EsriJson,
     Hint::TextInString,
     Hint::SwappedAxes,
+    Hint::Metres,
     Hint::ManyDigits,
     Hint::LargeNumber,
     Hint::SmallNumber,
+    Hint::Image,
+    Hint::Gpx,
+    Hint::Waypoints,
+    Hint::Columns,
+    Hint::Psql,
+    Hint::DoubledQuotes,
+    Hint::Script,
+    Hint::PlainText,
+    Hint::NoSeparator,
+    Hint::Conflict,
+    Hint::Zeros,
+    Hint::PythonWord,
+    Hint::PythonText,
+    Hint::Word,
+    Hint::PlainName,
+    Hint::LineBreak,
+    Hint::Backslash,
+    Hint::InnerQuote,
+    Hint::TypographicQuotes,
+    Hint::NumberForm,
+    Hint::DecimalComma,
+    Hint::MissingComma,
+    Hint::MissingBrace,
+    Hint::CommaBetween,
+    Hint::NullGeometry,
 ];
 
 #[test]

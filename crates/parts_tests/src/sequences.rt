@@ -8,7 +8,7 @@ use geolint_report::every::tally::Tally;
 use geolint_report::judge::Reading;
 use geolint_report::progress::Meter;
 use geolint_report::report::Told;
-use geolint_report::source::{Rewind, Source};
+use geolint_report::source::{Peek, Rewind, Source};
 use geolint_report::texts::Code;
 use gj_coords::{Fault, Kind, Rule, Warnings};
 use gj_json::{Limits, MOST_LEVELS};
@@ -65,6 +65,12 @@ impl<'a> Source for Bytes<'a> {
     }
 }
 
+impl<'a> Peek for Bytes<'a> {
+    fn peek(&self, place: u64, piece: &mut [u8]) -> usize {
+        copy_from(self.bytes, place as usize, piece)
+    }
+}
+
 impl<'a> Rewind for Bytes<'a> {
     fn size(&self) -> Option<u64> {
         Some(self.bytes.len() as u64)
@@ -77,10 +83,6 @@ impl<'a> Rewind for Bytes<'a> {
 
     fn read_from(&mut self, place: u64, piece: &mut [u8]) -> io::Result<usize> {
         Ok(copy_from(self.bytes, place as usize, piece))
-    }
-
-    fn peek(&self, place: u64, piece: &mut [u8]) -> usize {
-        copy_from(self.bytes, place as usize, piece)
     }
 
     fn expect_unchanged(&mut self) -> io::Result<()> {

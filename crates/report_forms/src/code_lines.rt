@@ -47,6 +47,7 @@ fn put_count_if(code: Code, count: u64, line: &mut Vec<u8>) -> Result<(), AllocE
     }
 }
 
+#[tactic(auto, unfolding(crate::specs::CodeLines::count_line))]
 fn put_count_line(code: Code, count: u64, line: &mut Vec<u8>) -> Result<(), AllocError>
     ensures { OnOk result (Adds line.old line.new (count_line code count)) }
 {
@@ -113,6 +114,7 @@ fn put_call_if(is_told: bool, code: Code, line: &mut Vec<u8>) -> Result<(), Allo
     }
 }
 
+#[tactic(auto, unfolding(crate::specs::CodeLines::call_line))]
 fn put_call_line(code: Code, line: &mut Vec<u8>) -> Result<(), AllocError>
     ensures { OnOk result (Adds line.old line.new (call_line code)) }
 {

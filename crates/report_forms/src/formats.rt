@@ -1,5 +1,6 @@
 //! The forms of the report. Each adds what it reports of a file to the bytes of a line.
-ghost use Rattle.std.specs.Prelude.{◌≡◌, ◌<◌, OnOk};
+ghost use Rattle.std.specs.Prelude.{◌≡◌, ◌<◌, ◌++◌, OnOk};
+ghost use Rattle.std.specs.Fmt.{decimal};
 ghost use Rattle.std.specs.List.{flat_map};
 ghost use Rattle.gj_json.specs.Path.{steps_of};
 ghost use Rattle.geolint_report.specs.Line.{Adds};
@@ -16,7 +17,8 @@ mod pointer;
 pub mod sarif;
 pub mod text;
 
-use geolint_report::line::{put, put_all};
+use geolint_report::line::{put, put_all, put_number};
+use geolint_report::sites::Spot;
 use gj_json::{Path, PathStep};
 use gj_places::is_harmful;
 use itoa::Buffer;
@@ -98,6 +100,21 @@ fn put_path_behind(path: &Path, line: &mut Vec<u8>) -> Result<(), AllocError>
     put_path(path, line)
 }
 
+/// Puts the line of a place after its word, and its column after that.
+pub fn put_line_and_column(
+    line_word: &[u8],
+    column_word: &[u8],
+    spot: Spot,
+    line: &mut Vec<u8>,
+) -> Result<(), AllocError>
+    ensures { OnOk result (Adds line.old line.new (line_word.now ++ (decimal spot.line ++ (column_word.now ++ decimal spot.column)))) }
+{
+    put(line, line_word)?;
+    put_number(line, spot.line)?;
+    put(line, column_word)?;
+    put_number(line, spot.column)
+}
+
 /// The level of a warning.
 pub fn level(fails: bool) -> &'static [u8]
     ensures { result.now ≡ level_of fails }
@@ -150,6 +167,7 @@ pub fn put_string(text: &[u8], line: &mut Vec<u8>) -> Result<(), AllocError>
 }
 
 /// Puts the line on standard error about a file that could not be opened or read.
+#[tactic(auto, unfolding(crate::specs::Names::unread_line))]
 pub fn put_unread_line(name: &[u8], reason: &[u8], line: &mut Vec<u8>) -> Result<(), AllocError>
     ensures { OnOk result (Adds line.old line.new (unread_line name.now reason.now)) }
 {
@@ -193,6 +211,7 @@ fn put_numbers(bytes: &[u8], line: &mut Vec<u8>) -> Result<(), AllocError>
 const LOWER_DIGITS: &[u8; 16] = b"0123456789abcdef";
 
 /// Puts the number of a byte.
+#[tactic(auto, unfolding(crate::specs::Names::by_number))]
 fn put_number_of(byte: u8, line: &mut Vec<u8>) -> Result<(), AllocError>
     ensures { OnOk result (Adds line.old line.new (by_number byte)) }
 {

@@ -12,6 +12,7 @@ use itoa::Buffer;
 use std::alloc::AllocError;
 
 /// Puts what is counted of the features and the records of some files.
+#[tactic(auto, unfolding(crate::specs::Items::items_summary))]
 pub fn put_items(tally: &Tally, line: &mut Vec<u8>) -> Result<(), AllocError>
     ensures { (tallies : List Tally) → IsTotal tally.now tallies → OnOk result (Adds line.old line.new (items_summary tallies)) }
 {

@@ -15,6 +15,7 @@ use crate::ranges::Share;
 use crate::window::Window;
 use geolint_report::every::listing::{Asked, Notes, notes_for};
 use geolint_report::every::reading::judge_every;
+use geolint_report::every::spots::Unplaced;
 use geolint_report::every::tally::Tally;
 use geolint_report::judge::{Finding, Reading, judge};
 use geolint_report::progress::Meter;
@@ -244,7 +245,7 @@ fn find<S: Source>(
     match asked {
         None => {
             let mut linter = Linter::new(limits);
-            let finding = judge(reader, limits, reading, &mut linter, meter)?;
+            let finding = judge(reader, limits, reading, &mut linter, meter, &mut Unplaced)?;
             Ok((finding, None))
         }
         Some(asked) => {

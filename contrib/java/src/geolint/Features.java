@@ -38,7 +38,7 @@ public final class Features extends Handle implements Iterator<Feature> {
     private Verdict verdict;
 
     Features(InputStream text, Limits limits) {
-        super(limits, Native::newFeatures, Native::freeFeatures);
+        super(limits, Native::newFeatures);
         this.text = Objects.requireNonNull(text, "text");
     }
 

@@ -2,7 +2,6 @@ package geolint;
 
 import java.lang.ref.Cleaner;
 import java.util.Objects;
-import java.util.function.LongConsumer;
 
 /** Memory of the library for C, with the object that owns it: freed once, by its close or, where nobody closes it, when it is collected. */
 abstract class Handle implements AutoCloseable {
@@ -14,10 +13,10 @@ abstract class Handle implements AutoCloseable {
     }
 
     /** What is left to do: it knows the memory alone, since what knows the owner keeps it. */
-    private record Freeing(LongConsumer free, long address) implements Runnable {
+    private record Freeing(long address) implements Runnable {
         @Override
         public void run() {
-            free.accept(address);
+            Native.free(address);
         }
     }
 
@@ -25,12 +24,12 @@ abstract class Handle implements AutoCloseable {
     private final Cleaner.Cleanable freeing;
     private boolean isClosed;
 
-    Handle(Limits limits, Allocation allocation, LongConsumer free) {
+    Handle(Limits limits, Allocation allocation) {
         Objects.requireNonNull(limits, "limits");
         address = allocation.address(limits.maxDepth(), limits.maxBytes());
         if (address == 0)
             throw new OutOfMemoryError("geolint: no memory for a " + getClass().getSimpleName());
-        freeing = CLEANER.register(this, new Freeing(free, address));
+        freeing = CLEANER.register(this, new Freeing(address));
     }
 
     /**

@@ -37,7 +37,7 @@ public final class Linter extends Handle {
      * @param limits how deep and how long it may be
      */
     public Linter(Limits limits) {
-        super(limits, Native::allocate, Native::free);
+        super(limits, Native::allocate);
     }
 
     /**

@@ -47,7 +47,8 @@ final class Native {
     /** The memory of a linter that has begun, or 0 where there is none. */
     static native long allocate(int maxDepth, long maxBytes);
 
-    static native void free(long linter);
+    /** Gives back the memory of a linter, of features, of a run or of a join. */
+    static native void free(long memory);
 
     static native int begin(long linter, int maxDepth, long maxBytes);
 
@@ -63,8 +64,6 @@ final class Native {
     /** The memory of a text whose features are reported, which has begun, or 0 where there is none. */
     static native long newFeatures(int maxDepth, long maxBytes);
 
-    static native void freeFeatures(long features);
-
     /** Takes over some of the bytes, where all that were taken over are used up; answers how many. */
     static native int fill(long features, byte[] bytes, int offset, int length);
 
@@ -78,8 +77,6 @@ final class Native {
     static native long newRun(int maxDepth, long place);
 
     static native long newJoin(int maxDepth, long maxBytes);
-
-    static native void freePart(long part);
 
     /** Feeds a run bytes of a direct buffer, and writes where it ends, how many features it has, and 1 where a broken one follows. */
     static native int feedRun(long run, ByteBuffer bytes, int length, long[] sum);

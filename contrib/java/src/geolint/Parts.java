@@ -39,7 +39,7 @@ final class Parts {
         private boolean isOpen = true;
 
         Run(Limits limits, long begin) {
-            super(limits, (depth, bytes) -> Native.newRun(depth, begin), Native::freePart);
+            super(limits, (depth, bytes) -> Native.newRun(depth, begin));
             this.begin = begin;
         }
 
@@ -60,7 +60,7 @@ final class Parts {
     /** A reading of the rest. */
     private static final class Join extends Handle {
         Join(Limits limits) {
-            super(limits, Native::newJoin, Native::freePart);
+            super(limits, Native::newJoin);
         }
 
         private synchronized boolean feed(ByteBuffer bytes) {

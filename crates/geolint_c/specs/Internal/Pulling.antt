@@ -1,5 +1,5 @@
 -- What a linter of features keeps, as bytes come and features are pulled.
-use Rattle.std.specs.Prelude.{◌≡◌, ℕ, ◌+◌, ◌≤◌, min, true, false, if◌then◌else◌, List, [], ◌++◌, length, take, slice_get, Option, Some, None}
+use Rattle.std.specs.Prelude.{◌≡◌, ℕ, ◌+◌, ◌≤◌, min, true, false, if◌then◌else◌, List, [], ◌++◌, length, take, slice_get, None}
 use Rattle.gj_json.specs.Limits.{Allowed}
 use Rattle.gj_rules.specs.FeatureFindings.{FeatureFinding, commas}
 use Rattle.gj_rules.specs.FeatureLinter.{StandsFor as LinterStandsFor, limits_of, refusal_of, sink_of}
@@ -20,10 +20,6 @@ abbrev pub Counted : Judging → Type 0
 Counted linter =
     (limits : Allowed) (bytes : List ℕ) → LinterStandsFor Keeps linter bytes → limits_of linter ≡ limits
     → OfFeatures linter limits bytes (λ found. (sink_of linter).told ≡ length found)
-
-abbrev pub OfLinter : Option Judging → (Judging → Type 0) → Type 0
-OfLinter None Holds = Unit {0}
-OfLinter (Some linter) Holds = Holds linter
 
 -- room for so many more
 abbrev pub HasRoomFor : ℕ → ℕ → List FeatureFinding → Type 0

@@ -1,5 +1,5 @@
 -- Which files are told of names.
-use Rattle.geolint_files.proofs.Common.{arith, ◌≡◌, ◌-◌, ◌++◌, ◌∷◌, [], List, ℕ, length, refl, sym, subst, ap, ◌∙◌, Bool, map, Option, Some, None, Vec, Global, Reading}
+use Rattle.geolint_files.proofs.Common.{arith, ◌≡◌, ◌-◌, ◌++◌, ◌∷◌, [], List, ℕ, length, refl, sym, subst, ap, ◌∙◌, Bool, map, Option, Some, None, Vec, Global, Finding, Reading}
 use Rattle.std.proofs.Common.{true, false, append_assoc, append-nil, reverse, inl, inr, ◌+◌, ◌<◌, ◌≤◌, ◌^◌}
 use Rattle.std.specs.Io.Iter.{u64_saturate}
 use Rattle.std.specs.Prelude.{Ok, ⊤}
@@ -21,14 +21,14 @@ use Rattle.geolint_files.proofs.Runs.ToldFiles.{TellsFiles-one}
 
 -- ---- one name
 
-pub once-named : (asked : Option Asked) (reading : Reading) (limits : Allowed) (name : List ℕ) (had : Option (List ℕ)) (failed now_failed : ℕ) (file : ToldFile)
-    → IsOnceBy asked reading limits name had failed now_failed file → name_in file ≡ name
-once-named None reading limits name had failed now_failed (judged report) is = is.0
-once-named None reading limits name had failed now_failed (not_read told reason) is = is.0
-once-named None reading limits name had failed now_failed (listed report lines tally) is = absurd is
-once-named (Some asked) reading limits name had failed now_failed (judged report) is = is.1.0
-once-named (Some asked) reading limits name had failed now_failed (not_read told reason) is = is.0
-once-named (Some asked) reading limits name had failed now_failed (listed report lines tally) is = is.1
+pub once-named : (asked : Option Asked) (Shows : Finding → Bool) (reading : Reading) (limits : Allowed) (name : List ℕ) (had : Option (List ℕ))
+    (failed now_failed : ℕ) (file : ToldFile) → IsOnceBy asked Shows reading limits name had failed now_failed file → name_in file ≡ name
+once-named None Shows reading limits name had failed now_failed (judged report) is = is.0
+once-named None Shows reading limits name had failed now_failed (not_read told reason) is = is.0
+once-named None Shows reading limits name had failed now_failed (listed report lines tally) is = absurd is
+once-named (Some asked) Shows reading limits name had failed now_failed (judged report) is = is.1.0
+once-named (Some asked) Shows reading limits name had failed now_failed (not_read told reason) is = is.0
+once-named (Some asked) Shows reading limits name had failed now_failed (listed report lines tally) is = is.1
 
 pub twice-named : (asked : Option Asked) (most : ℕ) (reading : Reading) (limits : Allowed) (name : List ℕ) (had text : Option (List ℕ))
     (failed now_failed : ℕ) (file : ToldFile)

@@ -84,7 +84,9 @@ impl<'a, W: Write + Drop> Run<'a, W> {
     ghost use Rattle.geolint_report.specs.declared.report.Report.{Report};
     ghost use Rattle.report_forms.specs.Passing.{passes};
     ghost use Rattle.geolint_report.specs.Judged.{framing_in};
-    ghost use Rattle.geolint_files.specs.Told.{HasSites, reading_of};
+    ghost use Rattle.geolint_files.specs.Told.{HasHeldIf, HasSites, reading_of, shows};
+    ghost use Rattle.geolint_report.specs.Held.{AreHeldBy};
+    ghost use Rattle.geolint_report.specs.Spots.{SaysSpot};
     ghost use Rattle.gj_json.specs.Limits.{Allowed};
     ghost use Rattle.geolint_report.specs.Cursors.{StandBy};
     ghost use Rattle.geolint_report.specs.Further.{AreNextBy};
@@ -106,16 +108,17 @@ impl<'a, W: Write + Drop> Run<'a, W> {
     }
 
     /// Reports what a source has that can be read once only. Its last bytes are kept, so the lines and columns of places among them
-    /// are known when its features are reported. No path is known.
+    /// are known when it and its features are reported. Of a feature no path is known.
     pub fn list_once<S: Source>(
         &mut self,
         name: &[u8],
         source: &mut S,
         asked: Asked,
+        is_shown: bool,
     ) -> Result<(), Failure>
         requires { asked_for self.now.options name.now ≡ Some asked }
         ensures { OnOk result ((file : ToldFile)
-            × IsListedOnce (reading_of self.old.options name.now) asked self.old.options.limits name.now (S.remaining source.old) (S.failed_reads source.old)
+            × IsListedOnce (shows is_shown self.old.options.format) (reading_of self.old.options name.now) asked self.old.options.limits name.now (S.remaining source.old) (S.failed_reads source.old)
             (S.failed_reads source.new) file
             × TellsFile W.contents file self.old self.new) }
     {
@@ -132,11 +135,35 @@ impl<'a, W: Write + Drop> Run<'a, W> {
             &mut spots,
         ) {
             Ok(found) => match notes_for(found.0, found.1, asked)? {
-                Some(notes) => self.list_followed(name, found.0, &notes, &spots),
-                None => self.tell(name, found.0, None),
+                Some(notes) => self.list_held(name, found.0, &notes, &spots, reading, is_shown),
+                None => {
+                    feed_before_fault(&found.0, self.options.limits, self.linter, &spots);
+                    self.tell_once(name, found.0, &spots, reading, is_shown)
+                }
             },
             Err(error) => self.tell_unread(name, &error),
         }
+    }
+
+    /// Reports a file that was checked, and then notes, with the lines of the places that are still held.
+    fn list_held(
+        &mut self,
+        name: &[u8],
+        finding: Finding,
+        notes: &Notes,
+        spots: &Spots,
+        reading: Reading,
+        is_shown: bool,
+    ) -> Result<(), Failure>
+        ensures { (self.old.options.every ≡ Every.Nothing → ⊥)
+            → OnOk result ((report : Report) × (report.name.now ≡ name.now) × (report.finding ≡ finding)
+            × HasHeldIf (shows is_shown self.old.options.format finding) (AreHeldBy spots.now finding reading self.old.options.limits) report
+            × ((lines : List FeatureLine) × AreLinesOf (IsMarkedBy (SaysSpot spots.now)) name.now notes.now.notes.items notes.now.count lines
+            × TellsFile W.contents (listed report lines notes.now.tally) self.old self.new)) }
+    {
+        self.tell_once(name, finding, spots, reading, is_shown)?;
+        self.tally.add(&notes.tally);
+        self.tell_followed(name, notes, spots)
     }
 
     /// Reports a file that was checked, and then notes, with what the follower says of their places.

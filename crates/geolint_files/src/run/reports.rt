@@ -1,8 +1,11 @@
 //! Reports one file.
+ghost use Rattle.std.specs.Prelude.{◌≡◌};
+ghost use Rattle.geolint_files.specs.Told.{shows};
 
 use crate::files::reason;
 use crate::outcome::Outcome;
 use crate::run::{Failure, Run};
+use geolint_report::every::spots::Spots;
 use geolint_report::found::{Found, found_at};
 use geolint_report::hints::find_hint;
 use geolint_report::judge::{Finding, Reading};
@@ -25,7 +28,8 @@ impl<'a, W: Write + Drop> Run<'a, W> {
     ghost use Rattle.report_forms.specs.Forms.{TellsReport, TellsUnread, KeepsInLog, first_after};
     ghost use Rattle.geolint_files.specs.Internal.RunState.{TellsFile, SameTold};
     ghost use Rattle.geolint_files.specs.Run.{judged, not_read};
-    ghost use Rattle.geolint_files.specs.Told.{HasSites};
+    ghost use Rattle.geolint_files.specs.Told.{HasHeldIf, HasSites, shows};
+    ghost use Rattle.geolint_report.specs.Held.{AreHeldBy};
 
     /// Reports a file that was checked, with the lines of its places where it has some.
     pub fn tell_found<S: Rewind>(
@@ -73,6 +77,45 @@ impl<'a, W: Write + Drop> Run<'a, W> {
         );
         let found = found_at(&finding, &sites, reading, source);
         let hint = find_hint(&finding, self.linter, source);
+        self.tell_with_hint(name, finding, Some(&sites), found, hint)
+    }
+
+    /// Reports what was read once, with the lines of its places where they are shown.
+    pub fn tell_once(
+        &mut self,
+        name: &[u8],
+        finding: Finding,
+        spots: &Spots,
+        reading: Reading,
+        is_shown: bool,
+    ) -> Result<(), Failure>
+        ensures { OnOk result ((report : Report) × (report.name.now ≡ name.now) × (report.finding ≡ finding)
+            × HasHeldIf (shows is_shown self.old.options.format finding) (AreHeldBy spots.now finding reading self.old.options.limits) report
+            × TellsFile W.contents (judged report) self.old self.new) }
+    {
+        if shows(is_shown, self.options.format, &finding) {
+            self.tell_held(name, finding, spots, reading)
+        } else {
+            self.tell(name, finding, None)
+        }
+    }
+
+    /// Reports what was read once, with the lines of its places that are still held.
+    #[inline(never)]
+    fn tell_held(
+        &mut self,
+        name: &[u8],
+        finding: Finding,
+        spots: &Spots,
+        reading: Reading,
+    ) -> Result<(), Failure>
+        ensures { OnOk result ((report : Report) × (report.name.now ≡ name.now) × (report.finding ≡ finding)
+            × IsSomeAnd report.sites (λ sites. AreHeldBy spots.now finding reading self.old.options.limits sites.now)
+            × TellsFile W.contents (judged report) self.old self.new) }
+    {
+        let sites = spots.sites(&finding, reading, self.options.limits);
+        let found = found_at(&finding, &sites, reading, spots);
+        let hint = find_hint(&finding, self.linter, spots);
         self.tell_with_hint(name, finding, Some(&sites), found, hint)
     }
 
@@ -213,5 +256,15 @@ impl<'a, W: Write + Drop> Run<'a, W> {
             self.out.flush()?;
         }
         Ok(())
+    }
+}
+
+/// Whether the lines of what is found in a source that is read once are reported.
+fn shows(is_shown: bool, format: Format, finding: &Finding) -> bool
+    ensures { result ≡ shows is_shown format finding.now }
+{
+    match format {
+        Format::Text => false,
+        _ => is_shown && finding.has_places(),
     }
 }

@@ -1,9 +1,12 @@
 //! The lines and columns of what is reported of a source that is read once.
-ghost use Rattle.std.specs.Prelude.{◌≡◌, ◌++◌, ℕ, List, Option, None, ⊤};
+ghost use Rattle.std.specs.Prelude.{◌≡◌, ◌≤◌, ◌++◌, ℕ, List, Option, None, ⊤, length};
 
 use crate::every::cursor::Mark;
 use crate::every::listing::Note;
-use crate::sites::Spot;
+use crate::judge::{Finding, Reading};
+use crate::sites::{Sites, Spot, rest_of};
+use crate::source::Peek;
+use gj_json::Limits;
 use gj_places::Recent;
 use std::alloc::Global;
 
@@ -51,7 +54,8 @@ pub struct Placed {
     spot: Option<Spot>,
 }
 
-/// The lines and columns of the notes so far, in their order: of each whose place was among the last bytes when it was listed.
+/// The last bytes of a source, and the lines and columns of the notes so far, in their order: of each whose place was among these
+/// bytes when it was listed.
 #[derive(Drop)]
 pub struct Spots {
     recent: Recent,
@@ -62,6 +66,7 @@ impl Spots {
     ghost use Rattle.std.specs.Prelude.{◌≡◌, ℕ, List, [], Option};
     ghost use Rattle.std.specs.Option.{IsSome};
     ghost use Rattle.geolint_report.specs.Spots.{AreSpots, IsRight, IsAmongLast};
+    ghost use Rattle.geolint_report.specs.Held.{AreHeldBy};
 
     /// Of a source of which nothing was read.
     pub fn new(alloc: Global) -> Spots
@@ -105,6 +110,15 @@ impl Spots {
         }
     }
 
+    /// The lines, columns and paths of what is reported of a finding, as far as the bytes are still held.
+    pub fn sites(&self, finding: &Finding, reading: Reading, limits: Limits) -> Sites
+        ensures { AreHeldBy self.now finding.now reading limits result }
+    {
+        let mut sites = finding.places();
+        sites.recall(&self.recent, limits, reading.framing());
+        sites
+    }
+
     /// The line and the column that are known of the place of a note of this index.
     fn known(&self, index: usize, place: u64) -> Option<Spot>
         ensures { (bytes : List ℕ) → AreSpots self.now bytes → IsRight bytes place result }
@@ -141,4 +155,27 @@ impl Follower for Spots {
             None => None,
         }
     }
+}
+
+impl Peek for Spots {
+    fn peek(&self, place: u64, piece: &mut [u8]) -> usize {
+        let kept = self.recent.kept();
+        if place < kept.passed {
+            return 0;
+        }
+        let at = (place - kept.passed) as usize;
+        let count = copy(rest_of(kept.older, at), piece);
+        let after = at.saturating_sub(kept.older.len());
+        count + copy(rest_of(kept.newer, after), &mut piece[count..])
+    }
+}
+
+/// Copies bytes, as far as there is room, and answers how many there were.
+fn copy(bytes: &[u8], piece: &mut [u8]) -> usize
+    ensures count { result ≤ length piece.new }
+    ensures same { length piece.new ≡ length piece.old }
+{
+    let count = bytes.len().min(piece.len());
+    piece[..count].copy_from_slice(&bytes[..count]);
+    count
 }

@@ -72,6 +72,19 @@ impl TextPath {
         TextPath::new(self.limits, self.framing)
     }
 
+    /// After bytes of the same file that are not known: no path is known in the text that they end in.
+    pub fn lost(limits: Limits, framing: Option<Framing>) -> TextPath
+        ensures stands { (front : List ℕ) → StandsIn result front }
+        ensures framing { result.framing ≡ framing }
+    {
+        TextPath {
+            locator: Locator::new(text_limits(limits, framing)),
+            limits,
+            framing,
+            is_lost: true,
+        }
+    }
+
     /// Takes the next bytes.
     pub fn feed(&mut self, bytes: &[u8])
         ensures stands { (front : List ℕ) → StandsIn self.old front → StandsIn self.new (front ++ bytes.now) }

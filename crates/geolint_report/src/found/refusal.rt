@@ -2,7 +2,7 @@
 
 use super::{Found, PIECE};
 use crate::every::cursor::lesser;
-use crate::source::Rewind;
+use crate::source::Peek;
 use gj_hints::{CHOICES, Expected, expected_after};
 use gj_json::{Event, EventSink, Limits, MOST_LEVELS, Reader, What};
 use gj_places::Lines;
@@ -26,7 +26,7 @@ impl Looks for Lines {
 }
 
 /// Looks at the bytes before a place, or says that they are not there.
-fn look_to<S: Rewind, L: Looks>(place: u64, looks: &mut L, source: &S) -> bool {
+fn look_to<S: Peek, L: Looks>(place: u64, looks: &mut L, source: &S) -> bool {
     let mut piece = [0; PIECE];
     let mut at = 0;
     while at < place {
@@ -125,7 +125,7 @@ impl Looks for Text {
 }
 
 /// The text that the bytes before a place end in, where one has begun there.
-fn text_before<S: Rewind>(place: u64, framing: Option<Framing>, source: &S) -> Option<Text> {
+fn text_before<S: Peek>(place: u64, framing: Option<Framing>, source: &S) -> Option<Text> {
     let mut text = Text::new(framing, framing != Some(Framing::Sequence), 0);
     if look_to(place, &mut text, source) && text.has_begun {
         Some(text)
@@ -135,7 +135,7 @@ fn text_before<S: Rewind>(place: u64, framing: Option<Framing>, source: &S) -> O
 }
 
 /// The byte at a place where a text of a source is refused, and what can follow there.
-pub fn found_byte<S: Rewind>(place: u64, framing: Option<Framing>, source: &S) -> Option<Found> {
+pub fn found_byte<S: Peek>(place: u64, framing: Option<Framing>, source: &S) -> Option<Found> {
     let text = text_before(place, framing, source)?;
     let expected = expected_after(&text.reader)?;
     let mut found = Found::nothing();
@@ -145,7 +145,7 @@ pub fn found_byte<S: Rewind>(place: u64, framing: Option<Framing>, source: &S) -
 }
 
 /// That a text of a source ends too early at a place, what can follow there, and what is open.
-pub fn found_end<S: Rewind>(place: u64, framing: Option<Framing>, source: &S) -> Option<Found> {
+pub fn found_end<S: Peek>(place: u64, framing: Option<Framing>, source: &S) -> Option<Found> {
     let text = text_before(place, framing, source)?;
     let expected = expected_after(&text.reader)?;
     let mut found = Found::nothing();
@@ -161,7 +161,7 @@ pub fn found_end<S: Rewind>(place: u64, framing: Option<Framing>, source: &S) ->
 }
 
 /// Adds the character at a place: in quotation marks, as in JSON; a byte that begins none in hexadecimal digits.
-fn add_character<S: Rewind>(found: &mut Found, place: u64, source: &S) {
+fn add_character<S: Peek>(found: &mut Found, place: u64, source: &S) {
     let mut bytes = [0; 4];
     let _count = source.peek(place, &mut bytes);
     found.add(b"\"");
@@ -208,7 +208,7 @@ fn add_expected(found: &mut Found, expected: &Expected, end: &[u8]) {
 }
 
 /// Adds how many arrays and objects are open, and where the innermost begins.
-fn add_open<S: Rewind>(found: &mut Found, text: &Text, source: &S) {
+fn add_open<S: Peek>(found: &mut Found, text: &Text, source: &S) {
     let Some(place) = text.innermost() else {
         return;
     };

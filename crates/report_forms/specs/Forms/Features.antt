@@ -72,11 +72,8 @@ entry_text entry =
 
 -- ---- text
 
-unfoldable pub text_some_spot : Spot → List ℕ
-text_some_spot spot = codes ", line " ++ (decimal spot.line ++ (codes ", column " ++ decimal spot.column))
-
 abbrev pub text_spot : Option Spot → List ℕ
-text_spot (Some spot) = text_some_spot spot
+text_spot (Some spot) = codes ", line " ++ (decimal spot.line ++ (codes ", column " ++ decimal spot.column))
 text_spot None = []
 
 -- where it stands

@@ -13,6 +13,7 @@ use geolint_report::texts::Code;
 use std::alloc::AllocError;
 
 /// Puts the number of a feature or a record, after its word.
+#[tactic(auto, unfolding(crate::specs::Forms::Features::item_text))]
 pub fn put_item(item: Item, line: &mut Vec<u8>) -> Result<(), AllocError>
     ensures { OnOk result (Adds line.old line.new (item_text item)) }
 {
@@ -22,6 +23,7 @@ pub fn put_item(item: Item, line: &mut Vec<u8>) -> Result<(), AllocError>
 }
 
 /// Puts that `count` more are not reported.
+#[tactic(auto, unfolding(crate::specs::Forms::Features::and_more))]
 pub fn put_and_more(count: u64, line: &mut Vec<u8>) -> Result<(), AllocError>
     ensures { OnOk result (Adds line.old line.new (and_more count)) }
 {
@@ -64,6 +66,7 @@ fn put_some_id(before: &[u8], id: &[u8], line: &mut Vec<u8>) -> Result<(), Alloc
 }
 
 /// Puts what a message says, as it is read: no character is escaped.
+#[tactic(auto, unfolding(crate::specs::Forms::Features::entry_text))]
 pub fn put_entry_text(entry: &Entry<'_>, line: &mut Vec<u8>) -> Result<(), AllocError>
     ensures { OnOk result (Adds line.old line.new (entry_text entry.now)) }
 {

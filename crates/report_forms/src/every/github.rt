@@ -1,15 +1,13 @@
 //! The form `github`: a command for each finding.
 ghost use Rattle.std.specs.Prelude.{OnOk};
 ghost use Rattle.geolint_report.specs.Line.{Adds};
-ghost use Rattle.report_forms.specs.Forms.Features.{github_entry, github_more, level_in, spot_at};
-ghost use Rattle.report_forms.specs.Forms.Github.{github_spot};
+ghost use Rattle.report_forms.specs.Forms.Features.{github_entry, github_more, level_in};
 
 use crate::every::entry::{Entry, note_fails, spot_at};
 use crate::every::forms::{put_and_more, put_entry_text};
 use crate::formats::github::{put_file, put_in_message, put_spot};
 use crate::formats::level;
 use crate::options::Options;
-use geolint_report::every::cursor::Mark;
 use geolint_report::line::put;
 use std::alloc::{AllocError, Global};
 
@@ -30,6 +28,7 @@ pub fn put_entry(
     )
 }
 
+#[tactic(auto, unfolding(crate::specs::Forms::Features::github_entry))]
 fn put_command(
     alloc: Global,
     level: &[u8],
@@ -41,7 +40,7 @@ fn put_command(
     let mut text = Vec::new(alloc);
     put_entry_text(entry, &mut text)?;
     put_file(alloc, level, entry.name, line)?;
-    put_spot_at(entry.mark, line)?;
+    put_spot(spot_at(entry.mark), line)?;
     put(line, b",title=")?;
     entry.note.told.code.put_name(line)?;
     put(line, b"::")?;
@@ -49,13 +48,8 @@ fn put_command(
     put(line, b"\n")
 }
 
-fn put_spot_at(mark: Option<Mark>, line: &mut Vec<u8>) -> Result<(), AllocError>
-    ensures { OnOk result (Adds line.old line.new (github_spot (spot_at mark))) }
-{
-    put_spot(spot_at(mark), line)
-}
-
 /// Puts the command on what is not reported.
+#[tactic(auto, unfolding(crate::specs::Forms::Features::github_more))]
 pub fn put_more(
     alloc: Global,
     name: &[u8],

@@ -46,6 +46,7 @@ pub fn put_members(
     }
 }
 
+#[tactic(auto, unfolding(crate::specs::Forms::Features::feature_members))]
 fn put_feature(index: u64, id: &[u8], spelled: &[u8], line: &mut Vec<u8>) -> Result<(), AllocError>
     ensures { OnOk result (Adds line.old line.new (feature_members index id.now spelled.now)) }
 {

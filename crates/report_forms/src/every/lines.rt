@@ -2,7 +2,6 @@
 ghost use Rattle.std.specs.Prelude.{◌≡◌, OnOk, None};
 ghost use Rattle.geolint_report.specs.Line.{Adds};
 ghost use Rattle.report_forms.specs.Forms.Features.{lines_entry, lines_where, lines_more, note_part, feature_details, byte_behind, spot_at};
-ghost use Rattle.report_forms.specs.Forms.Lines.{and_spot, beginning};
 
 use crate::every::entry::{Entry, spot_at};
 use crate::every::forms::{
@@ -16,17 +15,19 @@ use geolint_report::texts::Code;
 use std::alloc::AllocError;
 
 /// Puts the line of a feature or a record.
+#[tactic(auto, unfolding(crate::specs::Forms::Features::lines_entry))]
 pub fn put_entry(entry: &Entry<'_>, style: Style, line: &mut Vec<u8>) -> Result<(), AllocError>
     ensures { OnOk result (Adds line.old line.new (lines_entry style entry.now)) }
 {
     put_where(entry.name, entry.mark, style, line)?;
-    put_begun(entry.note.told.code, style, line)?;
+    put_beginning(part(entry.note.told.code), style, line)?;
     put_word(entry.note.told.code, line)?;
     put_code(entry.note.told.code, style, line)?;
     put_details(entry, line)
 }
 
 /// The file, and the line and the column in it.
+#[tactic(auto, unfolding(crate::specs::Forms::Features::lines_where))]
 fn put_where(
     name: &[u8],
     mark: Option<Mark>,
@@ -37,21 +38,9 @@ fn put_where(
 {
     put_beginning(Part::Name, style, line)?;
     put_name(name, line)?;
-    put_spot_at(mark, line)?;
+    put_spot(spot_at(mark), line)?;
     put_ending(style, line)?;
     put(line, b": ")
-}
-
-fn put_spot_at(mark: Option<Mark>, line: &mut Vec<u8>) -> Result<(), AllocError>
-    ensures { OnOk result (Adds line.old line.new (and_spot (spot_at mark))) }
-{
-    put_spot(spot_at(mark), line)
-}
-
-fn put_begun(code: Code, style: Style, line: &mut Vec<u8>) -> Result<(), AllocError>
-    ensures { OnOk result (Adds line.old line.new (beginning (note_part code) style)) }
-{
-    put_beginning(part(code), style, line)
 }
 
 fn part(code: Code) -> Part
@@ -64,6 +53,7 @@ fn part(code: Code) -> Part
 }
 
 /// What is in parentheses at the end of the line: the feature, its `id`, the offset where the line is not known, and the path.
+#[tactic(auto, unfolding(crate::specs::Forms::Features::feature_details))]
 fn put_details(entry: &Entry<'_>, line: &mut Vec<u8>) -> Result<(), AllocError>
     ensures { OnOk result (Adds line.old line.new (feature_details entry.now)) }
 {
@@ -85,6 +75,7 @@ fn put_byte_behind(place: u64, mark: Option<Mark>, line: &mut Vec<u8>) -> Result
 }
 
 /// Puts the line on what is not reported.
+#[tactic(auto, unfolding(crate::specs::Forms::Features::lines_more))]
 pub fn put_more(name: &[u8], count: u64, style: Style, line: &mut Vec<u8>) -> Result<(), AllocError>
     ensures { OnOk result (Adds line.old line.new (lines_more style name.now count)) }
 {

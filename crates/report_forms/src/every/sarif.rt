@@ -3,8 +3,7 @@ ghost use Rattle.std.specs.Prelude.{◌≡◌, ℕ, List, OnOk};
 ghost use Rattle.gj_places.specs.Strings.{SpellsString};
 ghost use Rattle.geolint_report.specs.Line.{Adds};
 ghost use Rattle.report_forms.specs.Forms.Features.{sarif_entry, sarif_text, sarif_place, sarif_region, sarif_properties, sarif_more, level_in, spot_at};
-ghost use Rattle.report_forms.specs.Forms.Features.{path_at};
-ghost use Rattle.report_forms.specs.Forms.Sarif.{region_start_of, logical_location_of};
+ghost use Rattle.report_forms.specs.Forms.Sarif.{region_start_of};
 
 use crate::every::entry::{Entry, note_fails, path_at, spot_at};
 use crate::every::forms::{put_and_more, put_item};
@@ -95,6 +94,7 @@ fn put_result(
     put_properties(id, entry, line)
 }
 
+#[tactic(auto, unfolding(crate::specs::Forms::Features::sarif_text))]
 fn put_message(entry: &Entry<'_>, line: &mut Vec<u8>) -> Result<(), AllocError>
     ensures { OnOk result (Adds line.old line.new (sarif_text entry.now)) }
 {
@@ -104,22 +104,18 @@ fn put_message(entry: &Entry<'_>, line: &mut Vec<u8>) -> Result<(), AllocError>
     put(line, b"\"}")
 }
 
+#[tactic(auto, unfolding(crate::specs::Forms::Features::sarif_place))]
 fn put_place(entry: &Entry<'_>, line: &mut Vec<u8>) -> Result<(), AllocError>
     ensures { OnOk result (Adds line.old line.new (sarif_place entry.now)) }
 {
     put_location(entry.name, line)?;
     put_region(entry.mark, entry.note.told.place, line)?;
     put(line, b"}")?;
-    put_path_at(entry.mark, line)?;
+    put_logical_location_of(path_at(entry.mark), line)?;
     put(line, b"}]")
 }
 
-fn put_path_at(mark: Option<Mark>, line: &mut Vec<u8>) -> Result<(), AllocError>
-    ensures { OnOk result (Adds line.old line.new (logical_location_of (path_at mark))) }
-{
-    put_logical_location_of(path_at(mark), line)
-}
-
+#[tactic(auto, unfolding(crate::specs::Forms::Features::sarif_region))]
 fn put_region(mark: Option<Mark>, place: u64, line: &mut Vec<u8>) -> Result<(), AllocError>
     ensures { OnOk result (Adds line.old line.new (sarif_region (spot_at mark) place)) }
 {
@@ -136,6 +132,7 @@ fn put_start(mark: Option<Mark>, line: &mut Vec<u8>) -> Result<(), AllocError>
     put_region_start_of(spot_at(mark), line)
 }
 
+#[tactic(auto, unfolding(crate::specs::Forms::Features::sarif_properties))]
 fn put_properties(id: &[u8], entry: &Entry<'_>, line: &mut Vec<u8>) -> Result<(), AllocError>
     ensures { OnOk result (Adds line.old line.new (sarif_properties id.now entry.now)) }
 {

@@ -1,13 +1,13 @@
 //! The form `text`: a line under that of the file.
 ghost use Rattle.std.specs.Prelude.{OnOk};
 ghost use Rattle.geolint_report.specs.Line.{Adds};
-ghost use Rattle.report_forms.specs.Forms.Features.{text_entry, text_place, text_spot, text_some_spot, text_more, spot_at};
+ghost use Rattle.report_forms.specs.Forms.Features.{text_entry, text_place, text_spot, text_more, spot_at};
 
 use crate::every::entry::{Entry, spot_at};
 use crate::every::forms::{put_and_more, put_id_behind, put_item, put_path_at, put_word};
+use crate::formats::put_line_and_column;
 use geolint_report::every::cursor::Mark;
 use geolint_report::line::{put, put_number};
-use geolint_report::sites::Spot;
 use std::alloc::AllocError;
 
 /// Puts the line of a feature or a record.
@@ -25,6 +25,7 @@ pub fn put_entry(entry: &Entry<'_>, line: &mut Vec<u8>) -> Result<(), AllocError
     put(line, b"\n")
 }
 
+#[tactic(auto, unfolding(crate::specs::Forms::Features::text_place))]
 fn put_place(place: u64, mark: Option<Mark>, line: &mut Vec<u8>) -> Result<(), AllocError>
     ensures { OnOk result (Adds line.old line.new (text_place place mark)) }
 {
@@ -39,18 +40,9 @@ fn put_spot_at(mark: Option<Mark>, line: &mut Vec<u8>) -> Result<(), AllocError>
     ensures { OnOk result (Adds line.old line.new (text_spot (spot_at mark))) }
 {
     match spot_at(mark) {
-        Some(spot) => put_some_spot(spot, line),
+        Some(spot) => put_line_and_column(b", line ", b", column ", spot, line),
         None => Ok(()),
     }
-}
-
-fn put_some_spot(spot: Spot, line: &mut Vec<u8>) -> Result<(), AllocError>
-    ensures { OnOk result (Adds line.old line.new (text_some_spot spot)) }
-{
-    put(line, b", line ")?;
-    put_number(line, spot.line)?;
-    put(line, b", column ")?;
-    put_number(line, spot.column)
 }
 
 /// Puts the line on what is not reported.

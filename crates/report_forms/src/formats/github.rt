@@ -7,13 +7,12 @@ ghost use Rattle.report_forms.specs.Forms.Github.{github_told, github_unread};
 ghost use Rattle.report_forms.specs.Names.{shown_name};
 
 use crate::formats::issues::{Issue, issues, put_issue_text};
-use crate::formats::{level, put_name};
+use crate::formats::{level, put_line_and_column, put_name};
 use crate::options::Options;
 use geolint_report::line::{put, put_all};
 use geolint_report::report::Report;
 use geolint_report::sites::Spot;
 use geolint_report::texts::Code;
-use itoa::Buffer;
 use std::alloc::{AllocError, Global};
 
 /// Puts the commands of a file: none for one that is valid without a warning.
@@ -32,6 +31,7 @@ pub fn put_report(
     Ok(())
 }
 
+#[tactic(auto, unfolding(crate::specs::Forms::Github::github_command))]
 fn put_command(
     alloc: Global,
     report: &Report<'_>,
@@ -60,6 +60,7 @@ fn put_title(code: Code, line: &mut Vec<u8>) -> Result<(), AllocError>
 }
 
 /// The level and the file, as its name is shown.
+#[tactic(auto, unfolding(crate::specs::Forms::Github::github_file))]
 pub fn put_file(
     alloc: Global,
     level: &[u8],
@@ -78,24 +79,13 @@ pub fn put_spot(spot: Option<Spot>, line: &mut Vec<u8>) -> Result<(), AllocError
     ensures { OnOk result (Adds line.old line.new (github_spot spot)) }
 {
     match spot {
-        Some(spot) => {
-            let mut line_digits = Buffer::new();
-            let mut column_digits = Buffer::new();
-            put_all(
-                line,
-                &[
-                    b",line=",
-                    line_digits.format(spot.line).as_bytes(),
-                    b",col=",
-                    column_digits.format(spot.column).as_bytes(),
-                ],
-            )
-        }
+        Some(spot) => put_line_and_column(b",line=", b",col=", spot, line),
         None => Ok(()),
     }
 }
 
 /// Puts the command of a file that could not be opened or read.
+#[tactic(auto, unfolding(crate::specs::Forms::Github::github_unread))]
 pub fn put_unread(
     alloc: Global,
     name: &[u8],

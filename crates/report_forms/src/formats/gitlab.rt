@@ -124,6 +124,7 @@ fn fingerprint(alloc: Global, check: &[u8], place: u64, name: &[u8]) -> Result<S
     hex::encode(alloc, Sha256::digest(bytes.as_slice()))
 }
 
+#[tactic(auto, unfolding(crate::specs::Forms::Gitlab::identity_of))]
 fn put_identity(check: &[u8], place: u64, name: &[u8], line: &mut Vec<u8>) -> Result<(), AllocError>
     ensures { OnOk result (Adds line.old line.new (identity_of check.now place name.now)) }
 {

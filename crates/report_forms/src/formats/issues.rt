@@ -105,6 +105,7 @@ fn push_kind(
 }
 
 /// Puts what is said of an issue, as it is read: no character is escaped.
+#[tactic(auto, unfolding(crate::specs::Forms::Issues::issue_text))]
 pub fn put_issue_text(
     alloc: Global,
     report: &Report<'_>,
@@ -143,6 +144,7 @@ fn put_details_if(
 }
 
 /// How often it is reported, where, what was found there, and what may be of help.
+#[tactic(auto, unfolding(crate::specs::Forms::Issues::issue_details))]
 fn put_details(
     alloc: Global,
     report: &Report<'_>,

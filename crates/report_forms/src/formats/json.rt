@@ -13,7 +13,7 @@ ghost use Rattle.report_forms.specs.Internal.WrittenCommas.{is_none_yet, next_it
 
 use crate::formats::hints::put_hint_text;
 use crate::formats::pointer::put_pointer_or_null;
-use crate::formats::{put_path, put_string};
+use crate::formats::{put_line_and_column, put_path, put_string};
 use geolint_report::found::Found;
 use geolint_report::judge::Finding;
 use geolint_report::line::{put, put_all, put_number, put_optional, put_truth};
@@ -23,7 +23,6 @@ use gj_coords::{KINDS, Kind, Warnings};
 use gj_hints::Hint;
 use gj_json::Path;
 use gj_places::json_string;
-use itoa::Buffer;
 use std::alloc::{AllocError, Global};
 
 /// Puts the line of a file.
@@ -82,6 +81,7 @@ fn put_hint(
     }
 }
 
+#[tactic(auto, unfolding(crate::specs::Forms::Json::json_hint_text))]
 fn put_some_hint(
     alloc: Global,
     name: &[u8],
@@ -180,6 +180,7 @@ fn put_comma_unless(is_first: bool, line: &mut Vec<u8>) -> Result<(), AllocError
     if is_first { Ok(()) } else { put(line, b",") }
 }
 
+#[tactic(auto, unfolding(crate::specs::Forms::Json::json_object))]
 fn put_object(
     report: &Report<'_>,
     told: &Told,
@@ -224,19 +225,7 @@ fn put_spot(spot: Option<Spot>, line: &mut Vec<u8>) -> Result<(), AllocError>
     ensures { OnOk result (Adds line.old line.new (json_spot spot)) }
 {
     match spot {
-        Some(spot) => {
-            let mut line_digits = Buffer::new();
-            let mut column_digits = Buffer::new();
-            put_all(
-                line,
-                &[
-                    b",\"line\":",
-                    line_digits.format(spot.line).as_bytes(),
-                    b",\"column\":",
-                    column_digits.format(spot.column).as_bytes(),
-                ],
-            )
-        }
+        Some(spot) => put_line_and_column(b",\"line\":", b",\"column\":", spot, line),
         None => put_all(line, &[b",\"line\":null,\"column\":null"]),
     }
 }

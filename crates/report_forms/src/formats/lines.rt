@@ -11,7 +11,7 @@ ghost use Rattle.report_forms.specs.Forms.Lines.{lines_excerpt, found_line, line
 ghost use Rattle.report_forms.specs.Internal.WrittenDetails.{next_details, has_details, separator, end};
 
 use crate::formats::hints::put_hint_text;
-use crate::formats::{put_name, put_path};
+use crate::formats::{put_line_and_column, put_name, put_path};
 use geolint_report::found::Found;
 use geolint_report::line::{put, put_all, put_number};
 use geolint_report::report::{Report, Told, warning};
@@ -244,6 +244,7 @@ fn put_kind(
     }
 }
 
+#[tactic(auto, unfolding(crate::specs::Forms::Lines::lines_line))]
 fn put_line(
     part: Part,
     word: &[u8],
@@ -263,6 +264,7 @@ fn put_line(
     put(line, b"\n")
 }
 
+#[tactic(auto, unfolding(crate::specs::Forms::Lines::lines_place))]
 fn put_place(
     report: &Report<'_>,
     place: u64,
@@ -282,23 +284,12 @@ pub fn put_spot(spot: Option<Spot>, line: &mut Vec<u8>) -> Result<(), AllocError
     ensures { OnOk result (Adds line.old line.new (and_spot spot)) }
 {
     match spot {
-        Some(spot) => {
-            let mut line_digits = Buffer::new();
-            let mut column_digits = Buffer::new();
-            put_all(
-                line,
-                &[
-                    b":",
-                    line_digits.format(spot.line).as_bytes(),
-                    b":",
-                    column_digits.format(spot.column).as_bytes(),
-                ],
-            )
-        }
+        Some(spot) => put_line_and_column(b":", b":", spot, line),
         None => Ok(()),
     }
 }
 
+#[tactic(auto, unfolding(crate::specs::Forms::Lines::lines_code))]
 pub fn put_code(code: Code, style: Style, line: &mut Vec<u8>) -> Result<(), AllocError>
     ensures { OnOk result (Adds line.old line.new (lines_code style code)) }
 {

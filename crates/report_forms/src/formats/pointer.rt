@@ -44,6 +44,7 @@ fn is_named(step: PathStep) -> bool
     }
 }
 
+#[tactic(auto, unfolding(crate::specs::Forms::Pointers::pointer))]
 fn put_pointer(path: &Path, line: &mut Vec<u8>) -> Result<(), AllocError>
     ensures { OnOk result (Adds line.old line.new (pointer (steps_of path.now))) }
 {

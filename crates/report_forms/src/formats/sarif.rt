@@ -154,6 +154,7 @@ fn put_next_unread(
 }
 
 /// The notification of a file that could not be read; the reason is spelled as a JSON string.
+#[tactic(auto, unfolding(crate::specs::Forms::Sarif::sarif_unread))]
 fn put_unread(name: &[u8], reason: &[u8], line: &mut Vec<u8>) -> Result<(), AllocError>
     ensures { OnOk result (Adds line.old line.new (sarif_unread name.now reason.now)) }
 {
@@ -203,6 +204,7 @@ fn put_result(
     put(line, b"}]}")
 }
 
+#[tactic(auto, unfolding(crate::specs::Forms::Sarif::sarif_message))]
 fn put_message(
     alloc: Global,
     report: &Report<'_>,
@@ -265,6 +267,7 @@ pub fn put_region_start_of(spot: Option<Spot>, line: &mut Vec<u8>) -> Result<(),
     }
 }
 
+#[tactic(auto, unfolding(crate::specs::Forms::Sarif::region_start))]
 fn put_region_start(spot: Spot, line: &mut Vec<u8>) -> Result<(), AllocError>
     ensures { OnOk result (Adds line.old line.new (region_start spot)) }
 {
@@ -284,6 +287,7 @@ pub fn put_logical_location_of(path: Option<Path>, line: &mut Vec<u8>) -> Result
     }
 }
 
+#[tactic(auto, unfolding(crate::specs::Forms::Sarif::logical_location))]
 fn put_logical_location(path: &Path, line: &mut Vec<u8>) -> Result<(), AllocError>
     ensures { OnOk result (Adds line.old line.new (logical_location (steps_of path.now))) }
 {
@@ -370,6 +374,7 @@ fn put_explained(code: Code, line: &mut Vec<u8>) -> Result<(), AllocError>
     put(line, b")\"")
 }
 
+#[tactic(auto, unfolding(crate::specs::Forms::Sarif::name_and_text))]
 fn put_name_and_text(code: Code, line: &mut Vec<u8>) -> Result<(), AllocError>
     ensures { OnOk result (Adds line.old line.new (name_and_text code)) }
 {
@@ -380,6 +385,7 @@ fn put_name_and_text(code: Code, line: &mut Vec<u8>) -> Result<(), AllocError>
 
 /// A name as the text of a reference to it, between quotation marks: of an absolute one with the scheme `file`, and relative
 /// otherwise. No byte of it is one that a JSON string escapes.
+#[tactic(auto, unfolding(crate::specs::Forms::Sarif::uri_of))]
 fn put_uri(name: &[u8], line: &mut Vec<u8>) -> Result<(), AllocError>
     ensures { OnOk result (Adds line.old line.new (uri_of name.now)) }
 {
@@ -425,6 +431,7 @@ fn is_plain_in_uri(byte: u8) -> bool
 
 const UPPER_DIGITS: &[u8; 16] = b"0123456789ABCDEF";
 
+#[tactic(auto, unfolding(crate::specs::Forms::Sarif::percent_of))]
 fn put_percent(byte: u8, line: &mut Vec<u8>) -> Result<(), AllocError>
     ensures { OnOk result (Adds line.old line.new (percent_of byte)) }
 {

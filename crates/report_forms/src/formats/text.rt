@@ -17,6 +17,7 @@ use itoa::Buffer;
 use std::alloc::AllocError;
 
 /// Puts the lines of a file.
+#[tactic(auto, unfolding(crate::specs::Forms::Text::text_told))]
 pub fn put_report(report: &Report<'_>, line: &mut Vec<u8>) -> Result<(), AllocError>
     ensures { OnOk result (Adds line.old line.new (text_told report.now)) }
 {
@@ -61,6 +62,7 @@ fn put_found(report: &Report<'_>, line: &mut Vec<u8>) -> Result<(), AllocError>
     }
 }
 
+#[tactic(auto, unfolding(crate::specs::Forms::Text::text_fault))]
 fn put_fault(report: &Report<'_>, told: &Told, line: &mut Vec<u8>) -> Result<(), AllocError>
     ensures { OnOk result (Adds line.old line.new (text_fault report.now told.now)) }
 {
@@ -99,6 +101,7 @@ fn put_path_line_of(path: Option<Path>, line: &mut Vec<u8>) -> Result<(), AllocE
     }
 }
 
+#[tactic(auto, unfolding(crate::specs::Forms::Text::path_line))]
 fn put_path_line(path: &Path, line: &mut Vec<u8>) -> Result<(), AllocError>
     ensures { OnOk result (Adds line.old line.new (path_line (steps_of path.now))) }
 {
@@ -117,6 +120,7 @@ fn put_rest(finding: &Finding, line: &mut Vec<u8>) -> Result<(), AllocError>
     }
 }
 
+#[tactic(auto, unfolding(crate::specs::Forms::Text::text_valid))]
 fn put_valid(finding: &Finding, warnings: &Warnings, line: &mut Vec<u8>) -> Result<(), AllocError>
     ensures { OnOk result (Adds line.old line.new (text_valid finding.now warnings.now)) }
 {

@@ -1,7 +1,8 @@
-use Rattle.geolint_report.proofs.Common.{rules, refl, ap, append-nil, ℕ, List, [], arith, inr, ◌++◌, ◌+◌, ◌≡◌, ◌∙◌, ◌≤◌}
+use Rattle.geolint_report.proofs.Common.{rules, refl, ap, append-nil, ℕ, List, [], arith, inl, inr, ◌++◌, ◌+◌, ◌≡◌, ◌∙◌, ◌≤◌}
 use Rattle.geolint_report.proofs.Common.{take, length, subst, length-append, length-take-le}
 use Rattle.geolint_report.proofs.Common.{Consumes, Consumes-trans, Allowed}
 use Rattle.std.proofs.KnownBytes.{Consumes-kept, Consumes-nil}
+use Rattle.geolint_report.proofs.FileVerdicts.{Consumes-none}
 use Rattle.geolint_report.proofs.PieceReads.{given_more, one_read, stops}
 use Rattle.geolint_report.proofs.reading_loop.read_all.Given.{Over}
 use Rattle.geolint_report.proofs.reading_loop.read_all.Goals as goal
@@ -15,6 +16,18 @@ returns-in-Decided-clause-stops g c begins same =
     let room : length c.read_piece.new.piece ≡ length c.args.piece.now = search rules in
     stops g.F.Feeds.undecided _ _ _ _ read piece _ _ (Consumes-trans _ _ _ read piece took c.in-Ok.ensures.bytes.0) (follows begins same).1
     (one_read _ _ _ _ read count c.read_piece.ensures.reads c.loop-error.invariant.few) (omega (arith, room, short, bound))
+
+pub loop-error-init : goal.loop-error-init
+loop-error-init g c = record {
+  read = ([], Consumes-nil _, refl, λ begins same. (begins, inl refl));
+  limits = refl;
+  within = omega arith;
+  few = omega arith;
+  unfailed = refl;
+  text = refl;
+  followed = λ begun. ([], Consumes-nil _, begun);
+  given = λ small. omega arith;
+}
 
 pub loop-error-preserved : goal.loop-error-preserved
 loop-error-preserved g c =
@@ -43,6 +56,9 @@ loop-error-preserved g c =
       few = omega (arith, few, count, c.in-Ok.count-test);
       unfailed = c.in-Ok.ensures.failed ∙ c.loop-error.invariant.unfailed;
       text = c.read_piece.ensures.text ∙ c.loop-error.invariant.text;
+      followed = λ begun.
+          let (before, gave, follows) = c.loop-error.invariant.followed begun in
+          (before ++ piece, Consumes-trans _ _ _ before piece gave c.in-Ok.ensures.bytes.0, c.follow.ensures before follows);
       given = given_more _ _ _ _ _ c.in-Ok.ensures.given c.loop-error.invariant.given;
     }
 
@@ -138,3 +154,22 @@ returns-then-offset-most-clause-stops g c begins same = elim (beyond g c begins 
 
 pub returns-then-offset-most-clause-ends : goal.returns-then-offset-most-clause-ends
 returns-then-offset-most-clause-ends g c has_room begins same = elim (beyond g c begins same) [ ]
+
+-- ---- what came to the follower
+
+pub returns-in-Ok-eq0-clause-followed : goal.returns-in-Ok-eq0-clause-followed
+returns-in-Ok-eq0-clause-followed g c = λ begun.
+    let (read, took, follows) = c.loop-error.invariant.followed begun in
+    (read, Consumes-none _ _ _ read c.read_piece.new.piece c.in-Ok-eq0.field-0 c.in-Ok-eq0.field-0-test took c.in-Ok-eq0.ensures.bytes.0, follows)
+
+pub returns-in-Decided-clause-followed : goal.returns-in-Decided-clause-followed
+returns-in-Decided-clause-followed g c = λ begun.
+    let (read, took, follows) = c.loop-error.invariant.followed begun in
+    let piece = take c.in-Ok.count c.read_piece.new.piece in
+    (read ++ piece, Consumes-trans _ _ _ read piece took c.in-Ok.ensures.bytes.0, c.follow.ensures read follows)
+
+pub returns-then-offset-most-clause-followed : goal.returns-then-offset-most-clause-followed
+returns-then-offset-most-clause-followed g c = λ begun.
+    let (read, took, follows) = c.loop-error.invariant.followed begun in
+    let piece = take c.in-Ok.count c.read_piece.new.piece in
+    (read ++ piece, Consumes-trans _ _ _ read piece took c.in-Ok.ensures.bytes.0, c.follow.ensures read follows)

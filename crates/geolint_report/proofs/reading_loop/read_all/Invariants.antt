@@ -11,6 +11,8 @@ invariant-loop-error g l = record {
   few : g.P.Pieces.reads l.source ≤ g.P.Pieces.reads l.initial.source + l.offset;
   unfailed : g.P.Pieces.failed_reads l.source ≡ g.P.Pieces.failed_reads l.initial.source;
   text : g.P.Pieces.text l.source ≡ g.P.Pieces.text l.initial.source;
+  followed : g.W.Follower.follows l.initial.follower [] → (read : List ℕ)
+      × Consumes (g.P.Pieces.remaining l.initial.source) (g.P.Pieces.remaining l.source) read × g.W.Follower.follows l.follower read;
   given : g.P.Pieces.bytes_given l.source < 2 ^ 64 - 1 → g.P.Pieces.bytes_given l.source ≡ g.P.Pieces.bytes_given l.initial.source + l.offset;
 }
 

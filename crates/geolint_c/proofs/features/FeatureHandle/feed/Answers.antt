@@ -1,6 +1,6 @@
 -- What the linter takes is what the handle takes.
-use Rattle.std.proofs.Common.{◌≡◌, ◌&&◌, Bool, true, false, not, if◌then◌else◌, Option, refl, sym, subst, ◌∙◌}
-use Rattle.geolint_c.specs.Features.{Judging, Judges, IsJudging, tells_more}
+use Rattle.std.proofs.Common.{◌≡◌, ◌&&◌, Bool, true, false, not, if◌then◌else◌, refl, sym, subst, ◌∙◌}
+use Rattle.geolint_c.specs.Features.{tells_more}
 use Rattle.geolint_c.proofs.features.FeatureHandle.feed.Goals as goal
 
 pub returns-in-Some : goal.returns-in-Some
@@ -10,12 +10,8 @@ returns-in-Some c =
     let new = c.take.new.linter in
     record {
       within = takes.within;
-      stands = λ limits bytes s.
-          let j : Judges c.in-Some.linter self.pulled limits bytes = subst (λ (o : Option Judging). IsJudging o self.pulled limits bytes) c.in-Some.is s.1 in
-          (s.0, takes.judges limits bytes j);
-      answer = λ limits bytes s r.
-          let j : Judges c.in-Some.linter self.pulled limits bytes = subst (λ (o : Option Judging). IsJudging o self.pulled limits bytes) c.in-Some.is s.1 in
-          takes.answer limits bytes j;
+      stands = λ limits bytes s. (s.0, takes.judges limits bytes (rw c.in-Some.is at s.1));
+      answer = λ limits bytes s r. takes.answer limits bytes (rw c.in-Some.is at s.1);
       ready = λ e. subst (λ (b : Bool). c.take.result.ready ≡ (if (not b && tells_more new self.pulled) then 1 else 0)) (sym e) takes.ready;
       all = λ e r. takes.all (subst (λ (b : Bool). (not b && tells_more new self.pulled) ≡ false) e r);
       pulled = refl;

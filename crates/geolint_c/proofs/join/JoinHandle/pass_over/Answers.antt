@@ -1,13 +1,11 @@
 -- The sum that the numbers say is passed over.
-use Rattle.std.proofs.Common.{◌≡◌, false, true, inl, inr, Option, Some, None, refl, sym, ap, subst, ◌∙◌, arith}
+use Rattle.std.proofs.Common.{◌≡◌, false, true, inl, inr, Some, refl, sym, ap, subst, ◌∙◌, arith}
 use Rattle.gj_json.specs.Limits.{Allowed}
 use Rattle.gj_rules.specs.FeatureFindings.{warnings_found}
 use Rattle.gj_runs.specs.Joiner.{limits_of}
 use Rattle.gj_runs.specs.Runs.{IsSumOf, StandsAfterFeature}
-use Rattle.gj_runs.specs.declared.joiner.Joiner.{Joiner}
 use Rattle.gj_runs.specs.declared.sum.FeatureSum.{FeatureSum}
 use Rattle.geolint_c.specs.declared.join.JoinHandle.{JoinHandle}
-use Rattle.geolint_c.specs.Join.{IsJoining, refused_by}
 use Rattle.geolint_c.proofs.join.JoinHandle.pass_over.Goals as goal
 
 pub returns-then-pass_over : goal.returns-then-pass_over
@@ -16,14 +14,14 @@ returns-then-pass_over c =
     let passed = c.pass_over.ensures in
     record {
       stands = λ limits bytes run sum t s says is.
-          let j : IsJoining (Some joiner) limits bytes = subst (λ (o : Option Joiner). IsJoining o limits bytes) c.in-Some.is s.1 in
+          let j = rw c.in-Some.is at s.1 in
           let same : c.sum_said.result ≡ sum = c.sum_said.ensures.said sum (warnings_found is.found) says is.warnings in
           let here = subst (λ (l : Allowed). IsSumOf l.depth run sum) (sym j.1) is in
           let joins = passed.joins bytes run c.if-pass_over.true j.0 (subst (λ (x : FeatureSum). IsSumOf (limits_of joiner).depth run x) (sym same) here) in
           (s.0, (joins, passed.limits ∙ j.1));
       taken = λ limits bytes s fine ended begins some room. refl;
       other = inl refl;
-      ended = λ e. (let f : false ≡ true = sym c.if-self.false ∙ e in cc);
+      ended = λ e. (let f : true ≡ false = sym e ∙ c.if-not-self.true in cc);
     }
 
 pub returns-else-pass_over : goal.returns-else-pass_over
@@ -35,11 +33,11 @@ returns-else-pass_over c =
     record {
       stands = λ limits bytes run sum t. (let f : 0 ≡ 1 = t in cc);
       taken = λ limits bytes s fine ended begins some room.
-          let j : IsJoining (Some joiner) limits bytes = subst (λ (o : Option Joiner). IsJoining o limits bytes) c.in-Some.is s.1 in
-          let t = c.pass_over.ensures.taken bytes j.0 (subst (λ (o : Option Joiner). refused_by o ≡ None) c.in-Some.is fine)
+          let j = rw c.in-Some.is at s.1 in
+          let t = c.pass_over.ensures.taken bytes j.0 (rw c.in-Some.is at fine)
           (subst (λ (l : Allowed). StandsAfterFeature l.depth bytes) (sym j.1) ended) (said.begin ∙ begins)
           (omega (arith, said.begin, said.end, some)) (omega (arith, said.end, ap (λ (l : Allowed). l.bytes) j.1, room)) in
           (let f : false ≡ true = sym c.if-pass_over.false ∙ t in cc);
       other = inr (refl, λ i. record { joiner = unchanged i; ended = self.ended });
-      ended = λ e. (let f : false ≡ true = sym c.if-self.false ∙ e in cc);
+      ended = λ e. (let f : true ≡ false = sym e ∙ c.if-not-self.true in cc);
     }

@@ -1,13 +1,12 @@
 -- The records are fed up to the end of the next.
-use Rattle.std.proofs.Common.{◌≡◌, ◌↔◌, ◌<◌, Bool, true, false, IsTrue, [], ◌++◌, length, take, Option, Some, refl, sym, subst, ◌∙◌}
+use Rattle.std.proofs.Common.{◌≡◌, ◌↔◌, ◌<◌, Bool, true, false, IsTrue, [], ◌++◌, length, take, Some, refl, sym, subst, ◌∙◌}
 use Rattle.gj_json.specs.Limits.{Allowed}
 use Rattle.gj_rules.specs.RecordFindings.{AreFindingsSoFar}
 use Rattle.gj_rules.specs.RecordsStand.{framing_of as framing_under}
-use Rattle.gj_rules.specs.declared.records.Records.{Records}
 use Rattle.gj_rules.specs.declared.records.framing.Framing.{Framing}
 use Rattle.geolint_c.specs.declared.finding.Progress.{Progress}
 use Rattle.geolint_c.specs.declared.records.RecordHandle.{RecordHandle}
-use Rattle.geolint_c.specs.Records.{Judges, IsJudging, IsFed, over_status}
+use Rattle.geolint_c.specs.Records.{IsFed, over_status}
 use Rattle.geolint_c.proofs.records.RecordHandle.feed.Goals as goal
 
 over_where : (b : Bool) (A : Type 0) → (IsTrue b ↔ A) → (over_status b ≡ 1) ↔ A
@@ -25,8 +24,7 @@ returns-in-Some c =
     (record {
       within = fed.ensures.within;
       tells = λ framing limits bytes found r s.
-          let j : Judges c.in-Some.records self.last framing limits bytes found =
-          subst (λ (o : Option Records). IsJudging o self.last framing limits bytes found) c.in-Some.is s.1 in
+          let j = rw c.in-Some.is at s.1 in
           let h = fed.ensures.told bytes [] found j.stands j.last_of in
           let all = found ++ h.have.more in
           let on = bytes ++ take fed.result.count c.args.piece.now in

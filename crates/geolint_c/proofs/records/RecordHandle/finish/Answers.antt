@@ -1,13 +1,11 @@
 -- What the input is, by all its records.
-use Rattle.std.proofs.Common.{◌≡◌, true, false, [], ◌++◌, Option, refl, sym, subst, ◌∙◌}
+use Rattle.std.proofs.Common.{◌≡◌, true, false, [], ◌++◌, refl, sym, subst, ◌∙◌}
 use Rattle.gj_json.specs.Limits.{Allowed}
 use Rattle.gj_rules.specs.RecordFindings.{AreAllFindings}
 use Rattle.gj_rules.specs.RecordsStand.{framing_of as framing_under}
-use Rattle.gj_rules.specs.declared.records.Records.{Records}
 use Rattle.gj_rules.specs.declared.records.framing.Framing.{Framing}
 use Rattle.gj_rules.specs.declared.sequence.verdict.SeqVerdict.{SeqVerdict}
 use Rattle.geolint_c.specs.Finding.{IsWhole}
-use Rattle.geolint_c.specs.Records.{Judges, IsJudging}
 use Rattle.geolint_c.proofs.records.RecordHandle.finish.Goals as goal
 
 pub returns-in-Some : goal.returns-in-Some
@@ -15,8 +13,7 @@ returns-in-Some c =
     let self = c.args.self.now in
     record {
       whole = λ framing limits bytes found r s.
-          let j : Judges c.in-Some.records self.last framing limits bytes found =
-          subst (λ (o : Option Records). IsJudging o self.last framing limits bytes found) c.in-Some.is s.1 in
+          let j = rw c.in-Some.is at s.1 in
           let h = c.end-whole.ensures.told bytes [] found j.stands j.last_of in
           let all = found ++ h.have.more in
           record {

@@ -1,11 +1,9 @@
 -- What the linter finds is told in plain numbers.
-use Rattle.std.proofs.Common.{◌≡◌, ◌↔◌, ◌+◌, ◌≤◌, ◌++◌, ℕ, Bool, true, false, IsTrue, if◌then◌else◌, length, drop, Option, Some, None, IsSome, refl, sym, subst, ◌∙◌}
+use Rattle.std.proofs.Common.{◌≡◌, ◌↔◌, ◌+◌, ◌≤◌, ◌++◌, ℕ, Bool, true, false, IsTrue, if◌then◌else◌, length, drop, Some, None, IsSome, refl, sym, subst, ◌∙◌}
 use Rattle.gj_json.specs.Limits.{Allowed}
 use Rattle.gj_json.specs.Text.{IsTextWithin}
 use Rattle.gj_rules.specs.FeatureFindings.{findings_by, least_found}
 use Rattle.gj_runs.specs.Runs.{IsLongestSum, stand_at}
-use Rattle.gj_runs.specs.declared.run_linter.RunLinter.{RunLinter}
-use Rattle.geolint_c.specs.Run.{IsRunning}
 use Rattle.geolint_c.proofs.run.RunHandle.sum.Goals as goal
 
 abbrev one_if : Bool → ℕ
@@ -20,11 +18,11 @@ returns-in-Some c =
     let run = c.in-Some.run' in
     record {
       sum = λ limits begin bytes s.
-          let j : IsRunning (Some run) limits begin bytes = subst (λ (o : Option RunLinter). IsRunning o limits begin bytes) c.in-Some.is s in
+          let j = rw c.in-Some.is at s in
           let longest = subst (λ (l : Allowed). IsLongestSum l begin bytes c.sum.result) j.1 (c.sum.ensures begin bytes j.0) in
           (c.sum_of.ensures.done, (c.sum.result, longest, c.sum_of.ensures.says));
       fault = λ limits begin bytes s rest text within short few.
-          let j : IsRunning (Some run) limits begin bytes = subst (λ (o : Option RunLinter). IsRunning o limits begin bytes) c.in-Some.is s in
+          let j = rw c.in-Some.is at s in
           let told = c.has_ended.ensures begin bytes rest text j.0
           (subst (λ (l : Allowed). IsTextWithin l.depth text (stand_at begin ++ (bytes ++ rest))) (sym j.1) within)
           (subst (λ (l : Allowed). begin + length bytes ≤ l.bytes) (sym j.1) short) few in

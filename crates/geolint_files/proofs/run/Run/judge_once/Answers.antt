@@ -1,34 +1,33 @@
-use Rattle.geolint_files.proofs.Common.{refl, subst, None, Reading, judged, not_read}
+use Rattle.geolint_files.proofs.Common.{refl, subst, Reading, judged, not_read}
 use Rattle.std.proofs.lemmas.Result.{on_ok_weaker}
-use Rattle.geolint_report.specs.Judged.{Finds}
-use Rattle.report_forms.specs.Passing.{passes}
+use Rattle.geolint_files.specs.Told.{IsToldOnce, shows}
+use Rattle.geolint_files.proofs.Runs.FollowedFiles.{found-once}
 use Rattle.geolint_files.proofs.Runs.ToldFiles.{TellsFile-after}
 use Rattle.geolint_files.proofs.run.Run.judge_once.Goals as goal
 
 pub returns-in-Ok : goal.returns-in-Ok
 returns-in-Ok g c =
     let old = c.args.self.now in
-    let finding = c.in-Ok.finding in
-    let left = g.S.Source.remaining c.judge.new.reader in
-    let found = subst (λ (reading : Reading). Finds reading old.options.limits (g.S.Source.remaining c.args.source.now) left finding) c.reading-reading.ensures
-    c.in-Ok.ensures.found in
-    on_ok_weaker c.tell.result (λ told. (
-      judged (record {
-        name = c.args.name;
-        finding = finding;
-        sites = None;
-        passes = passes old.options.strictness finding;
-        found = None;
-        hint =
-            None;
-      }),
-      (refl, refl, refl, c.in-Ok.ensures.failed, (left, found)),
-      TellsFile-after g.W.Write.contents _ old _ c.tell.new.self
-          (record { same = record { options = refl; style = refl; outcome = refl; summary = refl; tally = refl }; out = refl; log = refl; line = refl }) told,
-    )) c.tell.ensures
+    let limits = old.options.limits in
+    let had = g.S.Source.remaining c.args.source.now in
+    let failed = g.S.Source.failed_reads c.args.source.now in
+    let now_failed = g.S.Source.failed_reads c.judge.new.reader in
+    let Shows = shows c.args.is_shown old.options.format in
+    on_ok_weaker c.tell_once.result (λ told.
+    let (report, name, same, sites, tells) = told in (
+      judged report,
+      subst (λ (reading : Reading). IsToldOnce Shows reading limits c.args.name.now had failed now_failed (judged report)) c.reading-reading.ensures (
+        name,
+        c.in-Ok.ensures.failed,
+        found-once Shows c.reading-reading.result limits had (g.S.Source.remaining c.judge.new.reader) c.judge.new.follower c.in-Ok.finding report same
+            c.in-Ok.ensures.found (c.in-Ok.ensures.followed c.new-spots.ensures) sites,
+      ),
+      TellsFile-after g.W.Write.contents _ old _ c.tell_once.new.self
+          (record { same = record { options = refl; style = refl; outcome = refl; summary = refl; tally = refl }; out = refl; log = refl; line = refl }) tells,
+    )) c.tell_once.ensures
 
-pub returns-in-Err : goal.returns-in-Err
-returns-in-Err g c =
+pub returns : goal.returns
+returns g c =
     on_ok_weaker c.tell_unread.result (λ told. (
       not_read c.args.name.now told.0,
       (refl, c.in-Err.ensures.failed),

@@ -1,0 +1,10 @@
+-- `geolint_features_offset` meets its contract: a call of `FeatureHandle::offset`, but at null.
+use Rattle.geolint_c.proofs.HandleCalls.{calls, FeatureRow, [], zero_at_null, w64}
+use Rattle.geolint_c.specs.Features.{IsOffset}
+use Rattle.geolint_c.proofs.features.FeatureHandle.offset.Met.{met}
+use Rattle.geolint_c.proofs.features.geolint_features_offset.Statement.{statement}
+use Rattle.geolint_c.proofs.features.geolint_features_offset.Code as code
+
+pub geolint_features_offset_spec : {M : Type 1} → statement M
+geolint_features_offset_spec 𝓤 𝓛 𝓜 𝓡 wired = calls 𝓤 𝓛 𝓜 𝓡 0 [] tt FeatureRow (zero_at_null 𝓤 𝓛 𝓜 𝓡 w64 tt) (λ x. IsOffset)
+    _ _ (met 𝓤 𝓛 𝓜 𝓡 (code.calls-geolint_c::features::FeatureHandle::offset 𝓡.env wired)) (code.unfolded 𝓤 𝓛.H 𝓜 𝓡 wired)

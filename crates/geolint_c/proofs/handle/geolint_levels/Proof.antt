@@ -1,0 +1,10 @@
+-- `geolint_levels` meets its contract: a call of `Handle::levels`, but at null.
+use Rattle.geolint_c.proofs.HandleCalls.{calls, HandleRow, [], zero_at_null, w32}
+use Rattle.geolint_c.specs.Handle.{IsLevels}
+use Rattle.geolint_c.proofs.handle.Handle.levels.Met.{met}
+use Rattle.geolint_c.proofs.handle.geolint_levels.Statement.{statement}
+use Rattle.geolint_c.proofs.handle.geolint_levels.Code as code
+
+pub geolint_levels_spec : {M : Type 1} → statement M
+geolint_levels_spec 𝓤 𝓛 𝓜 𝓡 wired = calls 𝓤 𝓛 𝓜 𝓡 0 [] tt HandleRow (zero_at_null 𝓤 𝓛 𝓜 𝓡 w32 tt) (λ x. IsLevels)
+    _ _ (met 𝓤 𝓛 𝓜 𝓡 (code.calls-geolint_c::handle::Handle::levels 𝓡.env wired)) (code.unfolded 𝓤 𝓛.H 𝓜 𝓡 wired)

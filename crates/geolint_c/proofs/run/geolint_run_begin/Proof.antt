@@ -1,0 +1,13 @@
+-- `geolint_run_begin` meets its contract: what `RunHandle::begun` gives is written, but at null.
+use Rattle.geolint_c.proofs.HandleCalls.{begins, numbers, are_made, refl}
+use Rattle.geolint_c.specs.Run.{IsBegun, BegunStatus}
+use Rattle.geolint_c.proofs.run.RunHandle.TheLaws.{the_row_laws as R_laws}
+use Rattle.geolint_c.proofs.run.RunHandle.begun.Met.{met}
+use Rattle.geolint_c.proofs.run.begun_status.Met.{met as status_met}
+use Rattle.geolint_c.proofs.run.geolint_run_begin.Statement.{statement}
+use Rattle.geolint_c.proofs.run.geolint_run_begin.Code as code
+
+pub geolint_run_begin_spec : {M : Type 1} → statement M
+geolint_run_begin_spec 𝓤 𝓛 𝓜 𝓡 wired = begins 𝓤 𝓛 𝓜 𝓡 (numbers 𝓛) tt tt (are_made 𝓛) (R_laws.lawful 𝓛) refl
+    (λ x. IsBegun x.0 x.1.0) (λ x. BegunStatus x.0 x.1.0) _ _ _ (met 𝓤 𝓛 𝓜 𝓡 (code.calls-geolint_c::run::RunHandle::begun 𝓡.env wired))
+    (status_met 𝓤 𝓛 𝓜 𝓡 (code.calls-geolint_c::run::begun_status 𝓡.env wired)) (code.unfolded 𝓤 𝓛.H 𝓜 𝓡 wired)

@@ -1,5 +1,0 @@
-use Rattle.std.proofs.lemmas.Str.Ascii.{trim_ascii_end_is}
-use Rattle.gj_hints.proofs.spelling.without_white_behind.Goals as goal
-
-pub returns : goal.returns
-returns c = trim_ascii_end_is c.args.bytes.now c.trim_ascii_end.result.now c.trim_ascii_end.ensures.value
