@@ -1,6 +1,5 @@
 use Rattle.gj_number.proofs.Common.{ap, get_or, ◌++◌, ◌∙◌}
-use Rattle.gj_number.specs.Internal.DigitLanes.{by_fours}
-use Rattle.gj_number.proofs.Shorts.SixteenLanes.{joined_at, eights_small, fours_joined, second_joined}
+use Rattle.gj_number.proofs.Shorts.SixteenLanes.{joined_at, eights_small, fours_joined}
 use Rattle.gj_number.proofs.lanes.numbers_of.Goals as goal
 
 pub sixteens_of-requires : goal.sixteens_of-requires
@@ -11,9 +10,3 @@ pub returns-clause-first : goal.returns-clause-first
 returns-clause-first c =
     ap (λ rs. get_or rs 0 0) c.sixteens_of.ensures ∙ ap (λ fs. joined_at (fs ++ c.fours_of-2.result) 0) c.fours_of.ensures
     ∙ fours_joined c.args.first c.fours_of-2.result c.fits-first.0 c.requires.first
-
-pub returns-clause-second : goal.returns-clause-second
-returns-clause-second c =
-    ap (λ rs. get_or rs 1 0) c.sixteens_of.ensures ∙ ap (λ fs. joined_at (fs ++ c.fours_of-2.result) 4) c.fours_of.ensures
-    ∙ ap (λ gs. joined_at (by_fours c.args.first ++ gs) 4) c.fours_of-2.ensures
-    ∙ second_joined c.args.first c.args.second c.fits-first.0 c.fits-second.0 c.requires.second

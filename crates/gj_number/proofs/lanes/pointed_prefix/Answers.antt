@@ -1,7 +1,7 @@
 use Rattle.gj_number.proofs.Common.{List, ap, arith, get_or, subst, sym, with_value, ℕ, ◌<◌, ◌∙◌}
 use Rattle.std.specs.Simd.Lanes.{Each1}
 use Rattle.std.specs.List.{fold}
-use Rattle.gj_number.proofs.Shorts.PointedNumbers.{before_ends, before_found, both_fit, pointed_small, pointed_spell, after_ends, after_some}
+use Rattle.gj_number.proofs.Shorts.PointedNumbers.{before_found, both_fit, pointed_small, pointed_spell, after_ends, after_some}
 use Rattle.gj_number.proofs.lanes.pointed_prefix.Goals as goal
 use Rattle.gj_number.proofs.lanes.pointed_prefix.Goals.{then-natural-eq0-via-then-natural-eq0, then-natural-eq0-via-else-natural-eq0+then-natural-gt3}
 use Rattle.gj_number.proofs.lanes.pointed_prefix.Goals.{then-natural-eq0-via-else-natural-eq0+else-natural-gt3+then-piece-natural-ne46}
@@ -43,11 +43,6 @@ pub returns-then-fraction-eq0-clause-taken : goal.returns-then-fraction-eq0-clau
 returns-then-fraction-eq0-clause-taken c =
     λ n f p. absurd (after_some c.args.piece.now _ c.requires c.type_inv.piece c.lanes_of-lanes.ensures _ c.from_ten_ended-others.ensures
     (omega (arith, c.if-natural-gt3.false)) n f p c.if-fraction-eq0.true)
-
-pub returns-clause-point : goal.returns-clause-point
-returns-clause-point c =
-    before_ends c.args.piece.now _ c.requires c.type_inv.piece c.lanes_of-lanes.ensures _ c.from_ten_ended-others.ensures
-    (omega (arith, c.if-natural-gt3.false))
 
 pub returns-clause-ends : goal.returns-clause-ends
 returns-clause-ends c =

@@ -68,10 +68,6 @@ pub returns-then-piece-natural-ne46-clause-ends : goal.returns-then-piece-natura
 returns-then-piece-natural-ne46-clause-ends c =
     natural_ends c.args.piece.now _ c.requires c.type_inv.piece c.lanes_of-lanes.ensures _ c.from_ten-others.ensures c.if-others-eq0.false
 
-pub returns-clause-ends : goal.returns-clause-ends
-returns-clause-ends c =
-    natural_ends c.args.piece.now _ c.requires c.type_inv.piece c.lanes_of-lanes.ensures _ c.from_ten-others.ensures c.if-others-eq0.false
-
 pub returns-then-piece-natural-ne46-clause-last : goal.returns-then-piece-natural-ne46-clause-last
 returns-then-piece-natural-ne46-clause-last c =
     natural_ends c.args.piece.now _ c.requires c.type_inv.piece c.lanes_of-lanes.ensures _ c.from_ten-others.ensures c.if-others-eq0.false
@@ -81,9 +77,6 @@ returns-clause-last c =
     let after = next c.args.piece.now _ c.requires c.type_inv.piece c.lanes_of-lanes.ensures _ c.from_ten-others.ensures c.if-others-eq0.false
     c.if-rest-eq0.false in
     lanes_end c.args.piece.now _ c.requires c.type_inv.piece c.lanes_of-lanes.ensures _ c.from_ten-others.ensures _ _ after.1 after.0
-
-pub returns-clause-point : goal.returns-clause-point
-returns-clause-point c = λ none point. c.if-fraction-eq0.false none
 
 pub returns-then-others-eq0-clause-taken : goal.returns-then-others-eq0-clause-taken
 returns-then-others-eq0-clause-taken c = λ n few u.

@@ -1,9 +1,5 @@
-use Rattle.gj_number.proofs.Value.OneDenotation.{denoted_normal}
 use Rattle.gj_number.proofs.Value.SameDecimals.{same_value}
 use Rattle.gj_number.proofs.laws.one_form.Goals as goal
-
-pub returns-clause-denoted : goal.returns-clause-denoted
-returns-clause-denoted c = denoted_normal
 
 pub returns-clause-same : goal.returns-clause-same
 returns-clause-same c = same_value

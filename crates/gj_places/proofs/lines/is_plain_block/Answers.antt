@@ -1,5 +1,5 @@
-use Rattle.std.proofs.Common.{arith, ◌≤◌, ◌<◌, ap, ◌∙◌, ◌∷◌, [], false, length, take, get_or}
-use Rattle.std.proofs.lemmas.List.{take_more, take_all}
+use Rattle.std.proofs.Common.{arith, ◌<◌, ap, ◌∙◌, ◌∷◌, [], false, length, take, get_or}
+use Rattle.std.proofs.lemmas.List.{take_more}
 use Rattle.std.proofs.lemmas.Bool.{and_parts}
 use Rattle.gj_places.specs.Lines.{has_line_feed}
 use Rattle.gj_places.proofs.CountedPieces.{counted, characters-take}
@@ -19,11 +19,3 @@ loop-byte-preserved c = λ is.
       ap has_line_feed (take_more block i 0 within) ∙ has-neither (take i block) (byte ∷ []) (has-one byte false plain.0) ∙ front.0,
       omega (arith, characters-take block i within, one, front.1),
     )
-
-pub returns : goal.returns
-returns c = λ is.
-    let block = c.args.block.now in
-    let all = c.loop-byte.invariant is in
-    let end : length block ≤ c.loop-byte.byte-index = omega (arith, c.loop-byte-test.false, c.loop-byte.auto.byte-index-end) in
-    let here = rw (take_all c.loop-byte.byte-index block end) at all in
-    (here.0, omega (arith, here.1, end, c.loop-byte.auto.byte-index-end))

@@ -25,12 +25,6 @@ returns-then-digit-ne0-2 c whole fraction old =
           d.all d.count d.pending d.places whole fraction c.args.digit c.if-digit-ne0-2.true c.requires c.if-self-lt-MOST_PLACES.false old,
     ))
 
-pub returns-else-self-ne0 : goal.returns-else-self-ne0
-returns-else-self-ne0 c whole fraction old =
-    let d = c.args.self.now in
-    rw (c.if-digit-ne0.false) (zero_fraction d.all d.count d.pending d.places whole fraction d.pending (d.places + 1) old
-    (λ none. omega arith) (λ some. absurd (some c.if-self-ne0.false)) (λ room. omega arith) (λ full. omega arith))
-
 pub returns-else-digit-ne0-2 : goal.returns-else-digit-ne0-2
 returns-else-digit-ne0-2 c whole fraction old =
     let d = c.args.self.now in

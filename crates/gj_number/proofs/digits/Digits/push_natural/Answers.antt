@@ -1,5 +1,4 @@
-use Rattle.gj_number.proofs.Common.{arith}
-use Rattle.gj_number.proofs.Literals.OneDigitMore.{keep_natural, none_natural}
+use Rattle.gj_number.proofs.Literals.OneDigitMore.{keep_natural}
 use Rattle.gj_number.proofs.digits.Digits.push_natural.Goals as goal
 
 pub returns-then-digit-ne0 : goal.returns-then-digit-ne0
@@ -12,8 +11,3 @@ returns-then-digit-ne0 c whole old =
 
 pub returns-then-self-gt0 : goal.returns-then-self-gt0
 returns-then-self-gt0 c whole old = rw (c.if-digit-ne0.false) (c.add_zero.ensures whole old)
-
-pub returns-else-self-gt0 : goal.returns-else-self-gt0
-returns-else-self-gt0 c whole old =
-    let d = c.args.self.now in
-    rw (c.if-digit-ne0.false) (none_natural d.all d.count d.pending d.places whole (omega arith) old)

@@ -20,9 +20,6 @@ loop-at-preserved c =
           run_stands bytes piece (i + 1) n c.push.new.self c.push.new.self c.pass_run-at.ensures.stands one);
     }
 
-pub returns-in-Ends-clause-stands : goal.returns-in-Ends-clause-stands
-returns-in-Ends-clause-stands c = λ bytes h. rw (c.push.ensures.kept c.in-Ends.is) (c.loop-at.invariant.stands bytes h)
-
 pub returns-in-Ends-clause-begins : goal.returns-in-Ends-clause-begins
 returns-in-Ends-clause-begins c = λ bytes h. stands_begin c.push.new.self bytes h
 

@@ -12,9 +12,3 @@ returns-in-Some c =
     ap (option_map (signed s.negative)) (sym c.in-Some.is ∙ c.magnitude_within.ensures.magnitude)
     ∙ cut_within_is s.negative s.digits s.places (c.args.most * 10000000) s.small (omega arith) in
     rw (to_z-of_z w32 c.small_with_sign.result fits) (ap Some c.small_with_sign.ensures ∙ e)
-
-pub returns-in-None : goal.returns-in-None
-returns-in-None c =
-    let s = c.args.self in
-    ap (option_map (signed s.negative)) (sym c.in-None.is ∙ c.magnitude_within.ensures.magnitude)
-    ∙ cut_within_is s.negative s.digits s.places (c.args.most * 10000000) s.small (omega arith)

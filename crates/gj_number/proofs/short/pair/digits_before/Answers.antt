@@ -2,7 +2,7 @@ use Rattle.gj_number.proofs.Common.{List, SpellsUnsigned, ap, arith, bool_byte, 
 use Rattle.gj_number.proofs.Common.{with_value, zero_digit, ℕ, ◌+◌, ◌-◌, ◌∙◌, ◌≡◌, ◌≤◌}
 use Rattle.std.specs.List.{fold}
 use Rattle.gj_number.proofs.Shorts.NumberPrefixes.{sign_at, sign_length, one_of, short_small, short_plain}
-use Rattle.gj_number.proofs.Shorts.PointedNumbers.{slice_pointed, usual_one, usual_length, one_before_point, point_after_one}
+use Rattle.gj_number.proofs.Shorts.PointedNumbers.{slice_pointed, usual_length, one_before_point}
 use Rattle.gj_number.proofs.short.pair.digits_before.Goals as goal
 use Rattle.gj_number.proofs.short.pair.digits_before.Goals.{else-piece-first-eq48-via-then-piece-first-eq48+else-piece-first-ne46}
 use Rattle.gj_number.proofs.short.pair.digits_before.Goals.{else-piece-first-eq48-via-else-piece-first-eq48}
@@ -56,20 +56,6 @@ returns-clause-spells c =
 
 pub returns-in_default-clause-taken : goal.returns-in_default-clause-taken
 returns-in_default-clause-taken c = λ n u. c.in_default.ensures.taken _ _ (slice_pointed c.args.piece.now c.args.negative n c.args.after c.requires.sign u)
-
-pub returns-then-piece-first-ne46-clause-taken : goal.returns-then-piece-first-ne46-clause-taken
-returns-then-piece-first-ne46-clause-taken c = λ n u.
-    let piece = c.args.piece.now in
-    let negative = c.args.negative in
-    let first = bool_byte negative in
-    let k : first ≤ 1 = sign_length negative in
-    let found = c.in-Some.found in
-    let is = c.in-Some.ensures in
-    let one = usual_one piece negative n c.args.after c.requires.sign u found.natural found.fraction _ _ is.spells is.point is.ends is.few
-    (omega (arith, length-drop first piece, length-take (length piece - first) (drop first piece))) c.if-piece-first-eq48.true in
-    let P : List ℕ → Type 0 =
-    λ xs. SpellsUnsigned xs found.natural found.fraction (found.natural + 1 + found.fraction) (fold with_value 0 found.digits) in
-    absurd (c.if-piece-first-ne46.true (point_after_one piece first found.natural found.fraction _ (subst P (take_rest piece first) is.spells) one))
 
 pub returns-then-piece-length-clause-taken : goal.returns-then-piece-length-clause-taken
 returns-then-piece-length-clause-taken c = λ n u.

@@ -18,9 +18,6 @@ returns-then-not-is_natural-clause-taken c = λ count o.
     let f = c.if-not-is_natural.true in
     let e : true ≡ false = sym t ∙ f in cc
 
-pub returns-then-piece-end-ne46-clause-few : goal.returns-then-piece-end-ne46-clause-few
-returns-then-piece-end-ne46-clause-few c = let k = sign_length c.args.negative in let f = c.first_run-natural.ensures.few in omega arith
-
 pub returns-then-piece-end-ne46-clause-plain : goal.returns-then-piece-end-ne46-clause-plain
 returns-then-piece-end-ne46-clause-plain c = λ positive.
     let piece = c.args.piece.now in
@@ -66,10 +63,6 @@ returns-then-fraction-eq0-clause-taken c = λ count o.
     let f = c.fraction_run-fraction.ensures.whole _ (run_rest piece (first + n + 1) _ p.1) (omega arith) in
     let some = p.0 in
     absurd (omega (arith, c.if-fraction-eq0.true))
-
-pub returns-clause-few : goal.returns-clause-few
-returns-clause-few c = let k = sign_length c.args.negative in let f = c.first_run-natural.ensures.few in let g =
-    c.fraction_run-fraction.ensures.few in omega arith
 
 pub returns-clause-plain : goal.returns-clause-plain
 returns-clause-plain c = λ positive.
