@@ -137,7 +137,7 @@ impl Positions {
         ensures { self.new ≡ sound_joined self.old values.now corner }
     {
         match &self.first {
-            Some(first) => self.closes = first.same(values),
+            Some(first) => self.closes = *first == *values,
             None => {
                 self.first = Some(*values);
                 self.closes = true;
