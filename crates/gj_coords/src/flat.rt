@@ -2,7 +2,7 @@
 ghost use Rattle.std.specs.Prelude.{◌≡◌, ◌↔◌, ◌≤◌, Some, IfSome, IsTrue, true, false};
 ghost use Rattle.gj_number.specs.Short.{exact_of};
 ghost use Rattle.gj_coords.specs.CoordinateWarnings.{is_precise};
-ghost use Rattle.gj_coords.specs.Internal.PositionGather.{corner_in, position_noted, sound_noted};
+ghost use Rattle.gj_coords.specs.Internal.PositionGather.{corner_in, position_noted, same_values, sound_noted};
 ghost use Rattle.gj_coords.specs.PlainPoint.{IsNumberShort, IsWrittenShort};
 ghost use Rattle.gj_coords.specs.Internal.KeptWarnings.{nothing_noted};
 ghost use Rattle.gj_coords.specs.Internal.FlatPosition.{flat_values, flat_position, flat_precise, third_value, third_precise};
@@ -38,17 +38,35 @@ fn third_value(third: &Option<Numbered>) -> Option<Decimal>
     }
 }
 
-/// Its exact values.
+/// Writes its exact values where they are kept, which takes less than to write them all and then to copy them.
 #[inline(always)]
-pub fn values(flat: &Flat) -> Values
-    ensures { result ≡ flat_values flat.now }
+pub fn keep_values(flat: &Flat, kept: &mut Option<Values>)
+    ensures { kept.new ≡ Some (flat_values flat.now) }
 {
-    Values {
+    *kept = Some(Values {
         count: count(flat),
-        first: Some(flat.first.value.decimal()),
-        second: Some(flat.second.value.decimal()),
-        third: third_value(&flat.third),
+        first: None,
+        second: None,
+        third: None,
+    });
+    if let Some(values) = kept {
+        values.first = Some(flat.first.value.decimal());
+        values.second = Some(flat.second.value.decimal());
+        if flat.third.is_some() {
+            values.third = third_value(&flat.third);
+        }
     }
+}
+
+/// Whether these are its exact values.
+#[inline(always)]
+pub fn has_values(flat: &Flat, values: &Values) -> bool
+    ensures { result ≡ same_values values.now (flat_values flat.now) }
+{
+    values.count == count(flat)
+        && values.first == Some(flat.first.value.decimal())
+        && values.second == Some(flat.second.value.decimal())
+        && values.third == third_value(&flat.third)
 }
 
 /// Whether a number is written with at most seven places, so that it is not too precise.

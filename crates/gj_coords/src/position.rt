@@ -42,7 +42,7 @@ pub struct Numbers {
 
 impl Values {
     ghost use Rattle.std.specs.Prelude.{◌≡◌};
-    ghost use Rattle.gj_coords.specs.Internal.PositionGather.{no_values, pushed, same_values, corner_in};
+    ghost use Rattle.gj_coords.specs.Internal.PositionGather.{no_values, pushed, corner_in};
 
     pub fn none() -> Values
         ensures { result ≡ no_values }
@@ -74,13 +74,6 @@ impl Values {
             _ => return,
         }
         self.count += 1;
-    }
-
-    /// Whether both have the same values, and as many.
-    pub fn same(&self, other: &Values) -> bool
-        ensures { result ≡ same_values self.now other.now }
-    {
-        *self == *other
     }
 
     /// The corner of the first two, where they are in range.

@@ -112,8 +112,23 @@ impl Positions {
     {
         let corner = flat::judge(position, &mut self.warned);
         if self.fault.is_none() {
-            self.add_sound(&flat::values(position), corner);
+            self.add_sound_flat(position, corner);
         }
+    }
+
+    /// Adds such a position without a fault after others without one.
+    #[inline(always)]
+    fn add_sound_flat(&mut self, position: &Flat, corner: Option<Corner>)
+        ensures { self.new ≡ sound_joined self.old (flat_values position.now) corner }
+    {
+        match &self.first {
+            Some(first) => self.closes = flat::has_values(position, first),
+            None => {
+                flat::keep_values(position, &mut self.first);
+                self.closes = true;
+            }
+        }
+        self.winding.add(corner);
     }
 
     /// Adds a position without a fault after others without one.
@@ -122,7 +137,7 @@ impl Positions {
         ensures { self.new ≡ sound_joined self.old values.now corner }
     {
         match &self.first {
-            Some(first) => self.closes = first.same(values),
+            Some(first) => self.closes = *first == *values,
             None => {
                 self.first = Some(*values);
                 self.closes = true;

@@ -130,12 +130,14 @@ fn read_in_loop<const FEW: bool>(
     ensures spelled { SpellsPositions (gap_of separators.now) (take result positions.new) start piece.now }
     ensures next { HasHead separators.now (drop (place_after_all (gap_of separators.now) (take result positions.new) start - start) piece.now) }
 {
+    // A copy is not written over by what the loop writes, so the loop keeps it in registers.
+    let separators = *separators;
     let end = start + piece.len() as u64;
     let mut count = 0;
     let mut rest = piece;
     while count < MOST_POSITIONS {
         let place = end - rest.len() as u64;
-        let Some(position) = read_position::<FEW>(rest, separators, place) else {
+        let Some(position) = read_position::<FEW>(rest, &separators, place) else {
             return count;
         };
         rest = &rest[position.close_at as usize + 2 + separators.gap()..];
