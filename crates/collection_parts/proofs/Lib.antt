@@ -1,3 +1,6 @@
 mod ReadBytes
 mod TrueSums
+mod SeamsRead
+mod LikelyPlaces
+mod FoundParts
 mod PlacesInTexts

@@ -1,2 +1,4 @@
 pub mod Sums
+pub mod ReadRuns
+pub mod Likely
 pub mod Internal

@@ -2,6 +2,7 @@
 
 ghost use Rattle.std.specs.Prelude.{◌≡◌, IfOk, IfSome};
 ghost use Rattle.geolint_report.specs.Judged.{CountsFailure};
+ghost use Rattle.collection_parts.specs.Likely.{HasRun};
 ghost use Rattle.collection_parts.specs.Sums.{IsTruePart, part_of};
 
 use crate::likely::likely_place;
@@ -27,6 +28,7 @@ pub fn check_features<S: Rewind, C: Counts>(
     counts: &mut C,
 ) -> io::Result<CheckedPart>
     ensures part { IfOk result (λ part. IfSome (S.text source.old) (λ text. IsTruePart limits text part)) }
+    ensures run { IfOk result (λ part. IfSome (S.text source.old) (λ text. HasRun limits text share size part)) }
     ensures text { S.text source.new ≡ S.text source.old }
     ensures failed { CountsFailure (S.failed_reads source.old) (S.failed_reads source.new) result }
 {

@@ -1,7 +1,9 @@
 //! Reads a run of features.
 
-ghost use Rattle.std.specs.Prelude.{◌≡◌, IfOk, IfSome};
+ghost use Rattle.std.specs.Prelude.{◌≡◌, ◌⊎◌, ◌<◌, ◌≤◌, false, IfOk, IfSome, IsSome, IsTrue};
 ghost use Rattle.geolint_report.specs.Judged.{CountsFailure};
+ghost use Rattle.gj_rules.specs.Linter.{refusal_in};
+ghost use Rattle.collection_parts.specs.ReadRuns.{IsEnough, ReadsTo};
 ghost use Rattle.collection_parts.specs.Sums.{IsSumIn};
 
 use geolint_report::judge::PIECE;
@@ -19,8 +21,8 @@ pub struct ReadRun {
     pub sum: FeatureSum,
     /// The byte offset after the last byte that was read.
     pub reached: u64,
-    /// Whether what follows the features is no JSON after them.
-    pub is_refused: bool,
+    /// Whether what follows the features is refused as JSON after them.
+    pub progress: Progress,
 }
 
 /// Reads the bytes from one place up to another, as if a feature of the text had ended at the first, until they can lengthen the run no
@@ -34,39 +36,57 @@ pub fn read_run<S: Rewind, C: Counts>(
     counts: &mut C,
 ) -> io::Result<ReadRun>
     ensures sum { IfOk result (λ run. IfSome (S.text source.old) (λ text. IsSumIn limits.depth text run.sum)) }
+    ensures read { IfOk result (λ run. IfSome (S.text source.old) (λ text. ReadsTo limits text begin end enough run)) }
     ensures text { S.text source.new ≡ S.text source.old }
     ensures failed { CountsFailure (S.failed_reads source.old) (S.failed_reads source.new) result }
 {
-    let Some(mut run) = RunLinter::new(limits, begin) else {
+    let Some(mut linter) = RunLinter::new(limits, begin) else {
         return Ok(ReadRun {
             sum: no_features(begin),
             reached: begin,
-            is_refused: false,
+            progress: Progress::Open,
         });
     };
     let mut piece = [0; PIECE];
-    let mut place = begin;
-    let mut is_refused = false;
+    let mut run = ReadRun {
+        sum: linter.sum(),
+        reached: begin,
+        progress: Progress::Open,
+    };
     let mut is_open = true;
-    while is_open && place < end {
-        let count = source.read_from(place, &mut piece)?;
-        let taken = count.min((end - place) as usize);
-        is_refused = run.feed(&piece[..taken]) != Progress::Open;
+    while is_open && run.reached < end {
+        let count = source.read_from(run.reached, &mut piece)?;
+        let taken = count.min((end - run.reached) as usize);
+        let progress = linter.feed(&piece[..taken]);
         counts.add_bytes(taken);
-        place += taken as u64;
-        let is_enough = place - begin >= enough && run.sum().features > 0;
-        is_open = (taken > 0) & !is_refused & !is_enough & !run.has_ended();
+        run = ReadRun {
+            sum: linter.sum(),
+            reached: run.reached + taken as u64,
+            progress,
+        };
+        is_open = goes_on(&run, begin, enough, taken, linter.has_ended());
     }
-    Ok(ReadRun {
-        sum: run.sum(),
-        reached: place,
-        is_refused,
-    })
+    Ok(run)
+}
+
+/// Whether more is to be read of a run, given how many bytes came at last, and whether a feature with a fault has ended.
+fn goes_on(run: &ReadRun, begin: u64, enough: u64, taken: usize, has_ended: bool) -> bool
+    requires { begin ≤ run.now.reached }
+    ensures stops { result ≡ false → (taken ≡ 0) ⊎ (IsEnough begin enough run.now ⊎ (IsSome (refusal_in run.now.progress) ⊎ IsTrue has_ended)) }
+    ensures some { IsTrue result → 0 < taken }
+{
+    match run.progress {
+        Progress::Open => {
+            let is_enough = run.reached - begin >= enough && run.sum.features > 0;
+            taken > 0 && !is_enough && !has_ended
+        }
+        Progress::Refused(_) => false,
+    }
 }
 
 /// The sum of no bytes.
 pub fn no_features(place: u64) -> FeatureSum
-    ensures { (result.begin ≡ place) × (result.end ≡ place) }
+    ensures { (result.begin ≡ place) × (result.end ≡ place) × (result.features ≡ 0) }
 {
     FeatureSum {
         begin: place,

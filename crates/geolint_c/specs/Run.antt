@@ -8,7 +8,7 @@ use Rattle.gj_rules.specs.FeatureFindings.{findings_by, least_found}
 use Rattle.gj_rules.specs.Linter.{Answers}
 use Rattle.gj_rules.specs.declared.linter.Progress.{Progress}
 use Rattle.gj_runs.specs.RunLinter.{StandsFor as RunStandsFor, limits_of}
-use Rattle.gj_runs.specs.Runs.{IsLongestSum, stand_at}
+use Rattle.gj_runs.specs.Runs.{IsLongestSum, IsOver, stand_at}
 use Rattle.gj_runs.specs.declared.sum.FeatureSum.{FeatureSum}
 use Rattle.geolint_c.specs.declared.run.RunHandle.{RunHandle}
 use Rattle.geolint_c.specs.declared.sum.Sum.{Sum}
@@ -65,5 +65,6 @@ SaysLongest limits begin bytes told = (found : FeatureSum) × IsLongestSum limit
 pub record IsTold (old : RunHandle) (told : Sum) (new : RunHandle) : Type 0 where
   pub sum : (limits : Allowed) (begin : ℕ) (bytes : List ℕ) → StandsFor old limits begin bytes → (told.status ≡ 0) × SaysLongest limits begin bytes told
   pub fault : (limits : Allowed) (begin : ℕ) (bytes : List ℕ) → StandsFor old limits begin bytes → HasFault limits begin bytes (told.ended ≡ 1)
+  pub over : (limits : Allowed) (begin : ℕ) (bytes : List ℕ) → StandsFor old limits begin bytes → told.ended ≡ 1 → IsOver limits begin bytes
   pub ended : old.run ≡ None → told ≡ no_sum 2
   pub unchanged : new ≡ old

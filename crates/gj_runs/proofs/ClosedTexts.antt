@@ -89,7 +89,7 @@ module _ (marked : Bool) (a : Around) where
   others_deep [] more = omega arith
   others_deep (m ∷ done) more = omega (arith, others_deep done (member m.place m.name m.end m.value more))
 
-  other_depth : (d n : ℕ) (bytes : List ℕ) (c : Closing n bytes) (done other : List Tree) (v w : Tree) → depth (closed_by c a done v) ≤ d
+  pub other_depth : (d n : ℕ) (bytes : List ℕ) (c : Closing n bytes) (done other : List Tree) (v w : Tree) → depth (closed_by c a done v) ≤ d
       → FitsLeaf d (open_in a other) (value_done w) → depth (closed_by c a other w) ≤ d
   other_depth d n bytes c done other v w l f =
       let es = back_elements done (element v c.more) in

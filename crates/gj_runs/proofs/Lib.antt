@@ -15,6 +15,7 @@ mod SoundElements
 mod WholeTexts
 mod WholeVerdicts
 mod LongestRuns
+mod OverRuns
 mod FeatureOrder
 mod AlikeEnds
 mod LastEnds

@@ -4,14 +4,14 @@ use Rattle.std.proofs.lemmas.List.{length-append, length-replicate}
 use Rattle.std.proofs.Math.Path.{path_j, subst_refl}
 use Rattle.gj_json.specs.Broken.{Partial, back_elements, in_array, value_done}
 use Rattle.gj_json.specs.Bytes.{space}
-use Rattle.gj_json.specs.Text.{IsText, IsTextWithin}
-use Rattle.gj_json.specs.Tree.{Tree, element, end_of_array, end_of_object, Text}
+use Rattle.gj_json.specs.Text.{IsText, IsTextWithin, IsViableWithin}
+use Rattle.gj_json.specs.Tree.{Tree, depth, element, end_of_array, end_of_object, Text}
 use Rattle.gj_json.proofs.Grammar.SpelledForms
 use Rattle.gj_json.proofs.Machine.ValuePaths.{at, leads_none}
 use Rattle.gj_coords.specs.Items.{items}
 use Rattle.gj_rules.specs.FeatureFindings.{closing_of, end_of, feature_findings, features_of, finding_of, findings_from}
 use Rattle.gj_runs.specs.Runs.{AreFindingsOf, IsRun, OneEnds, spaces, stand_at, stand_end}
-use Rattle.gj_runs.proofs.ClosedTexts.{Closing, closed_features, closing_text, text_closing, text_of}
+use Rattle.gj_runs.proofs.ClosedTexts.{Closing, closed_features, closing_text, fits, other_depth, text_closing, text_of}
 use Rattle.gj_runs.proofs.ElementRuns.{OneOf, chain, done_after, last_of, up_to}
 use Rattle.gj_runs.proofs.EndedFeatures.{ended_feature}
 use Rattle.gj_runs.proofs.FeatureStates.{Stands}
@@ -110,9 +110,15 @@ closed_there n = record {
   spelled = SpelledForms.white_none (SpelledForms.closes_more refl (SpelledForms.white_none (SpelledForms.closes_more refl tt)));
 }
 
-pub found_there : (begin : ℕ) (run : List ℕ) (us : List Tree) → 15 ≤ begin → Reads begin run us → AreFindingsOf begin run (findings_from 1 us)
+pub record ClosedRun (begin : ℕ) (run : List ℕ) (us : List Tree) : Type 0 where
+  pub text : Text
+  pub text_of : IsText text (stand_at begin ++ (run ++ stand_end))
+  pub features : features_of text.value ≡ stand_element begin ∷ us
+  pub deep : (d : ℕ) → IsViableWithin d (stand_at begin ++ run) → depth text.value ≤ d
+
+pub closed_run : (begin : ℕ) (run : List ℕ) (us : List Tree) → 15 ≤ begin → Reads begin run us → ClosedRun begin run us
 unfolding closed_there
-found_there begin run us room reads =
+closed_run begin run us room reads =
     let t = stand_element begin in
     let bytes = stand_at begin ++ run in
     let s : Stands false stand_around bytes = read_on (stand_stands begin) (subst (λ n. Reads n run us) (sym (stand_length begin room)) reads) in
@@ -120,11 +126,20 @@ found_there begin run us room reads =
     record {
       text = text_of false c stand_around s.done s.value;
       text_of = rw (append_assoc (stand_at begin) run stand_end) at (closing_text false stand_around bytes stand_end s c);
-      first = finding_of 0 t;
-      findings =
-          ap (findings_from 0) (closed_features stand_around (back_elements s.done (element s.value end_of_array)) c.close c.others c.end
-          ∙ elements_after [] t us end_of_array ∙ ap (λ vs. t ∷ vs) (append-nil us));
+      features =
+          closed_features stand_around (back_elements s.done (element s.value end_of_array)) c.close c.others c.end
+          ∙ elements_after [] t us end_of_array ∙ ap (λ vs. t ∷ vs) (append-nil us);
+      deep = λ d v.
+          (let before : IsViableWithin d (stand_at begin) = (run ++ v.0, v.1, (subst (IsText v.1) (append_assoc (stand_at begin) run v.0) v.2.0, v.2.1)) in
+          let three = (fits false stand_around d (stand_at begin) (stand_stands begin) before).0 in
+          other_depth false stand_around d (length bytes) stand_end c [] s.done t s.value (omega (arith, three))
+          (fits false stand_around d bytes s v));
     }
+
+pub found_there : (begin : ℕ) (run : List ℕ) (us : List Tree) → 15 ≤ begin → Reads begin run us → AreFindingsOf begin run (findings_from 1 us)
+found_there begin run us room reads =
+    let k = closed_run begin run us room reads in
+    record { text = k.text; text_of = k.text_of; first = finding_of 0 (stand_element begin); findings = ap (findings_from 0) k.features }
 
 -- ---- bytes have one row of elements
 

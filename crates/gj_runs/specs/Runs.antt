@@ -64,3 +64,11 @@ pub record IsLongestSum (limits : Allowed) (begin : ℕ) (bytes : List ℕ) (sum
   pub is_sum : IsSumOf limits.depth (take (sum.end - begin) bytes) sum
   pub longest : (n : ℕ) (other : FeatureSum) → begin + n ≤ limits.bytes → other.begin ≡ begin → IsSumOf limits.depth (take n bytes) other
       → other.features ≤ sum.features
+
+-- no bytes that follow these make the longest run longer
+abbrev pub IsOver : Allowed → ℕ → List ℕ → Type 0
+IsOver limits begin bytes = (sum : FeatureSum) (rest : List ℕ) → IsLongestSum limits begin bytes sum → IsLongestSum limits begin (bytes ++ rest) sum
+
+-- a feature can have ended at the place: `{"features":[{}` has fifteen bytes and three levels
+abbrev pub MayBegin : Allowed → ℕ → Type 0
+MayBegin limits begin = (15 ≤ begin) × (begin ≤ limits.bytes) × (3 ≤ limits.depth)

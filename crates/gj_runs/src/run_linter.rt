@@ -19,13 +19,13 @@ impl RunLinter {
     ghost use Rattle.gj_json.specs.Text.{IsTextWithin};
     ghost use Rattle.gj_json.specs.Tree.{Text};
     ghost use Rattle.gj_rules.specs.FeatureFindings.{findings_by, least_found};
-    ghost use Rattle.gj_rules.specs.Linter.{Answers};
+    ghost use Rattle.gj_rules.specs.Linter.{Answers, refusal_in};
     ghost use Rattle.gj_runs.specs.RunLinter.{StandsFor, limits_of};
-    ghost use Rattle.gj_runs.specs.Runs.{IsLongestSum, stand_at};
+    ghost use Rattle.gj_runs.specs.Runs.{IsLongestSum, IsOver, MayBegin, stand_at};
 
     /// Before the first byte after a feature that ends at this place, or `None` where none can end there within these limits.
     pub fn new(limits: Limits, begin: u64) -> Option<RunLinter>
-        ensures some { IsSome result ↔ ((15 ≤ begin) × (begin ≤ limits.bytes) × (3 ≤ limits.depth)) }
+        ensures some { IsSome result ↔ MayBegin limits begin }
         ensures stands { IfSome result (λ run. StandsFor run begin []) }
         ensures limits { IfSome result (λ run. limits_of run ≡ limits) }
     {
@@ -44,6 +44,8 @@ impl RunLinter {
         ensures stands { (begin : ℕ) (bytes : List ℕ) → StandsFor self.old begin bytes → StandsFor self.new begin (bytes ++ piece.now) }
         ensures answer { (begin : ℕ) (bytes : List ℕ) → StandsFor self.old begin bytes
             → Answers (limits_of self.old) (stand_at begin ++ (bytes ++ piece.now)) result }
+        ensures over { (begin : ℕ) (bytes : List ℕ) → StandsFor self.old begin bytes → IsSome (refusal_in result)
+            → IsOver (limits_of self.old) begin (bytes ++ piece.now) }
         ensures limits { limits_of self.new ≡ limits_of self.old }
     {
         self.linter.feed(piece)
@@ -52,10 +54,11 @@ impl RunLinter {
     /// Whether a feature with a fault has ended after the place, so that the run ends before it, whatever follows: so it is for each
     /// text that goes on so and has fewer than 2^63 events.
     pub fn has_ended(&self) -> bool
-        ensures { (begin : ℕ) (bytes rest : List ℕ) (text : Text) → StandsFor self.now begin bytes
+        ensures fault { (begin : ℕ) (bytes rest : List ℕ) (text : Text) → StandsFor self.now begin bytes
             → IsTextWithin (limits_of self.now).depth text (stand_at begin ++ (bytes ++ rest)) → begin + length bytes ≤ (limits_of self.now).bytes
             → length (all_events text) < 2 ^ 63
             → IsTrue result ↔ IsSome (least_found (drop 1 (findings_by (begin + length bytes) text))) }
+        ensures over { (begin : ℕ) (bytes : List ℕ) → StandsFor self.now begin bytes → IsTrue result → IsOver (limits_of self.now) begin bytes }
     {
         !self.linter.sink().is_sound()
     }

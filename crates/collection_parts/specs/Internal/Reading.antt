@@ -1,5 +1,5 @@
 -- How far a text was read.
-use Rattle.std.specs.Prelude.{◌≡◌, ℕ, ◌<◌, ◌≤◌, List, length, take, None}
+use Rattle.std.specs.Prelude.{◌≡◌, ℕ, ◌+◌, ◌<◌, ◌≤◌, Bool, false, List, ◌++◌, length, take, drop, None}
 use Rattle.gj_json.specs.Limits.{Allowed}
 use Rattle.gj_json.specs.Refusal.{IsRefusal}
 use Rattle.gj_rules.specs.declared.linter.Progress.{Progress}
@@ -9,12 +9,25 @@ use Rattle.gj_runs.specs.RunLinter.{StandsFor}
 use Rattle.gj_runs.specs.declared.joiner.Joiner.{Joiner}
 use Rattle.gj_runs.specs.declared.run_linter.RunLinter.{RunLinter}
 use Rattle.sequence_parts.specs.Cuts.{bytes_between}
+use Rattle.collection_parts.specs.ReadRuns.{HasStopped, IsReadRun}
+use Rattle.collection_parts.specs.declared.runs.ReadRun.{ReadRun}
+
+-- so many bytes from the place on stand in the piece: all that there are, where it has room for more
+pub record IsFilled (text : List ℕ) (place count : ℕ) (piece : List ℕ) : Type 0 where
+  pub given : drop place text ≡ take count piece ++ drop (place + count) text
+  pub all : count < length piece → length text ≤ place + count
 
 -- the linter of a run was fed the bytes between these places
 pub record IsRead (text : List ℕ) (run : RunLinter) (begin place : ℕ) : Type 0 where
   pub ordered : begin ≤ place
   pub within : begin < place → place ≤ length text
   pub stands : StandsFor run begin (bytes_between begin place text)
+
+-- and this is said of them, where no more is to be read if it is not open
+pub record IsReading (limits : Allowed) (text : List ℕ) (linter : RunLinter) (begin enough : ℕ) (is_open : Bool) (run : ReadRun) : Type 0 where
+  pub is_read : IsRead text linter begin run.reached
+  pub says : IsReadRun limits text begin run
+  pub why : is_open ≡ false → HasStopped limits text begin enough run
 
 -- the joiner stands after the bytes before that place
 pub record IsAt (limits : Allowed) (text : List ℕ) (joiner : Joiner) (place : ℕ) : Type 0 where

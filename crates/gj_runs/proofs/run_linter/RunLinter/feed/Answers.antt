@@ -5,6 +5,7 @@ use Rattle.gj_rules.specs.Linter.{Answers}
 use Rattle.gj_runs.specs.RunLinter.{StandsFor, limits_of}
 use Rattle.gj_runs.specs.Runs.{stand_at}
 use Rattle.gj_runs.specs.Internal.Totals.{IsTotalOf}
+use Rattle.gj_runs.proofs.OverRuns.{over_refused}
 use Rattle.gj_runs.proofs.run_linter.RunLinter.feed.Goals as goal
 
 pub returns-clause-stands : goal.returns-clause-stands
@@ -22,3 +23,7 @@ unfolding StandsFor
 returns-clause-answer c = λ begin bytes h.
     let P : List ℕ → Type 0 = λ all. Answers (limits_of c.args.self.now) all c.feed.result in
     subst P (append_assoc (stand_at begin) bytes c.args.piece.now) (c.feed.ensures.answer (stand_at begin ++ bytes) h.3)
+
+pub returns-clause-over : goal.returns-clause-over
+returns-clause-over c = λ begin bytes h refused.
+    over_refused (limits_of c.args.self.now) begin (bytes ++ c.args.piece.now) c.feed.result refused (returns-clause-answer c begin bytes h)
