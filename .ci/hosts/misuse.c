@@ -135,9 +135,9 @@ static void texts(void) {
     wants(strcmp(geolint_rule(15), "ring not closed") == 0, "a rule's text");
     wants(strcmp(geolint_cause(GEOLINT_LENGTH), "too long") == 0, "a cause's text");
     wants(strcmp(geolint_warning(9), "crs is no longer used") == 0, "a warning's text");
-    wants(*geolint_rule(0) == 0 && *geolint_rule(22) == 0 && *geolint_rule(UINT32_MAX) == 0, "no rule");
+    wants(*geolint_rule(0) == 0 && *geolint_rule(GEOLINT_RULES + 1) == 0 && *geolint_rule(UINT32_MAX) == 0, "no rule");
     wants(*geolint_cause(0) == 0 && *geolint_cause(5) == 0, "no cause");
-    wants(*geolint_warning(0) == 0 && *geolint_warning(10) == 0, "no warning");
+    wants(*geolint_warning(0) == 0 && *geolint_warning(GEOLINT_KINDS + 1) == 0, "no warning");
     geolint_version_text(&text);
     wants(text.size == strlen(geolint_version()) + 1, "the version's size");
 }

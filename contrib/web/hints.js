@@ -4,7 +4,7 @@
 export const HEAD = 512;
 const AROUND = 256;
 
-/** What it says (`crates/gj_hints/specs/Texts.antt`), by a word for each, as the page names it in its languages. */
+/** What it says (`crates/gj_hints/src/kind.rt`), by a word for each, as the page names it in its languages. */
 const TEXTS = {
   gzip: "the file is compressed by gzip: gzip -dc < IN > OUT.geojson",
   zip: "the file is a zip archive: unzip IN, and see what is in it",

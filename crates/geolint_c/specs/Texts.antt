@@ -1,8 +1,6 @@
 -- The texts of rules, causes and kinds of warning, by the numbers in their names. They are those of the program's report.
 use Rattle.std.specs.Prelude.{ℕ, List, [], ◌∷◌, ◌++◌, map, codes, slice_index_or}
-use Rattle.gj_coords.specs.declared.fault.Rule.TheVariants.{G1, G2, G3, G4, G5, G6, G7, G8, G9, G10, G11, G12, G13, G14, G15, G16, G17, G18, G19, G20, G21}
-use Rattle.gj_coords.specs.Texts.{rule_text as text_of_rule, kind_text as text_of_kind}
-use Rattle.gj_coords.specs.Warnings.{kinds}
+use Rattle.gj_coords.specs.Texts.{rule_texts, kind_texts}
 use Rattle.gj_json.specs.declared.fault.Cause.TheVariants.{Syntax, Truncated, Depth, Length}
 use Rattle.gj_json.specs.Texts.{cause_text as text_of_cause}
 
@@ -11,14 +9,8 @@ abbrev pub with_zero : List ℕ → List ℕ
 with_zero text = text ++ (0 ∷ [])
 
 -- of the rules, in the order of their numbers, after an empty one; no text for another number
-abbrev pub rule_texts : List (List ℕ)
-rule_texts =
-    []
-    ∷ map text_of_rule
-    (G1 ∷ G2 ∷ G3 ∷ G4 ∷ G5 ∷ G6 ∷ G7 ∷ G8 ∷ G9 ∷ G10 ∷ G11 ∷ G12 ∷ G13 ∷ G14 ∷ G15 ∷ G16 ∷ G17 ∷ G18 ∷ G19 ∷ G20 ∷ G21 ∷ [])
-
 abbrev pub rule_text : ℕ → List ℕ
-rule_text number = slice_index_or rule_texts number []
+rule_text number = slice_index_or ([] ∷ rule_texts) number []
 
 -- of the causes, in the order of their numbers, after an empty one; no text for another number
 abbrev pub cause_texts : List (List ℕ)
@@ -27,12 +19,8 @@ cause_texts = [] ∷ map text_of_cause (Syntax ∷ Truncated ∷ Depth ∷ Lengt
 abbrev pub cause_text : ℕ → List ℕ
 cause_text number = slice_index_or cause_texts number []
 
--- of the kinds of warning, in the order of their numbers, after an empty one; no text for another number
-abbrev pub kind_texts : List (List ℕ)
-kind_texts = [] ∷ map text_of_kind kinds
-
 abbrev pub kind_text : ℕ → List ℕ
-kind_text number = slice_index_or kind_texts number []
+kind_text number = slice_index_or ([] ∷ kind_texts) number []
 
 abbrev pub version_text : List ℕ
 version_text = codes "0.1.0"

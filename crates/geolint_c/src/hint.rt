@@ -4,8 +4,8 @@ ghost use Rattle.geolint_c.specs.Hints.{is_later_syntax, out_of_range, wrong_if_
 ghost use Rattle.geolint_c.specs.Hints.{IsHintText, AreOpen, IsHintIn, hint_text};
 ghost use Rattle.geolint_c.specs.Texts.{with_zero};
 
-use crate::hint_texts::hint_text;
 use crate::report::{BROKEN, NOT_JSON, Report, VALID, Warned};
+use crate::texts::hint_text;
 use gj_hints::{Clues, Hint, Wrong, hint};
 use gj_json::{Event, EventSink, Limits, Reader, bytes_taken, one_refusal};
 

@@ -36,7 +36,6 @@ mod features;
 mod finding;
 mod handle;
 mod hint;
-mod hint_texts;
 mod join;
 mod last;
 mod latest;

@@ -1,36 +1,41 @@
-//! The texts of rules, causes and kinds of warning, each with a byte 0 at its end.
-ghost use Rattle.std.specs.Prelude.{◌≡◌};
+//! The texts of rules, causes, kinds of warning and hints, each with a byte 0 at its end.
+ghost use Rattle.std.specs.Prelude.{◌≡◌, [], map, get_or};
+ghost use Rattle.geolint_c.specs.Hints.{hint_text};
 ghost use Rattle.geolint_c.specs.Texts.{rule_text, cause_text, kind_text, version_text, with_zero};
+
+use gj_hints::Hint;
+
+/// The texts that a table has, in its order, after an empty one.
+macro_rules! with_zeros {
+    ($of:ident: $($name:ident => $text:literal,)*) => {
+        &["\0", $(concat!($text, "\0")),*]
+    };
+}
+
+const RULE_TEXTS: &[&str] = gj_coords::rule_texts!(with_zeros);
+
+const CAUSE_TEXTS: &[&str] = &["\0", "syntax\0", "truncated\0", "too deep\0", "too long\0"];
+
+const KIND_TEXTS: &[&str] = gj_coords::kind_texts!(with_zeros);
+
+const HINT_TEXTS: &[&str] = gj_hints::hint_texts!(with_zeros);
+
+/// The text of that number; an empty text where there is none.
+fn text_at(texts: &[&'static str], number: usize) -> &'static [u8]
+    ensures { result.now ≡ get_or (map (λ text. text.now) texts.now) number (with_zero []) }
+{
+    match texts.get(number) {
+        Some(text) => text.as_bytes(),
+        None => b"\0",
+    }
+}
 
 /// What the rule of this number says; an empty text where there is no such rule.
 #[unsafe(no_mangle)]
 pub extern "C" fn geolint_rule_text(rule: u32, text: &mut &'static [u8])
     ensures { text.new.now ≡ with_zero (rule_text rule) }
 {
-    *text = match rule {
-        1 => b"not an object\0",
-        2 => b"type missing\0",
-        3 => b"type not allowed here\0",
-        4 => b"coordinates missing\0",
-        5 => b"geometries missing\0",
-        6 => b"geometry missing\0",
-        7 => b"properties missing\0",
-        8 => b"features missing\0",
-        9 => b"member forbidden by section 7.1\0",
-        10 => b"name repeated\0",
-        11 => b"coordinates of the wrong shape\0",
-        12 => b"position of fewer than two elements\0",
-        13 => b"line of fewer than two elements\0",
-        14 => b"ring of fewer than four elements\0",
-        15 => b"ring not closed\0",
-        16 => b"number beyond the profile\0",
-        17 => b"not an array\0",
-        18 => b"properties neither object nor null\0",
-        19 => b"id neither string nor number\0",
-        20 => b"bbox or its element of the wrong kind\0",
-        21 => b"bbox length odd or below 4\0",
-        _ => b"\0",
-    };
+    *text = text_at(RULE_TEXTS, rule as usize);
 }
 
 /// What the cause of this number says; an empty text where there is no such cause.
@@ -38,13 +43,7 @@ pub extern "C" fn geolint_rule_text(rule: u32, text: &mut &'static [u8])
 pub extern "C" fn geolint_cause_text(cause: u32, text: &mut &'static [u8])
     ensures { text.new.now ≡ with_zero (cause_text cause) }
 {
-    *text = match cause {
-        1 => b"syntax\0",
-        2 => b"truncated\0",
-        3 => b"too deep\0",
-        4 => b"too long\0",
-        _ => b"\0",
-    };
+    *text = text_at(CAUSE_TEXTS, cause as usize);
 }
 
 /// What the kind of warning of this number says; an empty text where there is no such kind.
@@ -52,18 +51,7 @@ pub extern "C" fn geolint_cause_text(cause: u32, text: &mut &'static [u8])
 pub extern "C" fn geolint_warning_text(kind: u32, text: &mut &'static [u8])
     ensures { text.new.now ≡ with_zero (kind_text kind) }
 {
-    *text = match kind {
-        1 => b"byte order mark\0",
-        2 => b"ring runs the wrong way\0",
-        3 => b"more than three numbers in a position\0",
-        4 => b"more than seven decimal places\0",
-        5 => b"position out of range\0",
-        6 => b"empty coordinates\0",
-        7 => b"collection in a collection\0",
-        8 => b"bbox south above north\0",
-        9 => b"crs is no longer used\0",
-        _ => b"\0",
-    };
+    *text = text_at(KIND_TEXTS, kind as usize);
 }
 
 /// The version of this library.
@@ -72,4 +60,15 @@ pub extern "C" fn geolint_version_text(text: &mut &'static [u8])
     ensures { text.new.now ≡ with_zero version_text }
 {
     *text = b"0.1.0\0";
+}
+
+/// What a hint says; an empty text where there is none.
+#[tactic(auto, unfolding(gj_hints::specs::Texts::text_of))]
+pub fn hint_text(hint: Option<Hint>) -> &'static [u8]
+    ensures { result.now ≡ hint_text hint }
+{
+    match hint {
+        Some(hint) => text_at(HINT_TEXTS, hint as usize + 1),
+        None => b"\0",
+    }
 }

@@ -8,7 +8,7 @@ use Rattle.std.proofs.lemmas.Bool.Decides.{nat_tests, eqb_tells}
 use Rattle.std.proofs.lemmas.List.{get_or-map, get_or-set_same, get_or-set_other}
 use Rattle.std.proofs.lemmas.List.FromFn.{get_or-range_with_len}
 use Rattle.std.proofs.lemmas.List.Sums.{sum_by_push}
-use Rattle.gj_coords.specs.Fault.{number_of}
+use Rattle.gj_coords.specs.Fault.{number_of, rules}
 use Rattle.gj_coords.specs.Warnings.{kind_number, kinds}
 use Rattle.gj_coords.specs.Internal.ByKind.{kind_range}
 use Rattle.gj_coords.specs.declared.fault.Rule.{Rule}
@@ -22,7 +22,7 @@ use Rattle.geolint_report.specs.Slots.{same, slot_of, more}
 use Rattle.geolint_report.specs.Texts.{cause_number}
 pub use Rattle.std.proofs.lemmas.Bool.{le-leb as below, lt-leb as above}
 
-rule-range : (rule : Rule) → (1 ≤ number_of rule) × (number_of rule ≤ 21)
+rule-range : (rule : Rule) → (1 ≤ number_of rule) × (number_of rule ≤ length rules)
 rule-range G1 = (omega arith, omega arith)
 rule-range other = (omega arith, omega arith)
 
@@ -56,13 +56,13 @@ same-slot (Code.Rule r) (Code.Cause k) small = let w = rule-range r in differ _ 
 same-slot (Code.Rule r) Code.NotValid small = differ _ _ (omega (arith, small))
 same-slot (Code.Kind k) (Code.Rule r) small = let w = rule-range r in differ-back _ _ (omega (arith, w.0, w.1))
 same-slot (Code.Kind k) (Code.Kind j) small =
-    lessened (kind_number k) (kind_number j) (kind_range k).0 (kind_range j).0 ∙ shifted (kind_number k - 1) (kind_number j - 1) 21
+    lessened (kind_number k) (kind_number j) (kind_range k).0 (kind_range j).0 ∙ shifted (kind_number k - 1) (kind_number j - 1) (length rules)
 same-slot (Code.Kind k) (Code.Cause c) small = let w = kind_range k in differ _ _ (omega (arith, w.0, w.1))
 same-slot (Code.Kind k) Code.NotValid small = differ _ _ (omega (arith, small))
 same-slot (Code.Cause c) (Code.Rule r) small = let w = rule-range r in differ-back _ _ (omega (arith, w.0, w.1))
 same-slot (Code.Cause c) (Code.Kind k) small = let w = kind_range k in differ-back _ _ (omega (arith, w.0, w.1))
 same-slot (Code.Cause c) (Code.Cause d) small =
-    lessened (cause_number c) (cause_number d) (cause-range c).0 (cause-range d).0 ∙ shifted (cause_number c - 1) (cause_number d - 1) (21 + length kinds)
+    lessened (cause_number c) (cause_number d) (cause-range c).0 (cause-range d).0 ∙ shifted (cause_number c - 1) (cause_number d - 1) (length rules + length kinds)
 same-slot (Code.Cause c) Code.NotValid small = differ _ _ (omega (arith, small))
 same-slot Code.NotValid b small = absurd (omega (arith, small))
 

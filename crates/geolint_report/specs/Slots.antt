@@ -1,7 +1,7 @@
 -- Which codes are the same, where the count of each lies, and what a count is with one more.
 use Rattle.std.specs.Prelude.{ℕ, ◌+◌, ◌-◌, ◌^◌, Bool, true, false, length, nat_eq}
 use Rattle.std.specs.Io.Iter.{u64_saturate}
-use Rattle.gj_coords.specs.Fault.{number_of}
+use Rattle.gj_coords.specs.Fault.{number_of, rules}
 use Rattle.gj_coords.specs.Warnings.{kinds, index_of, kind_number}
 use Rattle.geolint_report.specs.declared.texts.Code.{Code}
 use Rattle.gj_json.specs.Texts.{cause_number}
@@ -15,8 +15,8 @@ same first second = false
 -- where the count of a code lies
 abbrev pub slot_of : Code → ℕ
 slot_of (Code.Rule rule) = number_of rule - 1
-slot_of (Code.Kind kind) = index_of kind + 21
-slot_of (Code.Cause cause) = (cause_number cause - 1) + (21 + length kinds)
+slot_of (Code.Kind kind) = index_of kind + length rules
+slot_of (Code.Cause cause) = (cause_number cause - 1) + (length rules + length kinds)
 slot_of Code.NotValid = 2 ^ 64 - 1
 
 -- one more where it is to be counted, as far as a u64 goes

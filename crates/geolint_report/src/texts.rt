@@ -6,7 +6,7 @@ ghost use Rattle.geolint_report.specs.declared.texts.TheConstants.{ALL};
 ghost use Rattle.geolint_report.specs.Texts.{cause_number, is_named};
 
 use crate::line::put;
-use gj_coords::{KINDS, Kind, Rule, Warnings};
+use gj_coords::{KINDS, Kind, RULES, Rule, Warnings};
 use gj_json::Cause;
 use std::alloc::AllocError;
 
@@ -55,9 +55,6 @@ const NAMES: [&str; 34] = [
     "J1", "J2", "J3", "J4",
 ];
 
-/// How many rules there are.
-const RULES: usize = 21;
-
 /// How many rules, kinds of warning and causes there are.
 pub const CODES: usize = ALL.len();
 
@@ -83,8 +80,8 @@ impl Code {
     {
         match self {
             Code::Rule(rule) => (rule.number() as usize).saturating_sub(1),
-            Code::Kind(kind) => kind.index() + RULES,
-            Code::Cause(cause) => cause_index(cause) + RULES + KINDS.len(),
+            Code::Kind(kind) => kind.index() + RULES.len(),
+            Code::Cause(cause) => cause_index(cause) + RULES.len() + KINDS.len(),
             Code::NotValid => usize::MAX,
         }
     }

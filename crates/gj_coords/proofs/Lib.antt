@@ -1,4 +1,5 @@
 mod Common
+mod TextLengths
 pub mod Examples
 pub mod Readers
 pub mod Walks

@@ -3,11 +3,16 @@ use denote.Enum.Declared.{tag_of}
 use Rattle.std.specs.Prelude.{ℕ, ◌+◌, List, [], ◌∷◌, Option, Some, None, Bool, nat_lt, nat_eq, nat_le, ◌&&◌, ◌||◌, if◌then◌else◌}
 use Rattle.gj_coords.specs.declared.fault.Fault.{Fault}
 use Rattle.gj_coords.specs.declared.fault.Rule.{Rule}
+use Rattle.gj_coords.specs.declared.fault.TheConstants.{RULES}
 use Rattle.gj_coords.specs.contracts.fault.Rule.{the_type}
 
 -- the number in a rule's name: its place among all rules, as they are declared
 abbrev pub number_of : Rule → ℕ
 number_of rule = tag_of the_type rule + 1
+
+-- all rules, in the order of their numbers
+abbrev pub rules : List Rule
+rules = RULES
 
 abbrev pub fault_at : ℕ → Rule → Fault
 fault_at place rule = record { place = place; rule = rule }

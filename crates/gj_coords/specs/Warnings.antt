@@ -2,6 +2,7 @@
 use denote.Enum.Declared.{tag_of}
 use Rattle.std.specs.Prelude.{ℕ, ◌+◌, ◌-◌, min, List, [], ◌∷◌, map, length, filter, Option, Some, None, Bool, nat_eq}
 use Rattle.gj_coords.specs.declared.kind.Kind.{Kind}
+use Rattle.gj_coords.specs.declared.kind.TheConstants.{KINDS}
 use Rattle.gj_coords.specs.contracts.kind.Kind.{the_type}
 
 -- the number in a kind's name: its place among all kinds, as they are declared
@@ -10,7 +11,7 @@ kind_number kind = tag_of the_type kind + 1
 
 -- all kinds, in the order of their numbers
 abbrev pub kinds : List Kind
-kinds = Kind.W1 ∷ Kind.W2 ∷ Kind.W3 ∷ Kind.W4 ∷ Kind.W5 ∷ Kind.W6 ∷ Kind.W7 ∷ Kind.W8 ∷ Kind.W9 ∷ []
+kinds = KINDS
 
 -- where a kind stands among them
 abbrev pub index_of : Kind → ℕ

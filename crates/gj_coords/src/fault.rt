@@ -1,5 +1,5 @@
 //! What is wrong with a text, and where.
-ghost use Rattle.std.specs.Prelude.{◌≡◌};
+ghost use Rattle.std.specs.Prelude.{◌≡◌, ◌≤◌, length};
 ghost use Rattle.gj_coords.specs.Fault.{number_of, comes_first, lesser};
 ghost use Rattle.gj_coords.specs.Texts.{rule_text};
 
@@ -54,8 +54,45 @@ pub enum Rule {
     G21,
 }
 
+/// The rules in the order of their numbers, each with what it is called in a report, as a macro takes them.
+#[macro_export]
+macro_rules! rule_texts {
+    ($form:ident) => {
+        $form! {
+            Rule:
+            G1 => "not an object",
+            G2 => "type missing",
+            G3 => "type not allowed here",
+            G4 => "coordinates missing",
+            G5 => "geometries missing",
+            G6 => "geometry missing",
+            G7 => "properties missing",
+            G8 => "features missing",
+            G9 => "member forbidden by section 7.1",
+            G10 => "name repeated",
+            G11 => "coordinates of the wrong shape",
+            G12 => "position of fewer than two elements",
+            G13 => "line of fewer than two elements",
+            G14 => "ring of fewer than four elements",
+            G15 => "ring not closed",
+            G16 => "number beyond the profile",
+            G17 => "not an array",
+            G18 => "properties neither object nor null",
+            G19 => "id neither string nor number",
+            G20 => "bbox or its element of the wrong kind",
+            G21 => "bbox length odd or below 4",
+        }
+    };
+}
+
+/// The rules in the order of their numbers.
+pub const RULES: [Rule; 21] = rule_texts!(variants);
+
+/// What each is called, in the same order.
+const RULE_TEXTS: [&str; RULES.len()] = rule_texts!(texts);
+
 impl Rule {
-    /// The number in the rule's name, from 1 to 21.
+    /// The number in the rule's name, from 1 on.
     pub fn number(self) -> u8
         ensures { result ≡ number_of self }
     {
@@ -63,31 +100,14 @@ impl Rule {
     }
 
     /// What the rule is called in a report.
+    #[tactic(auto, using(crate::proofs::TextLengths::rule_short), unfolding(crate::specs::Texts::rule_text))]
     pub fn text(self) -> &'static str
-        ensures { result.now ≡ rule_text self }
+        ensures text { result.now ≡ rule_text self }
+        ensures short { length result.now ≤ 37 }
     {
-        match self {
-            Rule::G1 => "not an object",
-            Rule::G2 => "type missing",
-            Rule::G3 => "type not allowed here",
-            Rule::G4 => "coordinates missing",
-            Rule::G5 => "geometries missing",
-            Rule::G6 => "geometry missing",
-            Rule::G7 => "properties missing",
-            Rule::G8 => "features missing",
-            Rule::G9 => "member forbidden by section 7.1",
-            Rule::G10 => "name repeated",
-            Rule::G11 => "coordinates of the wrong shape",
-            Rule::G12 => "position of fewer than two elements",
-            Rule::G13 => "line of fewer than two elements",
-            Rule::G14 => "ring of fewer than four elements",
-            Rule::G15 => "ring not closed",
-            Rule::G16 => "number beyond the profile",
-            Rule::G17 => "not an array",
-            Rule::G18 => "properties neither object nor null",
-            Rule::G19 => "id neither string nor number",
-            Rule::G20 => "bbox or its element of the wrong kind",
-            Rule::G21 => "bbox length odd or below 4",
+        match RULE_TEXTS.get(self as usize) {
+            Some(text) => text,
+            None => "",
         }
     }
 }

@@ -1,5 +1,5 @@
 //! The kinds of warning.
-ghost use Rattle.std.specs.Prelude.{◌≡◌, ◌<◌, length};
+ghost use Rattle.std.specs.Prelude.{◌≡◌, ◌<◌, ◌≤◌, length};
 ghost use Rattle.gj_coords.specs.Texts.{kind_text};
 ghost use Rattle.gj_coords.specs.Warnings.{kind_number, kinds, index_of};
 
@@ -29,21 +29,33 @@ pub enum Kind {
     W9,
 }
 
+/// The kinds in the order of their numbers, each with what it is called in a report, as a macro takes them.
+#[macro_export]
+macro_rules! kind_texts {
+    ($form:ident) => {
+        $form! {
+            Kind:
+            W1 => "byte order mark",
+            W2 => "ring runs the wrong way",
+            W3 => "more than three numbers in a position",
+            W4 => "more than seven decimal places",
+            W5 => "position out of range",
+            W6 => "empty coordinates",
+            W7 => "collection in a collection",
+            W8 => "bbox south above north",
+            W9 => "crs is no longer used",
+        }
+    };
+}
+
 /// The kinds in the order of their numbers.
-pub const KINDS: [Kind; 9] = [
-    Kind::W1,
-    Kind::W2,
-    Kind::W3,
-    Kind::W4,
-    Kind::W5,
-    Kind::W6,
-    Kind::W7,
-    Kind::W8,
-    Kind::W9,
-];
+pub const KINDS: [Kind; 9] = kind_texts!(variants);
+
+/// What each is called, in the same order.
+const KIND_TEXTS: [&str; KINDS.len()] = kind_texts!(texts);
 
 impl Kind {
-    /// The number in the kind's name, from 1 to 9.
+    /// The number in the kind's name, from 1 on.
     pub fn number(self) -> u8
         ensures { result ≡ kind_number self }
     {
@@ -60,19 +72,14 @@ impl Kind {
     }
 
     /// What the kind is called in a report.
+    #[tactic(auto, using(crate::proofs::TextLengths::kind_short), unfolding(crate::specs::Texts::kind_text))]
     pub fn text(self) -> &'static str
-        ensures { result.now ≡ kind_text self }
+        ensures text { result.now ≡ kind_text self }
+        ensures short { length result.now ≤ 37 }
     {
-        match self {
-            Kind::W1 => "byte order mark",
-            Kind::W2 => "ring runs the wrong way",
-            Kind::W3 => "more than three numbers in a position",
-            Kind::W4 => "more than seven decimal places",
-            Kind::W5 => "position out of range",
-            Kind::W6 => "empty coordinates",
-            Kind::W7 => "collection in a collection",
-            Kind::W8 => "bbox south above north",
-            Kind::W9 => "crs is no longer used",
+        match KIND_TEXTS.get(self as usize) {
+            Some(text) => text,
+            None => "",
         }
     }
 }

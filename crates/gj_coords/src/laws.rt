@@ -1,16 +1,13 @@
 //! Laws of the definitions, each the contract of a function that does nothing.
 ghost use Rattle.std.specs.Prelude.{◌≡◌, ◌↔◌, ◌<◌, ◌^◌, ◌++◌, ◌∷◌, [], List, length, map, Option, Some, None, IsTrue};
-ghost use Rattle.std.specs.List.{AllByRecursion};
+ghost use Rattle.std.specs.List.{AllByRecursion, range_with_len};
 ghost use Rattle.gj_json.specs.Tree.{Tree};
 ghost use Rattle.gj_json.specs.Events.{value_events};
 ghost use Rattle.gj_coords.specs.declared.fault.Fault.{Fault};
-ghost use Rattle.gj_coords.specs.declared.fault.Rule.TheVariants.{G1, G2, G3, G4, G5, G6, G7, G8, G9, G10, G11, G12, G13, G14, G15, G16, G17, G18, G19, G20};
-ghost use Rattle.gj_coords.specs.declared.fault.Rule.TheVariants.{G21};
-ghost use Rattle.gj_coords.specs.Fault.{number_of, comes_first, lesser, least};
+ghost use Rattle.gj_coords.specs.Fault.{number_of, rules, comes_first, lesser, least};
 ghost use Rattle.gj_coords.specs.Ring.{agree, first_values};
 ghost use Rattle.gj_coords.specs.declared.warnings.Warnings.{Warnings};
-ghost use Rattle.gj_coords.specs.declared.kind.Kind.TheVariants.{W1, W2, W3, W4, W5, W6, W7, W8, W9};
-ghost use Rattle.gj_coords.specs.Warnings.{Warning, kind_number};
+ghost use Rattle.gj_coords.specs.Warnings.{Warning, kind_number, kinds};
 ghost use Rattle.gj_coords.specs.declared.simple.Simple.{Simple};
 ghost use Rattle.gj_coords.specs.Internal.KeptWarnings.{warnings_of, no_warnings, joined};
 ghost use Rattle.gj_coords.specs.WarningsStand.{StandsFor};
@@ -18,11 +15,10 @@ ghost use Rattle.gj_coords.specs.WarningsTold.{Tells, CountsFit};
 ghost use Rattle.gj_coords.specs.CoordinateWarnings.{coordinates_warnings};
 ghost use Rattle.gj_coords.specs.Internal.CoordinatesKept.{coordinates_kept};
 
-/// Each rule and each kind of warning has the number in its name.
+/// The number of each rule and of each kind of warning is its place in the table, plus one, as its name has it.
 pub fn numbers_of_names()
-    ensures rules { map number_of (G1 ∷ G2 ∷ G3 ∷ G4 ∷ G5 ∷ G6 ∷ G7 ∷ G8 ∷ G9 ∷ G10 ∷ G11 ∷ G12 ∷ G13 ∷ G14 ∷ G15 ∷ G16 ∷ G17 ∷ G18 ∷ G19 ∷ G20 ∷ G21 ∷ [])
-        ≡ 1 ∷ 2 ∷ 3 ∷ 4 ∷ 5 ∷ 6 ∷ 7 ∷ 8 ∷ 9 ∷ 10 ∷ 11 ∷ 12 ∷ 13 ∷ 14 ∷ 15 ∷ 16 ∷ 17 ∷ 18 ∷ 19 ∷ 20 ∷ 21 ∷ [] }
-    ensures kinds { map kind_number (W1 ∷ W2 ∷ W3 ∷ W4 ∷ W5 ∷ W6 ∷ W7 ∷ W8 ∷ W9 ∷ []) ≡ 1 ∷ 2 ∷ 3 ∷ 4 ∷ 5 ∷ 6 ∷ 7 ∷ 8 ∷ 9 ∷ [] }
+    ensures rules { map number_of rules ≡ range_with_len 1 (length rules) }
+    ensures kinds { map kind_number kinds ≡ range_with_len 1 (length kinds) }
 {}
 
 /// The least of some faults is one of them, and comes before each of them or is the same. It can be

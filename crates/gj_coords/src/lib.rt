@@ -6,6 +6,20 @@
 //! A [`Bbox`] does the same for a bounding box, and a [`Watcher`] for one type.
 #![tactic(auto)]
 
+/// The variants that a table has, in its order.
+macro_rules! variants {
+    ($of:ident: $($name:ident => $text:literal,)*) => {
+        [$($of::$name),*]
+    };
+}
+
+/// The texts that a table has, in its order.
+macro_rules! texts {
+    ($of:ident: $($name:ident => $text:literal,)*) => {
+        [$($text),*]
+    };
+}
+
 mod bbox;
 mod coordinates;
 mod cuts;
@@ -30,7 +44,7 @@ mod winding;
 
 pub use bbox::Bbox;
 pub use coordinates::Coordinates;
-pub use fault::{Fault, Rule, lesser_fault};
+pub use fault::{Fault, RULES, Rule, lesser_fault};
 pub use kind::{KINDS, Kind};
 pub use plain_point::{is_plain_point, point_warned};
 pub use simple::Simple;

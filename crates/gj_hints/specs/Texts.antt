@@ -1,60 +1,15 @@
--- What each hint says.
-use Rattle.std.specs.Prelude.{ℕ, List, ◌++◌, codes}
+-- What each hint says: the table of the code says it, in the order of the hints.
+use denote.Enum.Declared.{tag_of}
+use Rattle.std.specs.Prelude.{ℕ, List, [], map, get_or}
+use Rattle.gj_hints.specs.contracts.kind.Hint.{the_type}
 use Rattle.gj_hints.specs.declared.kind.Hint.{Hint}
+use Rattle.gj_hints.specs.declared.kind.TheConstants.{TEXTS}
 
-abbrev pub text_of : Hint → List ℕ
-text_of Hint.Gzip = codes "the file is compressed by gzip: gzip -dc < IN > OUT.geojson"
-text_of Hint.Zip = codes "the file is a zip archive: unzip IN, and see what is in it"
-text_of Hint.Shapefile = codes "the file is a shapefile: ogr2ogr -f GeoJSON -lco RFC7946=YES OUT.geojson IN, if its name ends with .shp"
-text_of Hint.GeoPackage = codes "the file is an SQLite database, such as a GeoPackage: ogr2ogr -f GeoJSON -lco RFC7946=YES OUT.geojson IN, with the name of a layer after it where there are several"
-text_of Hint.FlatGeobuf = codes "the file is a FlatGeobuf: ogr2ogr -f GeoJSON -lco RFC7946=YES OUT.geojson IN"
-text_of Hint.Parquet = codes "the file is a Parquet file: ogr2ogr -f GeoJSON -lco RFC7946=YES OUT.geojson IN"
-text_of Hint.Pdf = codes "the file is a PDF document: ask for the data; ogr2ogr -f GeoJSON -lco RFC7946=YES OUT.geojson IN reads a PDF with map layers"
-text_of Hint.Kml = codes "the file is KML: ogr2ogr -f GeoJSON -lco RFC7946=YES OUT.geojson IN"
-text_of Hint.Gml = codes "the file is GML: ogr2ogr -f GeoJSON -lco RFC7946=YES OUT.geojson IN"
-text_of Hint.Html = codes "the file is a web page, mostly one that shows an error or asks to log in: curl -fL -o OUT.geojson URL"
-text_of Hint.Xml = codes "the file is XML: ogr2ogr -f GeoJSON -lco RFC7946=YES OUT.geojson IN, if it is a map format"
-text_of Hint.Utf16 = codes "the file is in UTF-16: iconv -f UTF-16 -t UTF-8 IN > OUT.geojson"
-text_of Hint.Latin1 = codes "these letters are not in UTF-8: iconv -f WINDOWS-1252 -t UTF-8 IN > OUT.geojson"
-text_of Hint.NotANumber = codes "JSON has no NaN: json5 -o OUT.geojson IN writes null, which is right in properties and wrong in coordinates"
-text_of Hint.Infinity = codes "JSON has no Infinity: json5 -o OUT.geojson IN writes null, which is right in properties and wrong in coordinates"
-text_of Hint.SingleQuotes = codes "JSON has no single quotes: json5 -o OUT.geojson IN, or json.dumps if Python wrote it"
-text_of Hint.Comment = codes "JSON has no comments: json5 -o OUT.geojson IN removes those that begin with // or /*"
-text_of Hint.ExtraComma = codes "there is a comma too many: json5 -o OUT.geojson IN removes one before a closing bracket"
-text_of Hint.SecondText = codes "a second text follows the first: geolint-files --ndjson IN, if each line is a text, or else jq -c . IN > OUT.ndjson"
-text_of Hint.TextSequence = codes "the file is a text sequence (RFC 8142): geolint-files --seq IN"
-text_of Hint.TopoJson = codes "the file is TopoJSON: ogr2ogr -f GeoJSON -lco RFC7946=YES OUT.geojson IN"
-text_of Hint.EsriJson = codes "the file is Esri JSON: ask the server with f=geojson, or ogr2ogr -f GeoJSON -lco RFC7946=YES OUT.geojson IN"
-text_of Hint.TextInString = codes "an object is inside a string: leave out its quotation marks and their backslashes; if it is the whole file: jq fromjson IN > OUT.geojson"
-text_of Hint.SwappedAxes = codes "latitude and longitude look swapped; the longitude comes first: ogr2ogr -ct '+proj=axisswap +order=2,1' -lco RFC7946=YES OUT.geojson IN"
-text_of Hint.Metres =
-    codes "the coordinates look like metres, not degrees: "
-    ++ codes "ogr2ogr -t_srs EPSG:4326 -lco RFC7946=YES OUT.geojson IN, with -s_srs where the file names no reference system"
-text_of Hint.ManyDigits = codes "the number has more than 30 digits; 17 are enough for any double, and 7 decimal places are a centimetre"
-text_of Hint.LargeNumber = codes "the number is too large, above 10 to the power of 400"
-text_of Hint.SmallNumber = codes "the number is nearly zero, below 10 to the power of -400: write 0"
-text_of Hint.Image = codes "the file is an image: ask for the data that it shows"
-text_of Hint.Gpx = codes "the file is GPX: ogr2ogr -f GeoJSON -lco RFC7946=YES OUT.geojson IN tracks, or with routes at the end if it has those"
-text_of Hint.Waypoints = codes "the file is GPX: ogr2ogr -f GeoJSON -lco RFC7946=YES OUT.geojson IN waypoints, or with tracks or routes at the end if it has those too"
-text_of Hint.Columns = codes "the file is a table, such as a CSV: ogr2ogr -f GeoJSON -lco RFC7946=YES OUT.geojson CSV:/vsistdin/ -oo 'X_POSSIBLE_NAMES=lon*,lng,x' -oo 'Y_POSSIBLE_NAMES=lat*,y' < IN"
-text_of Hint.Psql = codes "the file is a table as psql prints it: psql -At prints the text alone; of one column and row: sed -n 3p IN > OUT.geojson"
-text_of Hint.DoubledQuotes = codes "the text is in quotation marks, and its own are doubled, as in a CSV: python3 -c 'import sys; print(sys.stdin.read().strip()[1:-1].replace(2 * chr(34), chr(34)))' < IN > OUT.geojson"
-text_of Hint.Script = codes "the file is a script: perl -0777 -pe 's/^[^{]*//; s/[^}]*$//' IN > OUT.geojson leaves out what stands before the first { and after the last }"
-text_of Hint.PlainText = codes "the file begins with a word and is no JSON; look at what it says: head IN"
-text_of Hint.NoSeparator = codes "each text of a text sequence comes after a byte RS, and here is none: geolint-files --ndjson IN, if each line is a text"
-text_of Hint.Conflict = codes "a merge left both sides of a conflict: keep one of them, without the lines of <<<<<<<, ======= and >>>>>>>"
-text_of Hint.Zeros = codes "there are bytes of zero: the file was not written or copied to its end; fetch or write it again"
-text_of Hint.PythonWord = codes "JSON has true, false and null for Python's True, False and None: sed 's/: *True/: true/g; s/: *False/: false/g; s/: *None/: null/g' IN > OUT.geojson"
-text_of Hint.PythonText = codes "the text is as Python prints it: python3 -c 'import ast, json, sys; print(json.dumps(ast.literal_eval(sys.stdin.read())))' < IN > OUT.geojson"
-text_of Hint.Word = codes "JSON has no words but true, false and null: a text needs quotation marks, and what is not known is null"
-text_of Hint.PlainName = codes "a name needs quotation marks: json5 -o OUT.geojson IN"
-text_of Hint.LineBreak = codes "a line break or a tab in a string is written as a backslash with n or t: python3 -c 'import json, sys; json.dump(json.load(sys.stdin, strict=False), sys.stdout)' < IN > OUT.geojson"
-text_of Hint.Backslash = codes "a backslash in a string is written twice, as in the path of a file"
-text_of Hint.InnerQuote = codes "a quotation mark in a string needs a backslash before it"
-text_of Hint.TypographicQuotes = codes "JSON has no typographic quotation marks: python3 -c 'import sys; print(sys.stdin.read().translate({8220: 34, 8221: 34, 8222: 34}))' < IN > OUT.geojson makes all of them straight"
-text_of Hint.NumberForm = codes "JSON writes 0.5 for .5, 5.0 for 5. and 5 for +5 or 05: json5 -o OUT.geojson IN, where no 0 comes before a digit"
-text_of Hint.DecimalComma = codes "a number has a point and no comma: write 41.5 for 41,5"
-text_of Hint.MissingComma = codes "a comma is missing before this"
-text_of Hint.MissingBrace = codes "the object before this one is closed, and that around it is not: write } where it ends"
-text_of Hint.CommaBetween = codes "a comma comes after a whole text: sed 's/,[[:space:]]*$//' IN > OUT.ndjson, if each line is a text"
-text_of Hint.NullGeometry = codes "a geometry that is not known is null as a whole, without a type and coordinates"
+abbrev pub place_of : Hint → ℕ
+place_of hint = tag_of the_type hint
+
+abbrev pub texts : List (List ℕ)
+texts = map (λ row. row.1.now) TEXTS
+
+unfoldable pub text_of : Hint → List ℕ
+text_of hint = get_or texts (place_of hint) []

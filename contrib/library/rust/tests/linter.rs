@@ -28,7 +28,7 @@ fn one_call() -> Result<(), Box<dyn Error>> {
     assert!(verdict.is_valid() && !OPEN_RING.is_valid());
     assert_eq!(OPEN_RING.to_string(), "broken G15 at 33: ring not closed");
     assert_eq!(io::Error::from(Refusal::Limits).kind(), io::ErrorKind::InvalidInput);
-    assert_eq!((geolint::rule_text(22), geolint::cause_text(0), geolint::warning_text(10)), ("", "", ""));
+    assert_eq!((geolint::rule_text(u32::MAX), geolint::cause_text(0), geolint::warning_text(u32::MAX)), ("", "", ""));
     let invalid = OPEN_RING.into_result().unwrap_err();
     assert_eq!((invalid.verdict(), invalid.to_string()), (&OPEN_RING, OPEN_RING.to_string()));
     assert_eq!(io::Error::from(invalid).kind(), io::ErrorKind::InvalidData);
