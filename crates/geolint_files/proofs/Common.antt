@@ -12,6 +12,6 @@ pub use Rattle.geolint_report.specs.declared.judge.Finding.{Finding}
 pub use Rattle.geolint_report.specs.declared.judge.Reading.{Reading}
 pub use Rattle.geolint_report.specs.declared.report.Report.{Report}
 pub use Rattle.report_forms.specs.FileCounts.{Counts}
-pub use Rattle.report_forms.specs.declared.formats.sarif.Log.{Log}
+pub use Rattle.report_forms.specs.declared.formats.Log.{Log}
 pub use Rattle.report_forms.specs.declared.options.Options.{Options}
 pub use Rattle.report_forms.specs.declared.summary.Summary.{Summary}

@@ -4,7 +4,7 @@ use Rattle.std.specs.Prelude.{Some, None, IfSome, ⊤}
 use Rattle.std.specs.Io.Iter.{u64_saturate}
 use Rattle.gj_json.specs.Limits.{Allowed}
 use Rattle.gj_rules.specs.declared.records.framing.Framing.{Framing}
-use Rattle.report_forms.specs.declared.every.entry.Entry.{Entry}
+use Rattle.report_forms.specs.declared.every.Entry.{Entry}
 use Rattle.geolint_report.specs.declared.every.listing.Asked.{Asked}
 use Rattle.geolint_report.specs.declared.every.cursor.Mark.{Mark}
 use Rattle.geolint_report.specs.declared.every.listing.Note.{Note}

@@ -1,19 +1,18 @@
 -- What a run reports: of each file in turn its report and the lines of its features, at the end a summary, and the worst of the outcomes.
-use Rattle.std.specs.Prelude.{◌≡◌, ℕ, Bool, true, false, if◌then◌else◌, List, [], ◌∷◌, ◌++◌, map, Option, Some, None, codes}
+use Rattle.std.specs.Prelude.{◌≡◌, ◌&&◌, ℕ, Bool, true, if◌then◌else◌, List, [], ◌∷◌, ◌++◌, map, Option, Some, None}
 use Rattle.geolint_report.specs.declared.every.tally.Tally.{Tally}
 use Rattle.geolint_report.specs.declared.judge.Finding.{Finding}
 use Rattle.geolint_report.specs.declared.report.Report.{Report}
-use Rattle.report_forms.specs.declared.every.entry.Entry.{Entry}
+use Rattle.report_forms.specs.declared.every.Entry.{Entry}
+use Rattle.report_forms.specs.declared.formats.Format.{Format}
 use Rattle.report_forms.specs.declared.formats.lines.Style.{Style}
 use Rattle.report_forms.specs.declared.options.Every.{Every}
-use Rattle.report_forms.specs.declared.options.Format.{Format}
 use Rattle.report_forms.specs.declared.options.Options.{Options}
 use Rattle.report_forms.specs.Passing.{passes}
-use Rattle.report_forms.specs.Forms.{IsReport, IsUnreadReport, KeepsUnread, first_after, first_after_unread}
-use Rattle.report_forms.specs.Forms.Features.{IsEntry, IsMore, first_behind}
-use Rattle.report_forms.specs.Forms.Sarif.{sarif_begin, sarif_end}
+use Rattle.report_forms.specs.Forms.{IsEntry, IsMore, IsReport, IsUnreadReport, KeepsUnread, begin_of, end_of, is_for_people}
+use Rattle.report_forms.specs.Forms.Features.{is_nothing}
 use Rattle.report_forms.specs.Items.{items_summary}
-use Rattle.report_forms.specs.Summary.{calls_of, summary_of}
+use Rattle.report_forms.specs.Summary.{summary_of}
 use Rattle.geolint_files.specs.declared.outcome.Outcome.{Outcome}
 use Rattle.geolint_files.specs.declared.outcome.Outcome.TheVariants.{Unread}
 use Rattle.geolint_files.specs.Outcome.{outcome_of, worst}
@@ -52,7 +51,7 @@ worst_of options files = worst (map (outcome_in options) files)
 
 -- ---- the bytes
 
--- what is written of a report under way: its bytes, whether a log has no result yet, and what it keeps for its end
+-- what is written of a report under way: its bytes, whether none is of a file yet, and what a log keeps for its end
 pub record Written : Type 0 where
   pub bytes : List ℕ
   pub is_first : Bool
@@ -64,14 +63,14 @@ pub record AddsReport (options : Options) (style : Style) (report : Report) (bef
   pub told : List ℕ
   pub is_report : IsReport options.format style before.is_first report options.strictness told
   pub bytes : after.bytes ≡ before.bytes ++ told
-  pub first : after.is_first ≡ first_after options.format before.is_first report options.strictness
+  pub first : after.is_first ≡ (before.is_first && is_nothing told)
   pub unread : after.unread ≡ before.unread
 
 pub record AddsUnread (options : Options) (name reason : List ℕ) (before after : Written) : Type 0 where
   pub told : List ℕ
   pub is_report : IsUnreadReport options.format before.is_first name reason told
   pub bytes : after.bytes ≡ before.bytes ++ told
-  pub first : after.is_first ≡ first_after_unread options.format before.is_first
+  pub first : after.is_first ≡ (before.is_first && is_nothing told)
   pub unread : KeepsUnread options.format name reason before.unread after.unread
 
 abbrev pub IsLine : Options → Style → Bool → FeatureLine → List ℕ → Type 0
@@ -83,7 +82,7 @@ pub record AddsLine (options : Options) (style : Style) (line : FeatureLine) (be
   pub told : List ℕ
   pub is_line : IsLine options style before.is_first line told
   pub bytes : after.bytes ≡ before.bytes ++ told
-  pub first : after.is_first ≡ first_behind options.format before.is_first
+  pub first : after.is_first ≡ (before.is_first && is_nothing told)
   pub unread : after.unread ≡ before.unread
 
 abbrev pub AddsLines : Options → Style → List FeatureLine → Written → Written → Type 0
@@ -107,32 +106,8 @@ abbrev pub AddsFiles : Options → Style → List ToldFile → Written → Writt
 AddsFiles options style [] before after = after ≡ before
 AddsFiles options style (file ∷ more) before after = (middle : Written) × AddsFile options style file before middle × AddsFiles options style more middle after
 
--- before the first file
-abbrev pub begin_of : Format → List ℕ
-begin_of Format.Gitlab = codes "["
-begin_of Format.Sarif = sarif_begin
-begin_of format = []
-
 abbrev pub begun : Format → Written
 begun format = record { bytes = begin_of format; is_first = true; unread = [] }
-
--- on a terminal the calls that explain what is reported
-abbrev pub calls_in : Style → List ToldFile → List ℕ
-calls_in Style.Colour files = calls_of (map finding_in files) (tallies_in files)
-calls_in Style.Plain files = []
-
--- after the last one
-abbrev pub end_of : Format → Style → List ToldFile → List ℕ → List ℕ
-end_of Format.Gitlab style files unread = codes "]\n"
-end_of Format.Sarif style files unread = sarif_end unread
-end_of Format.Lines style files unread = calls_in style files
-end_of format style files unread = []
-
--- for people the summary follows the report; beside a report for programs it is on standard error
-abbrev pub has_summary : Format → Bool → Bool
-has_summary Format.Text summary = summary
-has_summary Format.Lines summary = summary
-has_summary format summary = false
 
 -- features and records are counted where they are reported
 abbrev pub items_in : Every → List ToldFile → List ℕ
@@ -143,10 +118,10 @@ abbrev pub whole_summary : Every → List ToldFile → List ℕ
 whole_summary every files = summary_of (map finding_in files) ++ items_in every files
 
 abbrev pub summary_in : Options → List ToldFile → List ℕ
-summary_in options files = if has_summary options.format options.summary then whole_summary options.every files else []
+summary_in options files = if options.summary && is_for_people options.format then whole_summary options.every files else []
 
 -- the whole report of these files
 pub record IsWholeReport (options : Options) (style : Style) (files : List ToldFile) (bytes : List ℕ) : Type 0 where
   pub written : Written
   pub files_told : AddsFiles options style files (begun options.format) written
-  pub whole : bytes ≡ written.bytes ++ (end_of options.format style files written.unread ++ summary_in options files)
+  pub whole : bytes ≡ written.bytes ++ (end_of options.format style (map finding_in files) (tallies_in files) written.unread ++ summary_in options files)

@@ -11,7 +11,7 @@ use Rattle.geolint_report.specs.Held.{AreHeld}
 use Rattle.geolint_report.specs.Judged.{Finds}
 use Rattle.geolint_report.specs.Report.{has_places}
 use Rattle.geolint_report.specs.Sought.{AreSought}
-use Rattle.report_forms.specs.declared.options.Format.{Format}
+use Rattle.report_forms.specs.declared.formats.Format.{Format}
 use Rattle.report_forms.specs.declared.options.Options.{Options}
 use Rattle.geolint_files.specs.Run.{ToldFile, judged, not_read, listed}
 use Rattle.geolint_files.specs.Walk.{framing_of}

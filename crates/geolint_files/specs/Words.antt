@@ -3,22 +3,11 @@ use Rattle.std.specs.Prelude.{ℕ, List, Option, Some, None, codes, nat_eq, if�
 use Rattle.std.specs.Cmp.Lexicographic.{pointwise}
 use Rattle.gj_coords.specs.declared.kind.Kind.{Kind}
 use Rattle.geolint_report.specs.declared.texts.Code.{Code}
+use Rattle.report_forms.specs.declared.formats.Format.{Format}
 use Rattle.report_forms.specs.declared.options.Every.{Every}
-use Rattle.report_forms.specs.declared.options.Format.{Format}
+use Rattle.report_forms.specs.Forms.{format_named}
 
 -- the form of the report: lines, where nothing is said
-abbrev pub format_named : List ℕ → Format
-format_named word =
-    if pointwise nat_eq word (codes "text")
-    then Format.Text
-    else (if pointwise nat_eq word (codes "json")
-    then Format.Json
-    else (if pointwise nat_eq word (codes "github")
-    then Format.Github
-    else (if pointwise nat_eq word (codes "gitlab")
-    then Format.Gitlab
-    else (if pointwise nat_eq word (codes "sarif") then Format.Sarif else Format.Lines))))
-
 abbrev pub format_by : Option (List ℕ) → Format
 format_by None = Format.Lines
 format_by (Some word) = format_named word

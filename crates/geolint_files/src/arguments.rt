@@ -4,7 +4,7 @@
 //! becomes one of the last 256 characters of Unicode, which nobody uses, and so does each byte of such a character. Files with
 //! such names test that the text leads back to the bytes.
 
-use report_forms::formats::put_name;
+use report_forms::texts::put_name;
 use std::alloc::{AllocError, Global};
 use std::env::{Env, FillError};
 

@@ -2,6 +2,7 @@
 
 use clap::builder::ValueParser;
 use clap::{Arg, ArgAction, Command};
+use report_forms::formats::NAMES;
 use std::alloc::{AllocError, Global};
 
 /// The most bytes that a file may have.
@@ -129,7 +130,7 @@ static OPTIONS: [CommandOption; 21] = [
         name: "format",
         value_name: &["FORMAT"],
         help: "Write the report in this form",
-        values: ValueParser::Names(&["text", "lines", "json", "github", "gitlab", "sarif"]),
+        values: ValueParser::Names(&NAMES),
         default: &["lines"],
         ..VALUED
     },

@@ -34,8 +34,8 @@ use part_lines::{
     FileState, Listed, NoLine, PartLine, Refusal, Settings, join_lines, join_notes, parts_of,
     put_line, read_line,
 };
-use report_forms::formats::put_name;
 use report_forms::options::Options;
+use report_forms::texts::put_name;
 use sequence_parts::{Share, check_part};
 use std::alloc::{AllocError, Global};
 use std::fs::{File, Metadata};

@@ -38,7 +38,7 @@ use clap::error::ErrorKind;
 use geolint_report::texts::Code;
 use gj_manual::section;
 use own_build::{lacks_stack, own_build};
-use report_forms::formats::put_name;
+use report_forms::texts::put_name;
 use sequence_parts::Share;
 use std::io::{self, BufWriter, Write};
 use std::process::ExitCode;

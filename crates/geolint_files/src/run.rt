@@ -1,11 +1,12 @@
 //! Checks what the words name, file by file, and reports each.
-ghost use Rattle.std.specs.Prelude.{◌≡◌, ◌↔◌, [], List, map, IfOk, IsTrue, OnOk, false};
+ghost use Rattle.std.specs.Prelude.{◌≡◌, ◌&&◌, ◌↔◌, [], List, map, IfOk, IsTrue, OnOk, false};
 ghost use Rattle.std.specs.List.{list_any};
 ghost use Rattle.geolint_report.specs.Line.{Adds};
 ghost use Rattle.geolint_report.specs.Tallies.{IsTotal};
 ghost use Rattle.report_forms.specs.FileCounts.{Counts};
+ghost use Rattle.report_forms.specs.Forms.Features.{is_nothing};
 ghost use Rattle.report_forms.specs.declared.formats.lines.Style.{Style};
-ghost use Rattle.geolint_files.specs.Run.{ToldFile, calls_in, finding_in, tallies_in, whole_summary};
+ghost use Rattle.geolint_files.specs.Run.{ToldFile, finding_in, tallies_in, whole_summary};
 ghost use Rattle.geolint_files.specs.Named.{IsRun};
 ghost use Rattle.geolint_files.specs.Walk.{first_named, is_input, is_input_path, takes_input_twice};
 
@@ -21,16 +22,15 @@ pub use features::asked_in;
 use geolint_report::every::spots::{Spots, Unplaced};
 use geolint_report::every::tally::Tally;
 use geolint_report::judge::{Reading, judge};
-use geolint_report::line::put;
 use geolint_report::progress::Meter;
 use geolint_report::source::{FileSource, FromRead, Rewind, Source};
 use gj_rules::{Framing, Linter};
 pub use joined::tell_joined;
 use name_lists::{Listed, NameEnd, Names};
 use report_forms::formats::lines::Style;
-use report_forms::formats::sarif::Log;
+use report_forms::formats::{Log, is_for_people, put_begin};
 use report_forms::items::put_items;
-use report_forms::options::{Every, Format, Options};
+use report_forms::options::{Every, Options};
 use report_forms::summary::Summary;
 use std::alloc::AllocError;
 use std::fs::Metadata;
@@ -189,17 +189,17 @@ fn style_of(rt: &HostRuntime, is_terminal: bool) -> Style
 }
 
 impl<'a, W: Write + Drop> Run<'a, W> {
-    ghost use Rattle.std.specs.Prelude.{◌≡◌, ◌∷◌, [], ℕ, Bool, List, Vec, Option, None, IfOk, OnOk, IsSomeAnd, map, true};
-    ghost use Rattle.std.specs.Io.KnownBytes.{Appends, Keeps};
-    ghost use Rattle.geolint_report.specs.Line.{Adds};
+    ghost use Rattle.std.specs.Prelude.{◌≡◌, ◌&&◌, ◌∷◌, [], ℕ, Bool, List, Vec, Option, None, IfOk, OnOk, map, true};
+    ghost use Rattle.std.specs.Io.KnownBytes.{Appends};
     ghost use Rattle.geolint_report.specs.Tallies.{IsTotal};
     ghost use Rattle.report_forms.specs.declared.formats.lines.Style.{Style};
     ghost use Rattle.report_forms.specs.declared.options.Options.{Options};
     ghost use Rattle.report_forms.specs.FileCounts.{Counts};
+    ghost use Rattle.report_forms.specs.Forms.Features.{is_nothing};
     ghost use Rattle.geolint_files.specs.declared.run.Failure.{Failure};
     ghost use Rattle.geolint_files.specs.Internal.RunState.{HasTold, IsFresh, TellsFile, TellsFiles, SameTold, Unchanged};
-    ghost use Rattle.geolint_files.specs.Run.{ToldFile, judged, not_read, finding_in, tallies_in, IsWholeReport, begin_of, end_of, summary_in};
-    ghost use Rattle.geolint_files.specs.Told.{reading_of, framing_by, shows, IsToldOnce, IsToldTwice, HasSites};
+    ghost use Rattle.geolint_files.specs.Run.{ToldFile, finding_in, tallies_in, IsWholeReport, summary_in};
+    ghost use Rattle.geolint_files.specs.Told.{reading_of, framing_by, shows, IsToldOnce, IsToldTwice};
     ghost use Rattle.geolint_files.specs.Listed.{IsOnce, IsTwice};
     ghost use Rattle.geolint_files.specs.Named.{AreOf, AreOfList, AreOfOrder, GoesOn, name_in, next_in};
     ghost use Rattle.std.specs.declared.alloc.Global.{Global};
@@ -237,23 +237,10 @@ impl<'a, W: Write + Drop> Run<'a, W> {
         ensures { OnOk result
             ((held : Option (List ℕ)) → IsFresh W.contents held self.old → HasTold W.contents held self.old.options self.old.style [] self.new) }
     {
-        self.put_begin()?;
+        put_begin(self.options.format, &mut self.line)?;
         self.write()?;
+        self.log.is_first = true;
         Ok(())
-    }
-
-    /// Appends what a log or an array begins with.
-    fn put_begin(&mut self) -> Result<(), AllocError>
-        ensures same { SameTold self.old self.new }
-        ensures log { self.new.log ≡ self.old.log }
-        ensures out { self.new.out ≡ self.old.out }
-        ensures told { OnOk result (Adds self.old.line self.new.line (begin_of self.old.options.format)) }
-    {
-        match self.options.format {
-            Format::Gitlab => put(&mut self.line, b"["),
-            Format::Sarif => self.log.begin(&mut self.line),
-            _ => Ok(()),
-        }
     }
 
     /// Reports to the progress line how many bytes there are, where that is known without a walk: each path is a file.
@@ -290,27 +277,17 @@ impl<'a, W: Write + Drop> Run<'a, W> {
             → (bytes : List ℕ) × IsWholeReport options style files bytes × Appends held (W.contents self.new.out) bytes) }
     {
         self.progress.clear();
-        self.put_end()?;
+        self.log.put_end(
+            self.options.format,
+            self.style,
+            &self.summary,
+            &self.tally,
+            &mut self.line,
+        )?;
         self.write()?;
         self.tell_summary()?;
         self.out.flush()?;
         Ok(())
-    }
-
-    /// Appends what a log or an array ends with, or lines on a terminal.
-    fn put_end(&mut self) -> Result<(), AllocError>
-        ensures same { SameTold self.old self.new }
-        ensures log { self.new.log ≡ self.old.log }
-        ensures out { self.new.out ≡ self.old.out }
-        ensures told { (files : List ToldFile) → Counts self.old.summary (map finding_in files) → IsTotal self.old.tally (tallies_in files)
-            → OnOk result (Adds self.old.line self.new.line (end_of self.old.options.format self.old.style files self.old.log.unread.items)) }
-    {
-        match self.options.format {
-            Format::Gitlab => put(&mut self.line, b"]\n"),
-            Format::Sarif => self.log.end(&mut self.line),
-            Format::Lines => put_calls(self.style, &self.summary, &self.tally, &mut self.line),
-            _ => Ok(()),
-        }
     }
 
     /// Reports the summary, where it is asked for.
@@ -327,9 +304,10 @@ impl<'a, W: Write + Drop> Run<'a, W> {
                 self.options.every,
                 &mut self.line,
             )?;
-            match self.options.format {
-                Format::Text | Format::Lines => self.write()?,
-                _ => self.rt.stderr().write_all(self.line.as_slice())?,
+            if is_for_people(self.options.format) {
+                self.write()?;
+            } else {
+                self.rt.stderr().write_all(self.line.as_slice())?;
             }
         }
         Ok(())
@@ -338,11 +316,13 @@ impl<'a, W: Write + Drop> Run<'a, W> {
     /// Writes what is reported, and begins a new line.
     fn write(&mut self) -> Result<(), Failure>
         ensures same { SameTold self.old self.new }
-        ensures log { self.new.log ≡ self.old.log }
+        ensures first { OnOk result (self.new.log.is_first ≡ (self.old.log.is_first && is_nothing self.old.line.items)) }
+        ensures unread { self.new.log.unread ≡ self.old.log.unread }
         ensures out { OnOk result (Appends (W.contents self.old.out) (W.contents self.new.out) self.old.line.items) }
         ensures line { OnOk result (self.new.line.items ≡ []) }
     {
         self.out.write_all(self.line.as_slice())?;
+        self.log.is_first = is_still_first(self.log.is_first, self.line.as_slice());
         self.line.clear();
         Ok(())
     }
@@ -353,10 +333,12 @@ impl<'a, W: Write + Drop> Run<'a, W> {
     {
         let alloc = self.rt.alloc();
         let others = mem::replace(&mut self.others, Others::new(alloc));
-        if self.options.format == Format::Sarif {
-            self.log
-                .keep_unread(alloc, first_named(order), "no file was checked")?;
-        }
+        self.log.keep_unread(
+            alloc,
+            self.options.format,
+            first_named(order),
+            "no file was checked",
+        )?;
         self.end()?;
         Ok(Failure::NoFile(others))
     }
@@ -659,20 +641,11 @@ impl<'a, W: Write + Drop> Run<'a, W> {
     }
 }
 
-/// Puts the calls that explain what is reported, on a terminal.
-fn put_calls(
-    style: Style,
-    summary: &Summary,
-    tally: &Tally,
-    line: &mut Vec<u8>,
-) -> Result<(), AllocError>
-    ensures { (files : List ToldFile) → Counts summary.now (map finding_in files) → IsTotal tally.now (tallies_in files)
-        → OnOk result (Adds line.old line.new (calls_in style files)) }
+/// Whether nothing of a file is written yet, once this is.
+fn is_still_first(is_first: bool, line: &[u8]) -> bool
+    ensures { result ≡ (is_first && is_nothing line.now) }
 {
-    match style {
-        Style::Colour => summary.put_calls(tally, line),
-        Style::Plain => Ok(()),
-    }
+    is_first && line.is_empty()
 }
 
 /// Puts the summary of files, and of their features and records where these are reported.

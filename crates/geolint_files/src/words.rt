@@ -20,7 +20,8 @@ use gj_coords::Kind;
 use gj_json::Limits;
 use gj_rules::Framing;
 use name_lists::NameEnd;
-use report_forms::options::{Every, Format, Kinds, Options, Strictness};
+use report_forms::formats::{Format, format_named};
+use report_forms::options::{Every, Kinds, Options, Strictness};
 use std::alloc::{AllocError, Global};
 
 /// The most findings that are listed of a file, where nothing is said.
@@ -388,11 +389,7 @@ fn format_in(given: &ArgMatches<'_>) -> Format
     ensures { result ≡ format_by (first_value (found_of given.now) (codes "format")) }
 {
     match given.get_str("format") {
-        Some("text") => Format::Text,
-        Some("json") => Format::Json,
-        Some("github") => Format::Github,
-        Some("gitlab") => Format::Gitlab,
-        Some("sarif") => Format::Sarif,
-        _ => Format::Lines,
+        Some(name) => format_named(name),
+        None => Format::Lines,
     }
 }

@@ -4,7 +4,7 @@ use Rattle.std.proofs.Common.{add-one, append_assoc, append-nil, arith, codes}
 use Rattle.std.proofs.lemmas.List.{map-append, take_more}
 use Rattle.std.proofs.lemmas.List.Concat.{flat_map-append}
 use Rattle.std.proofs.Math.Bool.{and-false, and-true}
-use Rattle.report_forms.specs.Forms.Sarif.{break_unless, behind_breaks, next_results}
+use Rattle.report_forms.specs.Forms.Issues.{break_unless, behind_breaks, next_results}
 use Rattle.report_forms.specs.Internal.WrittenCommas.{is_none_yet}
 
 next-behind : (ys : List (List ℕ)) → next_results false ys ≡ behind_breaks ys

@@ -1,11 +1,8 @@
-//! The forms of the report. Each adds what it reports of a file to the bytes of a line.
-ghost use Rattle.std.specs.Prelude.{◌≡◌, ◌<◌, ◌++◌, OnOk};
-ghost use Rattle.std.specs.Fmt.{decimal};
-ghost use Rattle.std.specs.List.{flat_map};
-ghost use Rattle.gj_json.specs.Path.{steps_of};
+//! The forms of the report: what each has before the files, of each file, of its features or records, and after the last one. Each
+//! adds this to the bytes of a line.
+ghost use Rattle.std.specs.Prelude.{◌≡◌, OnOk};
 ghost use Rattle.geolint_report.specs.Line.{Adds};
-ghost use Rattle.report_forms.specs.Forms.Messages.{and_record, and_times, path_behind, and_path, level_of, step_text, steps_text, path_text};
-ghost use Rattle.report_forms.specs.Names.{shown_name, shown_bytes, begins_command, in_json, shown_text, shown_char, by_number, digit_in, unread_line};
+ghost use Rattle.report_forms.specs.Forms.{begin_of, format_named, is_for_people, logged_issue};
 
 pub mod github;
 pub mod gitlab;
@@ -17,213 +14,261 @@ mod pointer;
 pub mod sarif;
 pub mod text;
 
-use geolint_report::line::{put, put_all, put_number};
-use geolint_report::sites::Spot;
-use gj_json::{Path, PathStep};
-use gj_places::is_harmful;
-use itoa::Buffer;
-use serde_json::Value;
-use std::alloc::AllocError;
+use crate::every::Entry;
+use crate::options::Options;
+use crate::summary::Summary;
+use geolint_report::every::tally::Tally;
+use geolint_report::line::put;
+use geolint_report::report::Report;
+use issues::{Issue, issues, put_break_unless};
+use lines::Style;
+use std::alloc::{AllocError, Global};
 
-/// Puts a path from the root, as `$.features[3].geometry`; `*` stands for a name that the standard does not know.
-#[tactic(auto, unfolding(crate::specs::Forms::Messages::path_text))]
-pub fn put_path(path: &Path, line: &mut Vec<u8>) -> Result<(), AllocError>
-    ensures { OnOk result (Adds line.old line.new (path_text (steps_of path.now))) }
-{
-    put(line, b"$")?;
-    put_steps(path, line)
+/// The form of the report.
+#[derive(Clone, Copy, Debug, PartialEq, Eq)]
+pub enum Format {
+    Text,
+    Lines,
+    Json,
+    Github,
+    Gitlab,
+    Sarif,
 }
 
-fn put_steps(path: &Path, line: &mut Vec<u8>) -> Result<(), AllocError>
-    ensures { OnOk result (Adds line.old line.new (steps_text (steps_of path.now))) }
-{
-    for i in 0..path.len() {
-        if let Some(step) = path.step(i) {
-            put_step(step, line)?;
-        }
-    }
-    Ok(())
-}
+/// The names of the forms.
+pub const NAMES: [&str; 6] = ["text", "lines", "json", "github", "gitlab", "sarif"];
 
-fn put_step(step: PathStep, line: &mut Vec<u8>) -> Result<(), AllocError>
-    ensures { OnOk result (Adds line.old line.new (step_text step)) }
+/// The form of this name: lines, where it is none.
+pub fn format_named(name: &str) -> Format
+    ensures { result ≡ format_named name.now }
 {
-    match step {
-        PathStep::Index(index) => {
-            let mut digits = Buffer::new();
-            put_all(line, &[b"[", digits.format(index).as_bytes(), b"]"])
-        }
-        PathStep::Member(name) => put_all(line, &[b".", name.text().as_bytes()]),
+    match name {
+        "text" => Format::Text,
+        "json" => Format::Json,
+        "github" => Format::Github,
+        "gitlab" => Format::Gitlab,
+        "sarif" => Format::Sarif,
+        _ => Format::Lines,
     }
 }
 
-/// Puts the record that a message speaks of, where there is one.
-pub fn put_and_record(number: Option<u64>, line: &mut Vec<u8>) -> Result<(), AllocError>
-    ensures { OnOk result (Adds line.old line.new (and_record number)) }
+/// Whether people read the report, whom its summary then follows.
+pub fn is_for_people(format: Format) -> bool
+    ensures { result ≡ is_for_people format }
 {
-    match number {
-        Some(number) => {
-            let mut digits = Buffer::new();
-            put_all(line, &[b", record ", digits.format(number).as_bytes()])
-        }
-        None => Ok(()),
+    matches!(format, Format::Text | Format::Lines)
+}
+
+/// Puts what comes before the first file.
+pub fn put_begin(format: Format, line: &mut Vec<u8>) -> Result<(), AllocError>
+    ensures { OnOk result (Adds line.old line.new (begin_of format)) }
+{
+    match format {
+        Format::Gitlab => put(line, b"["),
+        Format::Sarif => sarif::put_begin(line),
+        _ => Ok(()),
     }
 }
 
-/// Puts how often a message holds, where that is more than once.
-pub fn put_and_times(count: u32, line: &mut Vec<u8>) -> Result<(), AllocError>
-    ensures { OnOk result (Adds line.old line.new (and_times count)) }
-{
-    if count > 1 {
-        let mut digits = Buffer::new();
-        put_all(line, &[b", ", digits.format(count).as_bytes(), b" times"])
-    } else {
+/// What has been written of a report.
+#[derive(Drop)]
+pub struct Log {
+    /// No result has been written.
+    pub is_first: bool,
+    /// What a log has at its end of the files that could not be read.
+    pub unread: Vec<u8>,
+}
+
+impl Log {
+    ghost use Rattle.std.specs.Prelude.{◌≡◌, [], List, OnOk, Option, true};
+    ghost use Rattle.geolint_report.specs.declared.every.tally.Tally.{Tally};
+    ghost use Rattle.geolint_report.specs.declared.judge.Finding.{Finding};
+    ghost use Rattle.geolint_report.specs.Line.{Adds};
+    ghost use Rattle.geolint_report.specs.Tallies.{IsTotal};
+    ghost use Rattle.report_forms.specs.FileCounts.{Counts};
+    ghost use Rattle.report_forms.specs.Forms.{KeepsUnread, TellsEntry, TellsMore, TellsReport, TellsUnread, end_of, logged};
+    ghost use Rattle.report_forms.specs.Forms.Issues.{next_results};
+
+    pub fn new(alloc: Global) -> Log
+        ensures { (result.is_first ≡ true) × (result.unread.items ≡ []) }
+    {
+        Log {
+            is_first: true,
+            unread: Vec::new(alloc),
+        }
+    }
+
+    /// Puts the report of a file that was checked.
+    pub fn put_report(
+        &self,
+        alloc: Global,
+        report: &Report<'_>,
+        options: &Options,
+        style: Style,
+        line: &mut Vec<u8>,
+    ) -> Result<(), AllocError>
+        ensures { OnOk result
+            (TellsReport options.now.format style self.now.is_first report.now options.now.strictness line.old line.new) }
+    {
+        match options.format {
+            Format::Text => text::put_report(report, line),
+            Format::Lines => lines::put_report(alloc, report, style, line),
+            Format::Json => json::put_report(alloc, report, line),
+            Format::Github => github::put_report(alloc, report, options, line),
+            Format::Gitlab => self.put_issues(alloc, Format::Gitlab, report, options, line),
+            Format::Sarif => self.put_issues(alloc, Format::Sarif, report, options, line),
+        }
+    }
+
+    /// Puts the issues of a file, in a form that gathers those of all files: none for one that is valid without a warning.
+    fn put_issues(
+        &self,
+        alloc: Global,
+        format: Format,
+        report: &Report<'_>,
+        options: &Options,
+        line: &mut Vec<u8>,
+    ) -> Result<(), AllocError>
+        ensures { OnOk result (Adds line.old line.new (next_results self.now.is_first (logged format report.now options.now.strictness))) }
+    {
+        let issues = issues(alloc, &report.finding, options)?;
+        let mut is_first = self.is_first;
+        for issue in issues.as_slice() {
+            put_break_unless(is_first, line)?;
+            put_issue(alloc, format, report, issue, line)?;
+            is_first = false;
+        }
         Ok(())
     }
-}
 
-/// Puts the path that a message speaks of, where there is one.
-pub fn put_and_path(path: Option<Path>, line: &mut Vec<u8>) -> Result<(), AllocError>
-    ensures { OnOk result (Adds line.old line.new (and_path path)) }
-{
-    match path {
-        Some(path) => put_path_behind(&path, line),
-        None => Ok(()),
+    /// Keeps for the end of a log that a file could not be opened or read.
+    pub fn keep_unread(
+        &mut self,
+        alloc: Global,
+        format: Format,
+        name: &[u8],
+        reason: &str,
+    ) -> Result<(), AllocError>
+        ensures first { self.new.is_first ≡ self.old.is_first }
+        ensures kept { OnOk result (KeepsUnread format name.now reason.now self.old.unread.items self.new.unread.items) }
+    {
+        match format {
+            Format::Sarif => sarif::put_unread(alloc, name, reason, &mut self.unread),
+            _ => Ok(()),
+        }
+    }
+
+    /// Puts the report of a file that could not be opened or read.
+    pub fn put_unread(
+        &self,
+        alloc: Global,
+        format: Format,
+        name: &[u8],
+        reason: &str,
+        line: &mut Vec<u8>,
+    ) -> Result<(), AllocError>
+        ensures { OnOk result (TellsUnread format self.now.is_first name.now reason.now line.old line.new) }
+    {
+        match format {
+            Format::Json => json::put_unread(alloc, name, reason, line),
+            Format::Github => github::put_unread(alloc, name, reason, line),
+            Format::Gitlab => {
+                put_break_unless(self.is_first, line)?;
+                gitlab::put_unread(alloc, name, reason, line)
+            }
+            _ => Ok(()),
+        }
+    }
+
+    /// Puts the line on a feature or a record.
+    pub fn put_entry(
+        &self,
+        alloc: Global,
+        entry: &Entry<'_>,
+        options: &Options,
+        style: Style,
+        line: &mut Vec<u8>,
+    ) -> Result<(), AllocError>
+        ensures { OnOk result
+            (TellsEntry options.now.format style self.now.is_first entry.now options.now.strictness line.old line.new) }
+    {
+        match options.format {
+            Format::Text => text::put_entry(entry, line),
+            Format::Lines => lines::put_entry(entry, style, line),
+            Format::Json => json::put_entry(alloc, entry, line),
+            Format::Github => github::put_entry(alloc, entry, options, line),
+            Format::Gitlab => {
+                put_break_unless(self.is_first, line)?;
+                gitlab::put_entry(alloc, entry, options, line)
+            }
+            Format::Sarif => {
+                put_break_unless(self.is_first, line)?;
+                sarif::put_entry(alloc, entry, options, line)
+            }
+        }
+    }
+
+    /// Puts the line on `count` features or records that are not reported.
+    pub fn put_more(
+        &self,
+        alloc: Global,
+        format: Format,
+        name: &[u8],
+        count: u64,
+        style: Style,
+        line: &mut Vec<u8>,
+    ) -> Result<(), AllocError>
+        ensures { OnOk result (TellsMore format style self.now.is_first name.now count line.old line.new) }
+    {
+        match format {
+            Format::Text => text::put_more(count, line),
+            Format::Lines => lines::put_more(name, count, style, line),
+            Format::Json => json::put_more(alloc, name, count, line),
+            Format::Github => github::put_more(alloc, name, count, line),
+            Format::Gitlab => {
+                put_break_unless(self.is_first, line)?;
+                gitlab::put_more(alloc, name, count, line)
+            }
+            Format::Sarif => {
+                put_break_unless(self.is_first, line)?;
+                sarif::put_more(name, count, line)
+            }
+        }
+    }
+
+    /// Puts what follows the last file.
+    pub fn put_end(
+        &self,
+        format: Format,
+        style: Style,
+        summary: &Summary,
+        tally: &Tally,
+        line: &mut Vec<u8>,
+    ) -> Result<(), AllocError>
+        ensures { (files : List (Option Finding)) (tallies : List Tally) → Counts summary.now files → IsTotal tally.now tallies
+            → OnOk result (Adds line.old line.new (end_of format style files tallies self.now.unread.items)) }
+    {
+        match format {
+            Format::Gitlab => put(line, b"]\n"),
+            Format::Sarif => sarif::put_end(self.unread.as_slice(), line),
+            Format::Lines => lines::put_calls(style, summary, tally, line),
+            _ => Ok(()),
+        }
     }
 }
 
-#[tactic(auto, unfolding(crate::specs::Forms::Messages::path_behind))]
-fn put_path_behind(path: &Path, line: &mut Vec<u8>) -> Result<(), AllocError>
-    ensures { OnOk result (Adds line.old line.new (path_behind (steps_of path.now))) }
-{
-    put(line, b", ")?;
-    put_path(path, line)
-}
-
-/// Puts the line of a place after its word, and its column after that.
-pub fn put_line_and_column(
-    line_word: &[u8],
-    column_word: &[u8],
-    spot: Spot,
+/// Puts an issue of a file, in a form that gathers those of all files.
+fn put_issue(
+    alloc: Global,
+    format: Format,
+    report: &Report<'_>,
+    issue: &Issue,
     line: &mut Vec<u8>,
 ) -> Result<(), AllocError>
-    ensures { OnOk result (Adds line.old line.new (line_word.now ++ (decimal spot.line ++ (column_word.now ++ decimal spot.column)))) }
+    ensures { OnOk result (Adds line.old line.new (logged_issue format report.now issue.now)) }
 {
-    put(line, line_word)?;
-    put_number(line, spot.line)?;
-    put(line, column_word)?;
-    put_number(line, spot.column)
-}
-
-/// The level of a warning.
-pub fn level(fails: bool) -> &'static [u8]
-    ensures { result.now ≡ level_of fails }
-{
-    match fails {
-        true => b"error",
-        false => b"warning",
+    match format {
+        Format::Gitlab => gitlab::put_issue(alloc, report, issue, line),
+        _ => sarif::put_issue(alloc, report, issue, line),
     }
-}
-
-/// Puts a name, an `id` or what was found, as it is, but for characters that a terminal or a reader of lines would obey, for
-/// bytes that are no Unicode text, and for a first byte with which a line could be a command to a runner of jobs: of these the
-/// number, as `\x0a`.
-#[tactic(auto, unfolding(crate::specs::Names::shown_name))]
-pub fn put_name(name: &[u8], line: &mut Vec<u8>) -> Result<(), AllocError>
-    ensures { OnOk result (Adds line.old line.new (shown_name name.now)) }
-{
-    if begins_command(name) {
-        put_number_of(name[0], line)?;
-        put_bytes(&name[1..], line)
-    } else {
-        put_bytes(name, line)
-    }
-}
-
-fn begins_command(name: &[u8]) -> bool
-    ensures { result ≡ begins_command name.now }
-{
-    matches!(name, [b' ' | b'#' | b':', ..])
-}
-
-fn put_bytes(name: &[u8], line: &mut Vec<u8>) -> Result<(), AllocError>
-    ensures { OnOk result (Adds line.old line.new (shown_bytes name.now)) }
-{
-    for chunk in name.utf8_chunks() {
-        put_text(chunk.valid(), line)?;
-        put_numbers(chunk.invalid(), line)?;
-    }
-    Ok(())
-}
-
-/// Puts a text as a JSON string, as `serde_json` writes it: U+FFFD stands for each part that is no UTF-8.
-#[tactic(auto, unfolding(crate::specs::Names::in_json))]
-pub fn put_string(text: &[u8], line: &mut Vec<u8>) -> Result<(), AllocError>
-    ensures { OnOk result (Adds line.old line.new (in_json text.now)) }
-{
-    let alloc = *line.allocator();
-    let value = Value::String(String::from_utf8_lossy(alloc, text)?);
-    put(line, value.to_string(alloc)?.as_bytes())
-}
-
-/// Puts the line on standard error about a file that could not be opened or read.
-#[tactic(auto, unfolding(crate::specs::Names::unread_line))]
-pub fn put_unread_line(name: &[u8], reason: &[u8], line: &mut Vec<u8>) -> Result<(), AllocError>
-    ensures { OnOk result (Adds line.old line.new (unread_line name.now reason.now)) }
-{
-    put(line, b"geolint-files: ")?;
-    put_name(name, line)?;
-    put(line, b": ")?;
-    put(line, reason)?;
-    put(line, b"\n")
-}
-
-fn put_text(text: &str, line: &mut Vec<u8>) -> Result<(), AllocError>
-    ensures { OnOk result (Adds line.old line.new (shown_text text.now)) }
-{
-    for c in text.chars() {
-        put_char(c, line)?;
-    }
-    Ok(())
-}
-
-fn put_char(c: char, line: &mut Vec<u8>) -> Result<(), AllocError>
-    ensures { OnOk result (Adds line.old line.new (shown_char c)) }
-{
-    let mut room = [0; 4];
-    let bytes = c.encode_utf8(&mut room).as_bytes();
-    if is_harmful(c) {
-        put_numbers(bytes, line)
-    } else {
-        put(line, bytes)
-    }
-}
-
-fn put_numbers(bytes: &[u8], line: &mut Vec<u8>) -> Result<(), AllocError>
-    ensures { OnOk result (Adds line.old line.new (flat_map by_number bytes.now)) }
-{
-    for byte in bytes {
-        put_number_of(*byte, line)?;
-    }
-    Ok(())
-}
-
-const LOWER_DIGITS: &[u8; 16] = b"0123456789abcdef";
-
-/// Puts the number of a byte.
-#[tactic(auto, unfolding(crate::specs::Names::by_number))]
-fn put_number_of(byte: u8, line: &mut Vec<u8>) -> Result<(), AllocError>
-    ensures { OnOk result (Adds line.old line.new (by_number byte)) }
-{
-    let high = digit_in(LOWER_DIGITS, byte / 16);
-    let low = digit_in(LOWER_DIGITS, byte % 16);
-    put_all(line, &[b"\\x", &[high, low]])
-}
-
-/// The digit of a number below 16.
-pub fn digit_in(digits: &[u8; 16], number: u8) -> u8
-    requires { number < 16 }
-    ensures { result ≡ digit_in digits.now number }
-{
-    digits[number as usize]
 }

@@ -1,21 +1,11 @@
 //! How files are checked, and in which form they are reported.
 
+use crate::formats::Format;
 use geolint_report::judge::Finding;
 use geolint_report::texts::has;
 use gj_coords::{KINDS, Kind, Warnings};
 use gj_json::Limits;
 use gj_rules::Framing;
-
-/// The form of the report.
-#[derive(Clone, Copy, Debug, PartialEq, Eq)]
-pub enum Format {
-    Text,
-    Lines,
-    Json,
-    Github,
-    Gitlab,
-    Sarif,
-}
 
 /// Some kinds of warning, by their numbers less 1.
 #[derive(Clone, Copy, Debug, PartialEq, Eq)]

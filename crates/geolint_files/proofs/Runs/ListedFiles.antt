@@ -14,7 +14,7 @@ use Rattle.geolint_report.specs.declared.every.cursor.Cursors.{Cursors}
 use Rattle.geolint_report.specs.declared.every.listing.Asked.{Asked}
 use Rattle.geolint_report.specs.declared.every.listing.Note.{Note}
 use Rattle.geolint_report.specs.declared.every.tally.Tally.{Tally}
-use Rattle.report_forms.specs.declared.every.entry.Entry.{Entry}
+use Rattle.report_forms.specs.declared.every.Entry.{Entry}
 use Rattle.geolint_report.specs.Tallies.{IsTotal}
 use Rattle.report_forms.specs.declared.formats.lines.Style.{Style}
 use Rattle.report_forms.specs.declared.options.Every.{Every}
@@ -101,7 +101,7 @@ pub record AddsOneLine {W : Type 0} (contents : W → Option (List ℕ)) (line :
   pub told : List ℕ
   pub out : old.line.items ≡ [] → Appends (contents old.out) (contents new.out) told
   pub line_is : new.line.items ≡ []
-  pub adds : (bytes : List ℕ) → AddsLine old.options old.style line
+  pub adds : old.line.items ≡ [] → (bytes : List ℕ) → AddsLine old.options old.style line
       (record { bytes = bytes; is_first = old.log.is_first; unread = old.log.unread.items })
       (record { bytes = bytes ++ told; is_first = new.log.is_first; unread = new.log.unread.items })
 
@@ -132,7 +132,7 @@ TellsLines-of contents line old new one = record {
         files_told = AddsFiles-lines options style files report tally before (line ∷ []) (begun options.format) written _ has.files_told (
           _,
           AddsLine-at options old.options style old.style line written _ old.log.is_first old.log.unread.items has.options_are has.style_is has.first
-              has.unread (one.adds written.bytes),
+              has.unread (one.adds has.line written.bytes),
           refl,
         );
         out = Appends-trans held (contents old.out) (contents new.out) written.bytes one.told has.out (one.out has.line);

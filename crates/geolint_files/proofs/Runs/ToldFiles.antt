@@ -55,7 +55,7 @@ pub record AddsOne {W : Type 0} (contents : W → Option (List ℕ)) (file : Tol
   pub told : List ℕ
   pub out : old.line.items ≡ [] → Appends (contents old.out) (contents new.out) told
   pub line : new.line.items ≡ []
-  pub adds : (bytes : List ℕ) → AddsFile old.options old.style file
+  pub adds : old.line.items ≡ [] → (bytes : List ℕ) → AddsFile old.options old.style file
       (record { bytes = bytes; is_first = old.log.is_first; unread = old.log.unread.items })
       (record { bytes = bytes ++ told; is_first = new.log.is_first; unread = new.log.unread.items })
 
@@ -85,7 +85,7 @@ TellsFile-of contents file old new one = record {
         written = record { bytes = before.bytes ++ one.told; is_first = new.log.is_first; unread = new.log.unread.items };
         files_told = AddsFiles-more options style files file (begun options.format) before _ has.files_told
             (AddsFile-at options old.options style old.style file before _ old.log.is_first old.log.unread.items has.options_are has.style_is has.first
-            has.unread (one.adds before.bytes));
+            has.unread (one.adds has.line before.bytes));
         out = Appends-trans held (contents old.out) (contents new.out) before.bytes one.told has.out (one.out has.line);
         first = refl;
         unread = refl;

@@ -18,10 +18,8 @@ use geolint_report::judge::{Finding, Reading};
 use geolint_report::source::{Rewind, Source};
 use geolint_report::texts::Code;
 use gj_json::Limits;
-use report_forms::every::entry::Entry;
-use report_forms::every::{github, gitlab, json, lines, sarif, text};
-use report_forms::options::{Every, Format, Options};
-use std::alloc::AllocError;
+use report_forms::every::Entry;
+use report_forms::options::{Every, Options};
 use std::io::Write;
 
 /// The most notes that are held at once.
@@ -77,7 +75,7 @@ fn asked_after(asked: Asked, most: u64, told: u64) -> Asked
 impl<'a, W: Write + Drop> Run<'a, W> {
     ghost use Rattle.std.specs.Prelude.{◌≡◌, ◌-◌, ◌∷◌, [], ℕ, List, Option, Some, None, length, IfOk, OnOk};
     ghost use Rattle.gj_rules.specs.declared.records.framing.Framing.{Framing};
-    ghost use Rattle.report_forms.specs.declared.every.entry.Entry.{Entry};
+    ghost use Rattle.report_forms.specs.declared.every.Entry.{Entry};
     ghost use Rattle.geolint_report.specs.declared.every.listing.Note.{Note};
     ghost use Rattle.geolint_report.specs.declared.judge.Finding.{Finding};
     ghost use Rattle.report_forms.specs.declared.options.Every.{Every};
@@ -93,8 +91,7 @@ impl<'a, W: Write + Drop> Run<'a, W> {
     ghost use Rattle.geolint_report.specs.Internal.FurtherReading.{StandsBy};
     ghost use Rattle.geolint_files.specs.Listed.{asked_for, AreLinesOf, AreEntriesOf, others_of, IsMarkedBy, IsPlaced, IsListedOnce, IsListedTwice};
     ghost use Rattle.geolint_files.specs.Listed.{ArePlacedLines};
-    ghost use Rattle.report_forms.specs.Forms.Features.{TellsEntry, TellsMore, first_behind};
-    ghost use Rattle.geolint_files.specs.Internal.RunState.{TellsFile, TellsLines, ToldFurther, SameTold};
+    ghost use Rattle.geolint_files.specs.Internal.RunState.{TellsFile, TellsLines, ToldFurther};
     ghost use Rattle.geolint_files.specs.Run.{ToldFile, FeatureLine, feature_line, others_line, judged, listed};
 
     /// What is asked of the features or the records of a file of this name.
@@ -432,38 +429,15 @@ impl<'a, W: Write + Drop> Run<'a, W> {
             mark,
             id,
         };
-        self.put_entry(&entry)?;
+        self.log.put_entry(
+            self.rt.alloc(),
+            &entry,
+            &self.options,
+            self.style,
+            &mut self.line,
+        )?;
         self.write()?;
         Ok(())
-    }
-
-    /// Appends the line on a note in the form that is asked for.
-    fn put_entry(&mut self, entry: &Entry<'_>) -> Result<(), AllocError>
-        ensures same { SameTold self.old self.new }
-        ensures out { self.new.out ≡ self.old.out }
-        ensures told { OnOk result
-            (TellsEntry self.old.options.format self.old.style self.old.log.is_first entry.now self.old.options.strictness self.old.line
-            self.new.line) }
-        ensures first { OnOk result (self.new.log.is_first ≡ first_behind self.old.options.format self.old.log.is_first) }
-        ensures unread { self.new.log.unread ≡ self.old.log.unread }
-    {
-        let alloc = self.rt.alloc();
-        match self.options.format {
-            Format::Text => text::put_entry(entry, &mut self.line),
-            Format::Lines => lines::put_entry(entry, self.style, &mut self.line),
-            Format::Json => json::put_entry(alloc, entry, &mut self.line),
-            Format::Github => github::put_entry(alloc, entry, &self.options, &mut self.line),
-            Format::Gitlab => gitlab::put_entry(
-                alloc,
-                entry,
-                &self.options,
-                &mut self.log,
-                &mut self.line,
-            ),
-            Format::Sarif => self
-                .log
-                .put_entry(alloc, entry, &self.options, &mut self.line),
-        }
     }
 
     /// Reports how many notes are not reported, where there are some.
@@ -481,30 +455,16 @@ impl<'a, W: Write + Drop> Run<'a, W> {
     fn tell_more(&mut self, name: &[u8], count: u64) -> Result<(), Failure>
         ensures { OnOk result (TellsLines W.contents (others_line name.now count ∷ []) self.old self.new) }
     {
-        self.put_more(name, count)?;
+        self.log.put_more(
+            self.rt.alloc(),
+            self.options.format,
+            name,
+            count,
+            self.style,
+            &mut self.line,
+        )?;
         self.write()?;
         self.show()
-    }
-
-    /// Appends the line on these in the form that is asked for.
-    fn put_more(&mut self, name: &[u8], count: u64) -> Result<(), AllocError>
-        ensures same { SameTold self.old self.new }
-        ensures out { self.new.out ≡ self.old.out }
-        ensures told { OnOk result (TellsMore self.old.options.format self.old.style self.old.log.is_first name.now count self.old.line self.new.line) }
-        ensures first { OnOk result (self.new.log.is_first ≡ first_behind self.old.options.format self.old.log.is_first) }
-        ensures unread { self.new.log.unread ≡ self.old.log.unread }
-    {
-        let alloc = self.rt.alloc();
-        match self.options.format {
-            Format::Text => text::put_more(count, &mut self.line),
-            Format::Lines => lines::put_more(name, count, self.style, &mut self.line),
-            Format::Json => json::put_more(alloc, name, count, &mut self.line),
-            Format::Github => github::put_more(alloc, name, count, &mut self.line),
-            Format::Gitlab => {
-                gitlab::put_more(alloc, name, count, &mut self.log, &mut self.line)
-            }
-            Format::Sarif => self.log.put_more(name, count, &mut self.line),
-        }
     }
 }
 

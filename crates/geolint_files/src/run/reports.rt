@@ -14,9 +14,8 @@ use geolint_report::rereading::find_sites;
 use geolint_report::sites::Sites;
 use geolint_report::source::Rewind;
 use gj_hints::Hint;
-use report_forms::formats::{github, gitlab, json, lines, put_unread_line, text};
-use report_forms::options::Format;
-use std::alloc::AllocError;
+use report_forms::formats::Format;
+use report_forms::texts::put_unread_line;
 use std::io::{self, Write};
 
 impl<'a, W: Write + Drop> Run<'a, W> {
@@ -25,7 +24,6 @@ impl<'a, W: Write + Drop> Run<'a, W> {
     ghost use Rattle.geolint_report.specs.declared.report.Report.{Report};
     ghost use Rattle.geolint_report.specs.Sought.{AreSought};
     ghost use Rattle.report_forms.specs.Passing.{passes};
-    ghost use Rattle.report_forms.specs.Forms.{TellsReport, TellsUnread, KeepsInLog, first_after};
     ghost use Rattle.geolint_files.specs.Internal.RunState.{TellsFile, SameTold};
     ghost use Rattle.geolint_files.specs.Run.{judged, not_read};
     ghost use Rattle.geolint_files.specs.Told.{HasHeldIf, HasSites, shows};
@@ -168,43 +166,15 @@ impl<'a, W: Write + Drop> Run<'a, W> {
             found,
             hint,
         };
-        self.put(&report)?;
+        self.log.put_report(
+            self.rt.alloc(),
+            &report,
+            &self.options,
+            self.style,
+            &mut self.line,
+        )?;
         self.write()?;
         self.show()
-    }
-
-    /// What is reported of a file, in the form that is asked for.
-    fn put(&mut self, report: &Report<'_>) -> Result<(), AllocError>
-        ensures same { SameTold self.old self.new }
-        ensures out { self.new.out ≡ self.old.out }
-        ensures told { OnOk result
-            (TellsReport self.old.options.format self.old.style self.old.log.is_first report.now self.old.options.strictness self.old.line
-            self.new.line) }
-        ensures first { OnOk result
-            (self.new.log.is_first ≡ first_after self.old.options.format self.old.log.is_first report.now self.old.options.strictness) }
-        ensures unread { self.new.log.unread ≡ self.old.log.unread }
-    {
-        let alloc = self.rt.alloc();
-        match self.options.format {
-            Format::Text => text::put_report(report, &mut self.line),
-            Format::Lines => lines::put_report(alloc, report, self.style, &mut self.line),
-            Format::Json => json::put_report(alloc, report, &mut self.line),
-            Format::Github => github::put_report(alloc, report, &self.options, &mut self.line),
-            Format::Gitlab => self.log.put_report(
-                alloc,
-                Format::Gitlab,
-                report,
-                &self.options,
-                &mut self.line,
-            ),
-            Format::Sarif => self.log.put_report(
-                alloc,
-                Format::Sarif,
-                report,
-                &self.options,
-                &mut self.line,
-            ),
-        }
     }
 
     /// Reports a file that could not be opened or read. Each is reported on standard error.
@@ -221,28 +191,12 @@ impl<'a, W: Write + Drop> Run<'a, W> {
         put_unread_line(name, reason.as_bytes(), &mut line)?;
         // Where standard error cannot be written either, the status says it.
         let _ = self.rt.stderr().write_all(line.as_slice());
-        self.put_unread(name, reason.as_str())?;
+        let (format, reason) = (self.options.format, reason.as_str());
+        self.log.keep_unread(alloc, format, name, reason)?;
+        self.log
+            .put_unread(alloc, format, name, reason, &mut self.line)?;
         self.write()?;
         self.show()
-    }
-
-    /// Appends the line on a file that was not read in the form that is asked for, or keeps it for the end of a log.
-    fn put_unread(&mut self, name: &[u8], reason: &str) -> Result<(), AllocError>
-        ensures same { SameTold self.old self.new }
-        ensures out { self.new.out ≡ self.old.out }
-        ensures told { OnOk result (TellsUnread self.old.options.format self.old.log.is_first name.now reason.now self.old.line self.new.line) }
-        ensures log { OnOk result (KeepsInLog self.old.options.format name.now reason.now self.old.log self.new.log) }
-    {
-        let alloc = self.rt.alloc();
-        match self.options.format {
-            Format::Text | Format::Lines => Ok(()),
-            Format::Json => json::put_unread(alloc, name, reason, &mut self.line),
-            Format::Github => github::put_unread(alloc, name, reason, &mut self.line),
-            Format::Gitlab => {
-                gitlab::put_unread(alloc, name, reason, &mut self.log, &mut self.line)
-            }
-            Format::Sarif => self.log.keep_unread(alloc, name, reason),
-        }
     }
 
     /// On a terminal each file is shown when it is checked.

@@ -7,7 +7,10 @@ use Rattle.geolint_report.specs.declared.report.Report.{Report}
 use Rattle.geolint_report.specs.declared.sites.Spot.{Spot}
 use Rattle.geolint_report.specs.Report.{spot_of}
 use Rattle.geolint_report.specs.Texts.{code_name}
+use Rattle.report_forms.specs.declared.every.Entry.{Entry}
 use Rattle.report_forms.specs.declared.formats.issues.Issue.{Issue}
+use Rattle.report_forms.specs.declared.options.Strictness.{Strictness}
+use Rattle.report_forms.specs.Forms.Features.{and_more, entry_text, note_fails, spot_at}
 use Rattle.report_forms.specs.Forms.Issues.{issue_text}
 use Rattle.report_forms.specs.Names.{in_json, shown_name}
 
@@ -48,3 +51,15 @@ gitlab_issue report issue =
 -- that of a file that could not be opened or read
 abbrev pub gitlab_unread : List ℕ → List ℕ → List ℕ
 gitlab_unread name reason = gitlab_object (codes "major") (codes "not-read") (shown_name reason) 0 name None
+
+-- ---- a feature or a record
+
+abbrev pub severity_in : Strictness → Entry → List ℕ
+severity_in strictness entry = severity_of (note_fails strictness entry.note.told.code)
+
+abbrev pub gitlab_entry : List ℕ → Entry → List ℕ
+gitlab_entry severity entry =
+    gitlab_object severity (code_name entry.note.told.code) (entry_text entry) entry.note.told.place entry.name.now (spot_at entry.mark)
+
+abbrev pub gitlab_more : List ℕ → ℕ → List ℕ
+gitlab_more name count = gitlab_object (codes "info") (codes "more") (and_more count) 0 name None

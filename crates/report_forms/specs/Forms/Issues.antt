@@ -1,5 +1,5 @@
 -- The issues of a file, and what is said of each: what the forms for programs that gather issues have in common.
-use Rattle.std.specs.Prelude.{ℕ, Bool, true, List, [], ◌∷◌, ◌++◌, Option, Some, None, codes}
+use Rattle.std.specs.Prelude.{ℕ, Bool, true, false, List, [], ◌∷◌, ◌++◌, Option, Some, None, codes}
 use Rattle.std.specs.Fmt.{decimal}
 use Rattle.std.specs.List.{flat_map}
 use Rattle.gj_coords.specs.declared.kind.Kind.{Kind}
@@ -70,3 +70,18 @@ issue_details report issue =
 
 unfoldable pub issue_text : Report → Issue → List ℕ
 issue_text report issue = text_mark issue.told.code ++ (code_text issue.told.code ++ if_placed issue.told.code (issue_details report issue))
+
+-- ---- the results of all files in one text
+
+-- what stands between two
+abbrev pub break_unless : Bool → List ℕ
+break_unless true = []
+break_unless false = codes ",\n"
+
+abbrev pub behind_breaks : List (List ℕ) → List ℕ
+behind_breaks items = flat_map (λ item. codes ",\n" ++ item) items
+
+-- the first of all has no comma before it
+abbrev pub next_results : Bool → List (List ℕ) → List ℕ
+next_results is_first [] = []
+next_results is_first (first ∷ more) = break_unless is_first ++ (first ++ behind_breaks more)

@@ -1,5 +1,5 @@
 -- The form `json`: the object of a file, on a line of its own.
-use Rattle.std.specs.Prelude.{◌≡◌, ℕ, Bool, List, [], ◌∷◌, ◌++◌, Option, Some, None, codes}
+use Rattle.std.specs.Prelude.{◌≡◌, ℕ, Bool, List, [], ◌∷◌, ◌++◌, Option, Some, None, codes, if◌then◌else◌}
 use Rattle.std.specs.Fmt.{decimal}
 use Rattle.std.specs.List.{flat_map}
 use Rattle.gj_coords.specs.declared.kind.Kind.{Kind}
@@ -9,6 +9,7 @@ use Rattle.gj_hints.specs.declared.kind.Hint.{Hint}
 use Rattle.gj_json.specs.declared.path.Path.{Path}
 use Rattle.gj_json.specs.declared.path.PathStep.{PathStep}
 use Rattle.gj_json.specs.Path.{steps_of}
+use Rattle.geolint_report.specs.declared.every.listing.Item.{Item}
 use Rattle.geolint_report.specs.declared.judge.Finding.{Finding}
 use Rattle.geolint_report.specs.declared.found.Found.{Found}
 use Rattle.geolint_report.specs.declared.report.Report.{Report}
@@ -20,6 +21,8 @@ use Rattle.geolint_report.specs.Found.{found_bytes}
 use Rattle.gj_places.specs.Strings.{SpellsString}
 use Rattle.geolint_report.specs.Report.{warning_of, spot_of, path_of}
 use Rattle.geolint_report.specs.Texts.{code_name, code_text}
+use Rattle.report_forms.specs.declared.every.Entry.{Entry}
+use Rattle.report_forms.specs.Forms.Features.{is_nothing, path_at, spot_at}
 use Rattle.report_forms.specs.Forms.Hints.{hint_text}
 use Rattle.report_forms.specs.Forms.Messages.{path_text}
 use Rattle.report_forms.specs.Forms.Pointers.{pointer_or_null}
@@ -115,3 +118,30 @@ json_unread name reason =
     codes "{\"path\":"
     ++ (name ++ (codes ",\"verdict\":\"not read\",\"passes\":false,\"record\":null,\"records\":null,\"rule\":null,\"text\":"
     ++ (reason ++ codes ",\"offset\":null,\"line\":null,\"column\":null,\"json_path\":null,\"pointer\":null,\"found\":null,\"hint\":null,\"warnings\":[]}\n")))
+
+-- ---- a feature or a record
+
+abbrev pub id_or_null : List ℕ → List ℕ → List ℕ
+id_or_null id spelled = if is_nothing id then codes "null" else spelled
+
+-- the members for a feature or a record; the first `id` is as it is written, and the second spelled as a string
+unfoldable pub feature_members : ℕ → List ℕ → List ℕ → List ℕ
+feature_members index id spelled = codes "\"feature\":" ++ (decimal index ++ (codes ",\"id\":" ++ id_or_null id spelled))
+
+unfoldable pub record_member : ℕ → List ℕ
+record_member number = codes "\"record\":" ++ decimal number
+
+abbrev pub item_members : Item → List ℕ → List ℕ → List ℕ
+item_members (Item.Feature index place) id spelled = feature_members index id spelled
+item_members (Item.Record number) id spelled = record_member number
+
+-- the name and the `id` are spelled so
+unfoldable pub json_entry : List ℕ → List ℕ → Entry → List ℕ
+json_entry name id entry =
+    codes "{\"path\":"
+    ++ (name
+    ++ (codes ","
+    ++ (item_members entry.note.item entry.id.now id ++ (json_told entry.note.told (spot_at entry.mark) (path_at entry.mark) ++ codes "}\n"))))
+
+unfoldable pub json_more : List ℕ → ℕ → List ℕ
+json_more name count = codes "{\"path\":" ++ (name ++ (codes ",\"more\":" ++ (decimal count ++ codes "}\n")))

@@ -11,7 +11,9 @@ use Rattle.gj_json.specs.Path.{steps_of}
 use Rattle.gj_places.specs.declared.excerpt.Excerpt.{Excerpt}
 use Rattle.gj_places.specs.Excerpts.{front_of, rest_of}
 use Rattle.gj_places.specs.Keeping.{Keeps}
+use Rattle.geolint_report.specs.declared.every.tally.Tally.{Tally}
 use Rattle.geolint_report.specs.declared.found.Found.{Found}
+use Rattle.geolint_report.specs.declared.judge.Finding.{Finding}
 use Rattle.geolint_report.specs.declared.report.Report.{Report}
 use Rattle.geolint_report.specs.declared.report.Told.{Told}
 use Rattle.geolint_report.specs.declared.sites.Spot.{Spot}
@@ -20,11 +22,14 @@ use Rattle.geolint_report.specs.Finding.{word_of, warnings_of, record_of}
 use Rattle.geolint_report.specs.Found.{found_bytes}
 use Rattle.geolint_report.specs.Report.{warning_of, of_warning, spot_of, excerpt_in, path_of}
 use Rattle.geolint_report.specs.Texts.{code_name, code_text}
+use Rattle.report_forms.specs.declared.every.Entry.{Entry}
 use Rattle.report_forms.specs.declared.formats.lines.Part.{Part}
 use Rattle.report_forms.specs.declared.formats.lines.Style.{Style}
 use Rattle.report_forms.specs.Names.{shown_name}
+use Rattle.report_forms.specs.Forms.Features.{and_byte, and_more, id_behind, item_text, note_word, path_at, spot_at}
 use Rattle.report_forms.specs.Forms.Hints.{hint_text}
-use Rattle.report_forms.specs.Forms.Messages.{path_text}
+use Rattle.report_forms.specs.Forms.Messages.{and_path, path_text}
+use Rattle.report_forms.specs.Summary.{calls_of}
 
 -- ---- colour: what begins a part, after an escape character, and what ends it
 
@@ -48,9 +53,8 @@ abbrev pub and_spot : Option Spot → List ℕ
 and_spot (Some spot) = codes ":" ++ (decimal spot.line ++ (codes ":" ++ decimal spot.column))
 and_spot None = []
 
-unfoldable pub lines_place : Style → Report → ℕ → List ℕ
-lines_place style report place =
-    beginning Part.Name style ++ (shown_name report.name.now ++ (and_spot (spot_of report place) ++ (ending style ++ codes ": ")))
+unfoldable pub lines_where : Style → List ℕ → Option Spot → List ℕ
+lines_where style name spot = beginning Part.Name style ++ (shown_name name ++ (and_spot spot ++ (ending style ++ codes ": ")))
 
 unfoldable pub lines_code : Style → Code → List ℕ
 lines_code style code = codes " " ++ (code_name code ++ (ending style ++ (codes ": " ++ code_text code)))
@@ -91,7 +95,7 @@ in_parentheses (first ∷ more) = codes " (" ++ (first ++ (more_details more ++ 
 -- what a line is of: `warning`, or the word for a file with a fault
 unfoldable pub lines_line : Style → Part → List ℕ → Report → Told → ℕ → List ℕ
 lines_line style part word report told count =
-    lines_place style report told.place
+    lines_where style report.name.now (spot_of report told.place)
     ++ (beginning part style ++ (word ++ (lines_code style told.code ++ (in_parentheses (details report told count) ++ codes "\n"))))
 
 abbrev pub lines_warning : Style → Report → Told → ℕ → List ℕ
@@ -108,7 +112,7 @@ unfoldable pub lines_warnings : Style → Report → Warnings → List ℕ
 lines_warnings style report warnings = flat_map (lines_kind style report warnings) shown_kinds
 
 unfoldable pub lines_not_valid : Style → List ℕ → List ℕ
-lines_not_valid style name = beginning Part.Name style ++ (shown_name name ++ (ending style ++ codes ": not valid\n"))
+lines_not_valid style name = lines_where style name None ++ codes "not valid\n"
 
 -- where there is no fault to report
 abbrev pub lines_rest : Style → Report → Option Warnings → List ℕ
@@ -159,3 +163,36 @@ AreLines style report (Some told) bytes =
     (excerpt : List ℕ) × IsExcerpt style (spot_of report told.place) (excerpt_in report.sites) excerpt
     × (bytes ≡ lines_line style Part.Fault (word_of report.finding) report told 1 ++ excerpt)
 AreLines style report None bytes = bytes ≡ lines_rest style report (warnings_of report.finding)
+
+-- ---- a feature or a record
+
+abbrev pub note_part : Code → Part
+note_part (Code.Kind kind) = Part.Warning
+note_part code = Part.Fault
+
+-- the offset, where the line is not known
+abbrev pub byte_behind : ℕ → Option Spot → List ℕ
+byte_behind place (Some spot) = []
+byte_behind place None = and_byte place
+
+unfoldable pub feature_details : Entry → List ℕ
+feature_details entry =
+    codes " ("
+    ++ (item_text entry.note.item
+    ++ (id_behind (codes ", id ") entry.id.now ++ (byte_behind entry.note.told.place (spot_at entry.mark) ++ (and_path (path_at entry.mark) ++ codes ")\n"))))
+
+unfoldable pub lines_entry : Style → Entry → List ℕ
+lines_entry style entry =
+    lines_where style entry.name.now (spot_at entry.mark)
+    ++ (beginning (note_part entry.note.told.code) style
+    ++ (note_word entry.note.told.code ++ (lines_code style entry.note.told.code ++ feature_details entry)))
+
+unfoldable pub lines_more : Style → List ℕ → ℕ → List ℕ
+lines_more style name count = lines_where style name None ++ (and_more count ++ codes "\n")
+
+-- ---- after the last file
+
+-- on a terminal the calls that explain what is reported
+abbrev pub lines_calls : Style → List (Option Finding) → List Tally → List ℕ
+lines_calls Style.Colour files tallies = calls_of files tallies
+lines_calls Style.Plain files tallies = []

@@ -1,5 +1,5 @@
 -- The form `sarif`: a log in SARIF 2.1.0.
-use Rattle.std.specs.Prelude.{◌/◌, ◌%◌, ℕ, Bool, true, false, ◌||◌, List, [], ◌∷◌, ◌++◌, Option, Some, None, codes, get_or, if◌then◌else◌, nat_eq}
+use Rattle.std.specs.Prelude.{◌/◌, ◌%◌, ℕ, Bool, ◌||◌, List, [], ◌∷◌, ◌++◌, Option, Some, None, codes, get_or, if◌then◌else◌, nat_eq}
 use Rattle.std.specs.Char.{is_ascii_alphanumeric}
 use Rattle.std.specs.Fmt.{decimal}
 use Rattle.std.specs.List.{flat_map, list_any}
@@ -15,12 +15,15 @@ use Rattle.geolint_report.specs.Line.{truth}
 use Rattle.geolint_report.specs.Report.{spot_of, path_of}
 use Rattle.geolint_report.specs.Texts.{code_name, code_text}
 use Rattle.gj_manual.specs.Manual.{section_of as manual_of}
+use Rattle.report_forms.specs.declared.every.Entry.{Entry}
 use Rattle.report_forms.specs.declared.formats.issues.Issue.{Issue}
+use Rattle.report_forms.specs.Forms.Features.{and_more, is_nothing, item_text, path_at, spot_at}
 use Rattle.report_forms.specs.Forms.Hints.{and_hint, hint_on}
+use Rattle.report_forms.specs.Forms.Issues.{break_unless}
+use Rattle.report_forms.specs.Forms.Json.{item_members}
 use Rattle.report_forms.specs.Forms.Messages.{and_record, and_times, if_placed, level_of, path_text}
 use Rattle.report_forms.specs.Names.{digit_in, in_json}
 use Rattle.geolint_report.specs.declared.texts.TheConstants.{ALL}
-pub use Rattle.gj_rules.specs.Records.{are_none as is_nothing}
 
 -- ---- a reference to a file
 
@@ -58,9 +61,8 @@ abbrev pub region_start_of : Option Spot → List ℕ
 region_start_of (Some spot) = region_start spot
 region_start_of None = []
 
-unfoldable pub region : Report → ℕ → List ℕ
-region report place =
-    codes ",\"region\":{" ++ (region_start_of (spot_of report place) ++ (codes "\"byteOffset\":" ++ (decimal place ++ codes ",\"byteLength\":0}")))
+unfoldable pub region : Option Spot → ℕ → List ℕ
+region spot place = codes ",\"region\":{" ++ (region_start_of spot ++ (codes "\"byteOffset\":" ++ (decimal place ++ codes ",\"byteLength\":0}")))
 
 unfoldable pub logical_location : List PathStep → List ℕ
 logical_location steps = codes ",\"logicalLocations\":[{\"fullyQualifiedName\":\"" ++ (path_text steps ++ codes "\"}]")
@@ -79,22 +81,8 @@ sarif_result report issue =
     ++ (in_json (sarif_message report issue)
     ++ (codes "}"
     ++ (location report.name.now
-    ++ (if_placed issue.told.code (region report issue.told.place)
+    ++ (if_placed issue.told.code (region (spot_of report issue.told.place) issue.told.place)
     ++ (codes "}" ++ (logical_location_of (path_of report issue.told) ++ codes "}]}"))))))))))
-
--- ---- what stands between two
-
-abbrev pub break_unless : Bool → List ℕ
-break_unless true = []
-break_unless false = codes ",\n"
-
-abbrev pub behind_breaks : List (List ℕ) → List ℕ
-behind_breaks items = flat_map (λ item. codes ",\n" ++ item) items
-
--- the first of all has no comma before it
-abbrev pub next_results : Bool → List (List ℕ) → List ℕ
-next_results is_first [] = []
-next_results is_first (first ∷ more) = break_unless is_first ++ (first ++ behind_breaks more)
 
 -- ---- a file that could not be opened or read
 
@@ -161,3 +149,27 @@ unfoldable pub sarif_end : List ℕ → List ℕ
 sarif_end unread =
     codes "],\"invocations\":[{\"executionSuccessful\":"
     ++ (truth (is_nothing unread) ++ (codes ",\"toolExecutionNotifications\":[" ++ (unread ++ codes "]}]}]}\n")))
+
+-- ---- a feature or a record
+
+unfoldable pub sarif_place : Entry → List ℕ
+sarif_place entry =
+    location entry.name.now
+    ++ (region (spot_at entry.mark) entry.note.told.place ++ (codes "}" ++ (logical_location_of (path_at entry.mark) ++ codes "}]")))
+
+unfoldable pub sarif_properties : List ℕ → Entry → List ℕ
+sarif_properties id entry = codes ",\"properties\":{" ++ (item_members entry.note.item entry.id.now id ++ codes "}}")
+
+unfoldable pub sarif_text : Entry → List ℕ
+sarif_text entry = code_text entry.note.told.code ++ (codes ", " ++ (item_text entry.note.item ++ codes "\"}"))
+
+-- the `id` is spelled so
+unfoldable pub sarif_entry : List ℕ → List ℕ → Entry → List ℕ
+sarif_entry level id entry =
+    codes "{\"ruleId\":\""
+    ++ (code_name entry.note.told.code
+    ++ (codes "\",\"level\":\""
+    ++ (level ++ (codes "\",\"message\":{\"text\":\"" ++ (sarif_text entry ++ (sarif_place entry ++ sarif_properties id entry))))))
+
+unfoldable pub sarif_more : List ℕ → ℕ → List ℕ
+sarif_more name count = codes "{\"level\":\"note\",\"message\":{\"text\":\"" ++ (and_more count ++ (codes "\"}" ++ (location name ++ codes "}}]}")))

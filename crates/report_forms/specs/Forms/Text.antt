@@ -8,15 +8,19 @@ use Rattle.gj_coords.specs.Warnings.{kinds}
 use Rattle.gj_json.specs.declared.path.Path.{Path}
 use Rattle.gj_json.specs.declared.path.PathStep.{PathStep}
 use Rattle.gj_json.specs.Path.{steps_of}
+use Rattle.geolint_report.specs.declared.every.cursor.Mark.{Mark}
 use Rattle.geolint_report.specs.declared.judge.Finding.{Finding}
 use Rattle.geolint_report.specs.declared.report.Report.{Report}
 use Rattle.geolint_report.specs.declared.report.Told.{Told}
+use Rattle.geolint_report.specs.declared.sites.Spot.{Spot}
 use Rattle.geolint_report.specs.declared.texts.Code.{Code}
 use Rattle.geolint_report.specs.Finding.{fault_of, warnings_of, record_of, records_of}
 use Rattle.geolint_report.specs.Report.{warning_of, of_warning, path_of}
 use Rattle.geolint_report.specs.Texts.{code_name, code_text}
+use Rattle.report_forms.specs.declared.every.Entry.{Entry}
 use Rattle.report_forms.specs.Names.{shown_name}
-use Rattle.report_forms.specs.Forms.Messages.{path_text}
+use Rattle.report_forms.specs.Forms.Features.{and_more, id_behind, item_text, note_word, path_at, spot_at}
+use Rattle.report_forms.specs.Forms.Messages.{and_path, path_text}
 
 -- a line with a number, where there is one
 abbrev pub number_line : List ℕ → Option ℕ → List ℕ
@@ -72,3 +76,23 @@ text_told report =
     codes "==> "
     ++ (shown_name report.name.now
     ++ (codes " <==\n" ++ (number_line (codes "record ") (record_of report.finding) ++ text_found report (fault_of report.finding))))
+
+-- ---- a feature or a record
+
+abbrev pub text_spot : Option Spot → List ℕ
+text_spot (Some spot) = codes ", line " ++ (decimal spot.line ++ (codes ", column " ++ decimal spot.column))
+text_spot None = []
+
+-- where it stands
+unfoldable pub text_place : ℕ → Option Mark → List ℕ
+text_place place mark = codes " at " ++ (decimal place ++ (text_spot (spot_at mark) ++ (and_path (path_at mark) ++ codes ": ")))
+
+unfoldable pub text_entry : Entry → List ℕ
+text_entry entry =
+    item_text entry.note.item
+    ++ (id_behind (codes " id ") entry.id.now
+    ++ (codes " " ++ (note_word entry.note.told.code
+    ++ (codes " " ++ (code_name entry.note.told.code ++ (text_place entry.note.told.place entry.mark ++ (code_text entry.note.told.code ++ codes "\n")))))))
+
+unfoldable pub text_more : ℕ → List ℕ
+text_more count = and_more count ++ codes "\n"

@@ -1,14 +1,15 @@
 //! Workflow commands of GitHub, which shows them at the line.
-ghost use Rattle.std.specs.Prelude.{◌≡◌, OnOk};
+ghost use Rattle.std.specs.Prelude.{OnOk};
 ghost use Rattle.std.specs.List.{flat_map};
 ghost use Rattle.geolint_report.specs.Line.{Adds};
 ghost use Rattle.report_forms.specs.Forms.Github.{escaped_in_message, escaped_in_property, github_file, github_spot, github_title, github_command};
-ghost use Rattle.report_forms.specs.Forms.Github.{github_told, github_unread};
-ghost use Rattle.report_forms.specs.Names.{shown_name};
+ghost use Rattle.report_forms.specs.Forms.Github.{github_issue, github_told, github_unread, github_entry, github_more};
+ghost use Rattle.report_forms.specs.Forms.Features.{level_in};
 
+use crate::every::{Entry, note_fails, put_and_more, put_entry_text, spot_at};
 use crate::formats::issues::{Issue, issues, put_issue_text};
-use crate::formats::{level, put_line_and_column, put_name};
 use crate::options::Options;
+use crate::texts::{level, put_line_and_column, put_name};
 use geolint_report::line::{put, put_all};
 use geolint_report::report::Report;
 use geolint_report::sites::Spot;
@@ -26,27 +27,50 @@ pub fn put_report(
 {
     let issues = issues(alloc, &report.finding, options)?;
     for issue in issues.as_slice() {
-        put_command(alloc, report, issue, line)?;
+        put_issue(alloc, report, issue, line)?;
     }
     Ok(())
 }
 
-#[tactic(auto, unfolding(crate::specs::Forms::Github::github_command))]
-fn put_command(
+fn put_issue(
     alloc: Global,
     report: &Report<'_>,
     issue: &Issue,
     line: &mut Vec<u8>,
 ) -> Result<(), AllocError>
-    ensures { OnOk result (Adds line.old line.new (github_command report.now issue.now)) }
+    ensures { OnOk result (Adds line.old line.new (github_issue report.now issue.now)) }
 {
     let mut text = Vec::new(alloc);
     put_issue_text(alloc, report, issue, &mut text)?;
-    put_file(alloc, level(issue.is_failure), report.name, line)?;
-    put_spot(report.spot(issue.told.place), line)?;
-    put_title(issue.told.code, line)?;
+    put_command(
+        alloc,
+        level(issue.is_failure),
+        report.name,
+        report.spot(issue.told.place),
+        issue.told.code,
+        text.as_slice(),
+        line,
+    )
+}
+
+/// Puts a command, whose text and whose name of the file are not escaped.
+#[tactic(auto, unfolding(crate::specs::Forms::Github::github_command))]
+fn put_command(
+    alloc: Global,
+    level: &[u8],
+    name: &[u8],
+    spot: Option<Spot>,
+    code: Code,
+    text: &[u8],
+    line: &mut Vec<u8>,
+) -> Result<(), AllocError>
+    ensures { OnOk result (Adds line.old line.new (github_command level.now name.now spot code text.now)) }
+{
+    put_file(alloc, level, name, line)?;
+    put_spot(spot, line)?;
+    put_title(code, line)?;
     put(line, b"::")?;
-    put_in_message(text.as_slice(), line)?;
+    put_in_message(text, line)?;
     put(line, b"\n")
 }
 
@@ -61,12 +85,7 @@ fn put_title(code: Code, line: &mut Vec<u8>) -> Result<(), AllocError>
 
 /// The level and the file, as its name is shown.
 #[tactic(auto, unfolding(crate::specs::Forms::Github::github_file))]
-pub fn put_file(
-    alloc: Global,
-    level: &[u8],
-    name: &[u8],
-    line: &mut Vec<u8>,
-) -> Result<(), AllocError>
+fn put_file(alloc: Global, level: &[u8], name: &[u8], line: &mut Vec<u8>) -> Result<(), AllocError>
     ensures { OnOk result (Adds line.old line.new (github_file level.now name.now)) }
 {
     put_all(line, &[b"::", level, b" file="])?;
@@ -75,7 +94,7 @@ pub fn put_file(
     put_in_property(shown.as_slice(), line)
 }
 
-pub fn put_spot(spot: Option<Spot>, line: &mut Vec<u8>) -> Result<(), AllocError>
+fn put_spot(spot: Option<Spot>, line: &mut Vec<u8>) -> Result<(), AllocError>
     ensures { OnOk result (Adds line.old line.new (github_spot spot)) }
 {
     match spot {
@@ -119,7 +138,7 @@ fn put_byte_in_property(byte: u8, line: &mut Vec<u8>) -> Result<(), AllocError>
     }
 }
 
-pub fn put_in_message(text: &[u8], line: &mut Vec<u8>) -> Result<(), AllocError>
+fn put_in_message(text: &[u8], line: &mut Vec<u8>) -> Result<(), AllocError>
     ensures { OnOk result (Adds line.old line.new (flat_map escaped_in_message text.now)) }
 {
     for byte in text {
@@ -137,4 +156,42 @@ fn put_byte_in_message(byte: u8, line: &mut Vec<u8>) -> Result<(), AllocError>
         b'\n' => line.extend_from_slice(b"%0A"),
         other => line.extend_from_slice(&[other]),
     }
+}
+
+/// Puts the command of a feature or a record.
+pub fn put_entry(
+    alloc: Global,
+    entry: &Entry<'_>,
+    options: &Options,
+    line: &mut Vec<u8>,
+) -> Result<(), AllocError>
+    ensures { OnOk result (Adds line.old line.new (github_entry (level_in options.now.strictness entry.now) entry.now)) }
+{
+    let mut text = Vec::new(alloc);
+    put_entry_text(entry, &mut text)?;
+    put_command(
+        alloc,
+        level(note_fails(entry.note.told.code, options)),
+        entry.name,
+        spot_at(entry.mark),
+        entry.note.told.code,
+        text.as_slice(),
+        line,
+    )
+}
+
+/// Puts the command on what is not reported.
+#[tactic(auto, unfolding(crate::specs::Forms::Github::github_more))]
+pub fn put_more(
+    alloc: Global,
+    name: &[u8],
+    count: u64,
+    line: &mut Vec<u8>,
+) -> Result<(), AllocError>
+    ensures { OnOk result (Adds line.old line.new (github_more name.now count)) }
+{
+    put_file(alloc, b"notice", name, line)?;
+    put(line, b"::")?;
+    put_and_more(count, line)?;
+    put(line, b"\n")
 }

@@ -1,12 +1,13 @@
 //! Issues as GitLab's Code Quality reads them, in one array.
-ghost use Rattle.std.specs.Prelude.{◌≡◌, ◌++◌, IfOk, OnOk, false, string_bytes};
+ghost use Rattle.std.specs.Prelude.{◌≡◌, IfOk, OnOk, string_bytes};
 ghost use Rattle.geolint_report.specs.Line.{Adds};
+ghost use Rattle.report_forms.specs.Forms.Gitlab.{gitlab_entry, gitlab_more, severity_in};
 ghost use Rattle.report_forms.specs.Forms.Gitlab.{fingerprint_of, gitlab_issue, gitlab_object, gitlab_unread, identity_of, line_of, severity_of};
-ghost use Rattle.report_forms.specs.Forms.Sarif.{break_unless};
 
+use crate::every::{Entry, note_fails, put_and_more, put_entry_text, spot_at};
 use crate::formats::issues::{Issue, put_issue_text};
-use crate::formats::sarif::Log;
-use crate::formats::{put_name, put_string};
+use crate::options::Options;
+use crate::texts::{put_name, put_string};
 use geolint_report::line::{put, put_number};
 use geolint_report::report::Report;
 use geolint_report::sites::Spot;
@@ -41,27 +42,12 @@ pub fn put_unread(
     alloc: Global,
     name: &[u8],
     reason: &str,
-    log: &mut Log,
-    line: &mut Vec<u8>,
-) -> Result<(), AllocError>
-    ensures bytes { OnOk result (Adds line.old line.new (break_unless log.old.is_first ++ gitlab_unread name.now reason.now)) }
-    ensures first { log.new.is_first ≡ false }
-    ensures unread { log.new.unread ≡ log.old.unread }
-{
-    log.begin_result(line)?;
-    put_unread_issue(alloc, name, reason.as_bytes(), line)
-}
-
-fn put_unread_issue(
-    alloc: Global,
-    name: &[u8],
-    reason: &[u8],
     line: &mut Vec<u8>,
 ) -> Result<(), AllocError>
     ensures { OnOk result (Adds line.old line.new (gitlab_unread name.now reason.now)) }
 {
     let mut text = Vec::new(alloc);
-    put_name(reason, &mut text)?;
+    put_name(reason.as_bytes(), &mut text)?;
     put_object(
         alloc,
         b"major",
@@ -75,7 +61,7 @@ fn put_unread_issue(
 }
 
 /// The severity of what fails a file, or does not.
-pub fn severity(fails: bool) -> &'static [u8]
+fn severity(fails: bool) -> &'static [u8]
     ensures { result.now ≡ severity_of fails }
 {
     match fails {
@@ -85,7 +71,7 @@ pub fn severity(fails: bool) -> &'static [u8]
 }
 
 /// Puts an issue, whose text and whose name of the file are not escaped.
-pub fn put_object(
+fn put_object(
     alloc: Global,
     severity: &[u8],
     check: &[u8],
@@ -143,4 +129,50 @@ fn line_of(spot: Option<Spot>) -> u64
         Some(spot) => spot.line,
         None => 1,
     }
+}
+
+/// Puts the issue of a feature or a record.
+pub fn put_entry(
+    alloc: Global,
+    entry: &Entry<'_>,
+    options: &Options,
+    line: &mut Vec<u8>,
+) -> Result<(), AllocError>
+    ensures { OnOk result (Adds line.old line.new (gitlab_entry (severity_in options.now.strictness entry.now) entry.now)) }
+{
+    let mut text = Vec::new(alloc);
+    put_entry_text(entry, &mut text)?;
+    put_object(
+        alloc,
+        severity(note_fails(entry.note.told.code, options)),
+        entry.note.told.code.name().as_bytes(),
+        text.as_slice(),
+        entry.note.told.place,
+        entry.name,
+        spot_at(entry.mark),
+        line,
+    )
+}
+
+/// Puts the issue on what is not reported.
+pub fn put_more(
+    alloc: Global,
+    name: &[u8],
+    count: u64,
+    line: &mut Vec<u8>,
+) -> Result<(), AllocError>
+    ensures { OnOk result (Adds line.old line.new (gitlab_more name.now count)) }
+{
+    let mut text = Vec::new(alloc);
+    put_and_more(count, &mut text)?;
+    put_object(
+        alloc,
+        b"info",
+        b"more",
+        text.as_slice(),
+        0,
+        name,
+        None,
+        line,
+    )
 }

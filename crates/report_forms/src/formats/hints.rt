@@ -5,7 +5,7 @@ ghost use Rattle.geolint_report.specs.Line.{Adds};
 ghost use Rattle.report_forms.specs.Forms.Hints.{and_hint, file_word, has_word, hint_on, hint_text, in_quotes, is_plain_in_word, named, quoted, shell_word};
 ghost use Rattle.report_forms.specs.Forms.Hints.{some_hint};
 
-use crate::formats::put_name;
+use crate::texts::put_name;
 use geolint_report::line::{put, put_all};
 use geolint_report::texts::Code;
 use gj_coords::Kind;

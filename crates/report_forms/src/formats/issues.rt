@@ -2,12 +2,12 @@
 ghost use Rattle.std.specs.Prelude.{◌≡◌, ◌++◌, IfOk, OnOk};
 ghost use Rattle.geolint_report.specs.Line.{Adds};
 ghost use Rattle.report_forms.specs.Forms.Issues.{failing, issues_of, issues_of_kind, issues_from, issues_of_warnings};
-ghost use Rattle.report_forms.specs.Forms.Issues.{and_found, issue_details, issue_text, some_found, text_mark};
+ghost use Rattle.report_forms.specs.Forms.Issues.{and_found, break_unless, issue_details, issue_text, some_found, text_mark};
 ghost use Rattle.report_forms.specs.Forms.Messages.{if_placed};
 
 use crate::formats::hints::{hint_on, put_and_hint};
-use crate::formats::{put_and_path, put_and_record, put_and_times, put_name};
 use crate::options::Options;
+use crate::texts::{put_and_path, put_and_record, put_and_times, put_name};
 use geolint_report::found::Found;
 use geolint_report::judge::Finding;
 use geolint_report::line::{put, put_number};
@@ -178,4 +178,11 @@ fn put_some_found(found: &Found, line: &mut Vec<u8>) -> Result<(), AllocError>
 {
     put(line, b", found: ")?;
     put_name(found.bytes(), line)
+}
+
+/// Puts what stands between two results.
+pub fn put_break_unless(is_first: bool, line: &mut Vec<u8>) -> Result<(), AllocError>
+    ensures { OnOk result (Adds line.old line.new (break_unless is_first)) }
+{
+    if is_first { Ok(()) } else { put(line, b",\n") }
 }

@@ -1,19 +1,31 @@
 //! One line for each thing that is reported, as compilers write them, and its place.
-ghost use Rattle.std.specs.Prelude.{◌≡◌, ◌||◌, ◌++◌, ℕ, List, OnOk, IfOk, codes, replicate};
+ghost use Rattle.std.specs.Prelude.{◌≡◌, ◌||◌, ◌++◌, ℕ, List, None, OnOk, Option, IfOk, codes, replicate};
 ghost use Rattle.std.specs.Fmt.{decimal};
 ghost use Rattle.gj_places.specs.declared.excerpt.Excerpt.{Excerpt};
+ghost use Rattle.geolint_report.specs.declared.every.tally.Tally.{Tally};
+ghost use Rattle.geolint_report.specs.declared.judge.Finding.{Finding};
 ghost use Rattle.geolint_report.specs.Finding.{word_of, fault_of, warnings_of};
 ghost use Rattle.geolint_report.specs.Line.{Adds};
 ghost use Rattle.geolint_report.specs.Report.{spot_of, excerpt_in};
-ghost use Rattle.report_forms.specs.Forms.Lines.{beginning, ending, and_spot, lines_place, lines_code, record_detail, times_detail, byte_detail, path_detail};
+ghost use Rattle.geolint_report.specs.Tallies.{IsTotal};
+ghost use Rattle.report_forms.specs.FileCounts.{Counts};
+ghost use Rattle.report_forms.specs.Forms.Features.{spot_at};
+ghost use Rattle.report_forms.specs.Forms.Lines.{beginning, ending, and_spot, lines_where, lines_code, record_detail, times_detail, byte_detail, path_detail};
 ghost use Rattle.report_forms.specs.Forms.Lines.{details, in_parentheses, lines_line, lines_kind, lines_warnings, lines_not_valid, lines_rest};
 ghost use Rattle.report_forms.specs.Forms.Lines.{lines_excerpt, found_line, lines_found, hint_line, lines_hint, IsShown, IsExcerpt, AreLines};
+ghost use Rattle.report_forms.specs.Forms.Lines.{lines_entry, lines_more, note_part, feature_details, byte_behind, lines_calls};
 ghost use Rattle.report_forms.specs.Internal.WrittenDetails.{next_details, has_details, separator, end};
 
+use crate::every::{
+    Entry, put_and_byte, put_and_more, put_id_behind, put_item, put_path_at, put_word, spot_at,
+};
 use crate::formats::hints::put_hint_text;
-use crate::formats::{put_line_and_column, put_name, put_path};
+use crate::summary::Summary;
+use crate::texts::{put_line_and_column, put_name, put_path};
+use geolint_report::every::cursor::Mark;
+use geolint_report::every::tally::Tally;
 use geolint_report::found::Found;
-use geolint_report::line::{put, put_all, put_number};
+use geolint_report::line::{put, put_all};
 use geolint_report::report::{Report, Told, warning};
 use geolint_report::sites::Spot;
 use geolint_report::texts::Code;
@@ -75,13 +87,13 @@ fn ending(style: Style) -> &'static [u8]
     }
 }
 
-pub fn put_beginning(part: Part, style: Style, line: &mut Vec<u8>) -> Result<(), AllocError>
+fn put_beginning(part: Part, style: Style, line: &mut Vec<u8>) -> Result<(), AllocError>
     ensures { OnOk result (Adds line.old line.new (beginning part style)) }
 {
     put(line, beginning(part, style))
 }
 
-pub fn put_ending(style: Style, line: &mut Vec<u8>) -> Result<(), AllocError>
+fn put_ending(style: Style, line: &mut Vec<u8>) -> Result<(), AllocError>
     ensures { OnOk result (Adds line.old line.new (ending style)) }
 {
     put(line, ending(style))
@@ -197,13 +209,12 @@ fn put_rest(report: &Report<'_>, style: Style, line: &mut Vec<u8>) -> Result<(),
     }
 }
 
+#[tactic(auto, unfolding(crate::specs::Forms::Lines::lines_not_valid))]
 fn put_not_valid(name: &[u8], style: Style, line: &mut Vec<u8>) -> Result<(), AllocError>
     ensures { OnOk result (Adds line.old line.new (lines_not_valid style name.now)) }
 {
-    put_beginning(Part::Name, style, line)?;
-    put_name(name, line)?;
-    put_ending(style, line)?;
-    put(line, b": not valid\n")
+    put_where(name, None, style, line)?;
+    put(line, b"not valid\n")
 }
 
 fn put_warnings(
@@ -256,7 +267,7 @@ fn put_line(
 ) -> Result<(), AllocError>
     ensures { OnOk result (Adds line.old line.new (lines_line style part word.now report.now told.now count)) }
 {
-    put_place(report, told.place, style, line)?;
+    put_where(report.name, report.spot(told.place), style, line)?;
     put_beginning(part, style, line)?;
     put(line, word)?;
     put_code(told.code, style, line)?;
@@ -264,23 +275,24 @@ fn put_line(
     put(line, b"\n")
 }
 
-#[tactic(auto, unfolding(crate::specs::Forms::Lines::lines_place))]
-fn put_place(
-    report: &Report<'_>,
-    place: u64,
+/// The file, and the line and the column in it.
+#[tactic(auto, unfolding(crate::specs::Forms::Lines::lines_where))]
+fn put_where(
+    name: &[u8],
+    spot: Option<Spot>,
     style: Style,
     line: &mut Vec<u8>,
 ) -> Result<(), AllocError>
-    ensures { OnOk result (Adds line.old line.new (lines_place style report.now place)) }
+    ensures { OnOk result (Adds line.old line.new (lines_where style name.now spot)) }
 {
     put_beginning(Part::Name, style, line)?;
-    put_name(report.name, line)?;
-    put_spot(report.spot(place), line)?;
+    put_name(name, line)?;
+    put_spot(spot, line)?;
     put_ending(style, line)?;
     put(line, b": ")
 }
 
-pub fn put_spot(spot: Option<Spot>, line: &mut Vec<u8>) -> Result<(), AllocError>
+fn put_spot(spot: Option<Spot>, line: &mut Vec<u8>) -> Result<(), AllocError>
     ensures { OnOk result (Adds line.old line.new (and_spot spot)) }
 {
     match spot {
@@ -290,7 +302,7 @@ pub fn put_spot(spot: Option<Spot>, line: &mut Vec<u8>) -> Result<(), AllocError
 }
 
 #[tactic(auto, unfolding(crate::specs::Forms::Lines::lines_code))]
-pub fn put_code(code: Code, style: Style, line: &mut Vec<u8>) -> Result<(), AllocError>
+fn put_code(code: Code, style: Style, line: &mut Vec<u8>) -> Result<(), AllocError>
     ensures { OnOk result (Adds line.old line.new (lines_code style code)) }
 {
     put(line, b" ")?;
@@ -470,4 +482,73 @@ fn put_spaces(columns: usize, line: &mut Vec<u8>) -> Result<(), AllocError>
         line.push(b' ')?;
     }
     Ok(())
+}
+
+/// Puts the line of a feature or a record.
+#[tactic(auto, unfolding(crate::specs::Forms::Lines::lines_entry))]
+pub fn put_entry(entry: &Entry<'_>, style: Style, line: &mut Vec<u8>) -> Result<(), AllocError>
+    ensures { OnOk result (Adds line.old line.new (lines_entry style entry.now)) }
+{
+    put_where(entry.name, spot_at(entry.mark), style, line)?;
+    put_beginning(note_part(entry.note.told.code), style, line)?;
+    put_word(entry.note.told.code, line)?;
+    put_code(entry.note.told.code, style, line)?;
+    put_feature_details(entry, line)
+}
+
+fn note_part(code: Code) -> Part
+    ensures { result ≡ note_part code }
+{
+    match code {
+        Code::Kind(_) => Part::Warning,
+        _ => Part::Fault,
+    }
+}
+
+/// What is in parentheses at the end of the line: the feature, its `id`, the offset where the line is not known, and the path.
+#[tactic(auto, unfolding(crate::specs::Forms::Lines::feature_details))]
+fn put_feature_details(entry: &Entry<'_>, line: &mut Vec<u8>) -> Result<(), AllocError>
+    ensures { OnOk result (Adds line.old line.new (feature_details entry.now)) }
+{
+    put(line, b" (")?;
+    put_item(entry.note.item, line)?;
+    put_id_behind(b", id ", entry.id, line)?;
+    put_byte_behind(entry.note.told.place, entry.mark, line)?;
+    put_path_at(entry.mark, line)?;
+    put(line, b")\n")
+}
+
+fn put_byte_behind(place: u64, mark: Option<Mark>, line: &mut Vec<u8>) -> Result<(), AllocError>
+    ensures { OnOk result (Adds line.old line.new (byte_behind place (spot_at mark))) }
+{
+    match mark {
+        Some(_) => Ok(()),
+        None => put_and_byte(place, line),
+    }
+}
+
+/// Puts the line on what is not reported.
+#[tactic(auto, unfolding(crate::specs::Forms::Lines::lines_more))]
+pub fn put_more(name: &[u8], count: u64, style: Style, line: &mut Vec<u8>) -> Result<(), AllocError>
+    ensures { OnOk result (Adds line.old line.new (lines_more style name.now count)) }
+{
+    put_where(name, None, style, line)?;
+    put_and_more(count, line)?;
+    put(line, b"\n")
+}
+
+/// Puts the calls that explain what is reported, on a terminal.
+pub fn put_calls(
+    style: Style,
+    summary: &Summary,
+    tally: &Tally,
+    line: &mut Vec<u8>,
+) -> Result<(), AllocError>
+    ensures { (files : List (Option Finding)) (tallies : List Tally) → Counts summary.now files → IsTotal tally.now tallies
+        → OnOk result (Adds line.old line.new (lines_calls style files tallies)) }
+{
+    match style {
+        Style::Colour => summary.put_calls(tally, line),
+        Style::Plain => Ok(()),
+    }
 }

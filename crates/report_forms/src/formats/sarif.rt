@@ -1,21 +1,24 @@
 //! A log in SARIF 2.1.0, written file by file.
-ghost use Rattle.std.specs.Prelude.{◌≡◌, ◌++◌, OnOk};
+ghost use Rattle.std.specs.Prelude.{◌≡◌, ℕ, List, OnOk};
 ghost use Rattle.std.specs.List.{flat_map};
 ghost use Rattle.gj_json.specs.Path.{steps_of};
+ghost use Rattle.gj_places.specs.Strings.{SpellsString};
 ghost use Rattle.geolint_report.specs.Finding.{record_of};
+ghost use Rattle.geolint_report.specs.Report.{spot_of};
 ghost use Rattle.geolint_report.specs.Line.{Adds};
-ghost use Rattle.report_forms.specs.Forms.Logs.{logged_issue};
+ghost use Rattle.report_forms.specs.Forms.Features.{is_nothing, level_in};
 ghost use Rattle.report_forms.specs.Forms.Messages.{and_record, if_placed};
 ghost use Rattle.report_forms.specs.Forms.Sarif.{is_plain_in_uri, percent_of, in_uri, scheme_of, uri_of, sarif_message, location, region_start};
-ghost use Rattle.report_forms.specs.Forms.Sarif.{region_start_of, region, logical_location, logical_location_of, sarif_result, break_unless};
+ghost use Rattle.report_forms.specs.Forms.Sarif.{region_start_of, region, logical_location, logical_location_of, sarif_result, sarif_begin, sarif_end, next_unread};
+ghost use Rattle.report_forms.specs.Forms.Sarif.{sarif_entry, sarif_text, sarif_place, sarif_properties, sarif_more};
 ghost use Rattle.report_forms.specs.Forms.Sarif.{sarif_unread, name_and_text, explained, section_of, manual_member, markdown_of, code_level, sarif_rule, sarif_rules, rule_and_break};
 
+use crate::every::{Entry, note_fails, path_at, put_and_more, put_item, spot_at};
 use crate::formats::hints::{hint_on, put_and_hint};
-use crate::formats::issues::{Issue, issues};
-use crate::formats::{
-    digit_in, gitlab, level, put_and_record, put_and_times, put_path, put_string,
-};
-use crate::options::{Format, Options};
+use crate::formats::issues::{Issue, put_break_unless};
+use crate::formats::json::put_members;
+use crate::options::Options;
+use crate::texts::{digit_in, level, put_and_record, put_and_times, put_path, put_string};
 use geolint_report::line::{put, put_all, put_number, put_truth};
 use geolint_report::report::Report;
 use geolint_report::sites::Spot;
@@ -25,137 +28,56 @@ use gj_manual::section;
 use gj_places::json_string;
 use std::alloc::{AllocError, Global};
 
-/// What has been written of a log, or of another form that gathers the issues of all files.
-#[derive(Drop)]
-pub struct Log {
-    /// No result has been written.
-    is_first: bool,
-    /// The notifications of files that could not be read.
-    unread: Vec<u8>,
-}
-
-impl Log {
-    ghost use Rattle.std.specs.Prelude.{◌≡◌, ◌&&◌, [], ℕ, List, OnOk, true, false};
-    ghost use Rattle.gj_places.specs.Strings.{SpellsString};
-    ghost use Rattle.geolint_report.specs.Line.{Adds};
-    ghost use Rattle.report_forms.specs.Forms.Issues.{issues_of};
-    ghost use Rattle.report_forms.specs.Forms.Logs.{logged};
-    ghost use Rattle.report_forms.specs.Forms.Sarif.{break_unless, next_results, next_unread};
-    ghost use Rattle.report_forms.specs.Forms.Sarif.{sarif_begin, sarif_end, is_nothing};
-    ghost use Rattle.report_forms.specs.Internal.WrittenCommas.{is_none_yet};
-
-    pub fn new(alloc: Global) -> Log
-        ensures { (result.is_first ≡ true) × (result.unread.items ≡ []) }
-    {
-        Log {
-            is_first: true,
-            unread: Vec::new(alloc),
-        }
-    }
-
-    /// Puts what comes before the first result: the program and its rules.
-    pub fn begin(&self, line: &mut Vec<u8>) -> Result<(), AllocError>
-        ensures { OnOk result (Adds line.old line.new sarif_begin) }
-    {
-        put(
-            line,
-            b"{\"$schema\":\"https://json.schemastore.org/sarif-2.1.0.json\",\"version\":\"2.1.0\",\"runs\":[{\"columnKind\":\"unicodeCodePoints\",\
-              \"tool\":{\"driver\":{\"name\":\"geolint-files\",\"version\":\"0.1.0\",\"rules\":[\n",
-        )?;
-        put_rules(line)?;
-        put_rule(Code::NotValid, line)?;
-        put(line, b"]}},\"results\":[\n")
-    }
-
-    /// Puts the issues of a file, in a form that gathers them: none for one that is valid without a warning.
-    pub fn put_report(
-        &mut self,
-        alloc: Global,
-        format: Format,
-        report: &Report<'_>,
-        options: &Options,
-        line: &mut Vec<u8>,
-    ) -> Result<(), AllocError>
-        ensures bytes { OnOk result (Adds line.old line.new (next_results self.old.is_first (logged format report.now options.now.strictness))) }
-        ensures first { OnOk result (self.new.is_first ≡ (self.old.is_first && is_none_yet (issues_of report.now.finding options.now.strictness))) }
-        ensures unread { self.new.unread ≡ self.old.unread }
-    {
-        let issues = issues(alloc, &report.finding, options)?;
-        for issue in issues.as_slice() {
-            self.begin_result(line)?;
-            put_issue(alloc, format, report, issue, line)?;
-        }
-        Ok(())
-    }
-
-    /// Puts what comes before a result.
-    pub fn begin_result(&mut self, line: &mut Vec<u8>) -> Result<(), AllocError>
-        ensures bytes { OnOk result (Adds line.old line.new (break_unless self.old.is_first)) }
-        ensures first { self.new.is_first ≡ false }
-        ensures unread { self.new.unread ≡ self.old.unread }
-    {
-        let is_first = self.is_first;
-        self.is_first = false;
-        put_break_unless(is_first, line)
-    }
-
-    /// Keeps that a file could not be opened or read.
-    pub fn keep_unread(
-        &mut self,
-        alloc: Global,
-        name: &[u8],
-        reason: &str,
-    ) -> Result<(), AllocError>
-        ensures kept { OnOk result
-            ((why : List ℕ) × SpellsString reason.now why × Adds self.old.unread self.new.unread (next_unread self.old.unread.items name.now why)) }
-        ensures first { self.new.is_first ≡ self.old.is_first }
-    {
-        let why = json_string(alloc, reason.as_bytes())?;
-        let is_first = self.unread.is_empty();
-        put_next_unread(is_first, name, why.as_bytes(), &mut self.unread)
-    }
-
-    /// Whether each file could be opened and read.
-    fn has_read_all(&self) -> bool
-        ensures { result ≡ is_nothing self.now.unread.items }
-    {
-        self.unread.is_empty()
-    }
-
-    /// Puts what comes after the last result.
-    pub fn end(&self, line: &mut Vec<u8>) -> Result<(), AllocError>
-        ensures { OnOk result (Adds line.old line.new (sarif_end self.now.unread.items)) }
-    {
-        put(line, b"],\"invocations\":[{\"executionSuccessful\":")?;
-        put_truth(line, self.has_read_all())?;
-        put(line, b",\"toolExecutionNotifications\":[")?;
-        put(line, self.unread.as_slice())?;
-        put(line, b"]}]}]}\n")
-    }
-}
-
-/// The comma between two.
-fn put_break_unless(is_first: bool, line: &mut Vec<u8>) -> Result<(), AllocError>
-    ensures { OnOk result (Adds line.old line.new (break_unless is_first)) }
+/// Puts what comes before the first result: the program and its rules.
+pub fn put_begin(line: &mut Vec<u8>) -> Result<(), AllocError>
+    ensures { OnOk result (Adds line.old line.new sarif_begin) }
 {
-    if is_first { Ok(()) } else { put(line, b",\n") }
+    put(
+        line,
+        b"{\"$schema\":\"https://json.schemastore.org/sarif-2.1.0.json\",\"version\":\"2.1.0\",\"runs\":[{\"columnKind\":\"unicodeCodePoints\",\
+          \"tool\":{\"driver\":{\"name\":\"geolint-files\",\"version\":\"0.1.0\",\"rules\":[\n",
+    )?;
+    put_rules(line)?;
+    put_rule(Code::NotValid, line)?;
+    put(line, b"]}},\"results\":[\n")
 }
 
-fn put_next_unread(
-    is_first: bool,
+/// Puts what comes after the last result, with the notifications of files that could not be read.
+pub fn put_end(unread: &[u8], line: &mut Vec<u8>) -> Result<(), AllocError>
+    ensures { OnOk result (Adds line.old line.new (sarif_end unread.now)) }
+{
+    put(line, b"],\"invocations\":[{\"executionSuccessful\":")?;
+    put_truth(line, has_read_all(unread))?;
+    put(line, b",\"toolExecutionNotifications\":[")?;
+    put(line, unread)?;
+    put(line, b"]}]}]}\n")
+}
+
+/// Whether each file could be opened and read.
+fn has_read_all(unread: &[u8]) -> bool
+    ensures { result ≡ is_nothing unread.now }
+{
+    unread.is_empty()
+}
+
+/// Puts the notification of a file that could not be opened or read after those before it.
+pub fn put_unread(
+    alloc: Global,
     name: &[u8],
-    reason: &[u8],
-    line: &mut Vec<u8>,
+    reason: &str,
+    unread: &mut Vec<u8>,
 ) -> Result<(), AllocError>
-    ensures { OnOk result (Adds line.old line.new (break_unless is_first ++ sarif_unread name.now reason.now)) }
+    ensures { OnOk result
+        ((why : List ℕ) × SpellsString reason.now why × Adds unread.old unread.new (next_unread unread.old.items name.now why)) }
 {
-    put_break_unless(is_first, line)?;
-    put_unread(name, reason, line)
+    let why = json_string(alloc, reason.as_bytes())?;
+    put_break_unless(unread.is_empty(), unread)?;
+    put_notification(name, why.as_bytes(), unread)
 }
 
-/// The notification of a file that could not be read; the reason is spelled as a JSON string.
+/// The reason is spelled as a JSON string.
 #[tactic(auto, unfolding(crate::specs::Forms::Sarif::sarif_unread))]
-fn put_unread(name: &[u8], reason: &[u8], line: &mut Vec<u8>) -> Result<(), AllocError>
+fn put_notification(name: &[u8], reason: &[u8], line: &mut Vec<u8>) -> Result<(), AllocError>
     ensures { OnOk result (Adds line.old line.new (sarif_unread name.now reason.now)) }
 {
     put(line, b"{\"level\":\"error\",\"message\":{\"text\":")?;
@@ -165,22 +87,8 @@ fn put_unread(name: &[u8], reason: &[u8], line: &mut Vec<u8>) -> Result<(), Allo
     put(line, b"}}]}")
 }
 
-fn put_issue(
-    alloc: Global,
-    format: Format,
-    report: &Report<'_>,
-    issue: &Issue,
-    line: &mut Vec<u8>,
-) -> Result<(), AllocError>
-    ensures { OnOk result (Adds line.old line.new (logged_issue format report.now issue.now)) }
-{
-    match format {
-        Format::Gitlab => gitlab::put_issue(alloc, report, issue, line),
-        _ => put_result(alloc, report, issue, line),
-    }
-}
-
-fn put_result(
+/// Puts the result of an issue of a file.
+pub fn put_issue(
     alloc: Global,
     report: &Report<'_>,
     issue: &Issue,
@@ -227,7 +135,7 @@ fn put_record(report: &Report<'_>, line: &mut Vec<u8>) -> Result<(), AllocError>
 }
 
 /// Which file it is.
-pub fn put_location(name: &[u8], line: &mut Vec<u8>) -> Result<(), AllocError>
+fn put_location(name: &[u8], line: &mut Vec<u8>) -> Result<(), AllocError>
     ensures { OnOk result (Adds line.old line.new (location name.now)) }
 {
     put(
@@ -240,25 +148,25 @@ pub fn put_location(name: &[u8], line: &mut Vec<u8>) -> Result<(), AllocError>
 
 /// The place in the file, where one is reported.
 fn put_region_if(report: &Report<'_>, issue: &Issue, line: &mut Vec<u8>) -> Result<(), AllocError>
-    ensures { OnOk result (Adds line.old line.new (if_placed issue.now.told.code (region report.now issue.now.told.place))) }
+    ensures { OnOk result (Adds line.old line.new (if_placed issue.now.told.code (region (spot_of report.now issue.now.told.place) issue.now.told.place))) }
 {
     match issue.told.code {
         Code::NotValid => Ok(()),
-        _ => put_region(report, issue.told.place, line),
+        _ => put_region(report.spot(issue.told.place), issue.told.place, line),
     }
 }
 
-fn put_region(report: &Report<'_>, place: u64, line: &mut Vec<u8>) -> Result<(), AllocError>
-    ensures { OnOk result (Adds line.old line.new (region report.now place)) }
+fn put_region(spot: Option<Spot>, place: u64, line: &mut Vec<u8>) -> Result<(), AllocError>
+    ensures { OnOk result (Adds line.old line.new (region spot place)) }
 {
     put(line, b",\"region\":{")?;
-    put_region_start_of(report.spot(place), line)?;
+    put_region_start_of(spot, line)?;
     put(line, b"\"byteOffset\":")?;
     put_number(line, place)?;
     put(line, b",\"byteLength\":0}")
 }
 
-pub fn put_region_start_of(spot: Option<Spot>, line: &mut Vec<u8>) -> Result<(), AllocError>
+fn put_region_start_of(spot: Option<Spot>, line: &mut Vec<u8>) -> Result<(), AllocError>
     ensures { OnOk result (Adds line.old line.new (region_start_of spot)) }
 {
     match spot {
@@ -278,7 +186,7 @@ fn put_region_start(spot: Spot, line: &mut Vec<u8>) -> Result<(), AllocError>
     put(line, b",")
 }
 
-pub fn put_logical_location_of(path: Option<Path>, line: &mut Vec<u8>) -> Result<(), AllocError>
+fn put_logical_location_of(path: Option<Path>, line: &mut Vec<u8>) -> Result<(), AllocError>
     ensures { OnOk result (Adds line.old line.new (logical_location_of path)) }
 {
     match path {
@@ -438,4 +346,84 @@ fn put_percent(byte: u8, line: &mut Vec<u8>) -> Result<(), AllocError>
     let high = digit_in(UPPER_DIGITS, byte / 16);
     let low = digit_in(UPPER_DIGITS, byte % 16);
     put_all(line, &[b"%", &[high, low]])
+}
+
+/// Puts the result of a feature or a record.
+pub fn put_entry(
+    alloc: Global,
+    entry: &Entry<'_>,
+    options: &Options,
+    line: &mut Vec<u8>,
+) -> Result<(), AllocError>
+    ensures { OnOk result
+        ((id : List ℕ) × SpellsString entry.now.id.now id
+        × Adds line.old line.new (sarif_entry (level_in options.now.strictness entry.now) id entry.now)) }
+{
+    let id = json_string(alloc, entry.id)?;
+    put_entry_result(
+        level(note_fails(entry.note.told.code, options)),
+        id.as_bytes(),
+        entry,
+        line,
+    )
+}
+
+/// The result; the `id` is spelled as a JSON string.
+fn put_entry_result(
+    level: &[u8],
+    id: &[u8],
+    entry: &Entry<'_>,
+    line: &mut Vec<u8>,
+) -> Result<(), AllocError>
+    ensures { OnOk result (Adds line.old line.new (sarif_entry level.now id.now entry.now)) }
+{
+    put(line, b"{\"ruleId\":\"")?;
+    entry.note.told.code.put_name(line)?;
+    put(line, b"\",\"level\":\"")?;
+    put(line, level)?;
+    put(line, b"\",\"message\":{\"text\":\"")?;
+    put_entry_message(entry, line)?;
+    put_place(entry, line)?;
+    put_properties(id, entry, line)
+}
+
+#[tactic(auto, unfolding(crate::specs::Forms::Sarif::sarif_text))]
+fn put_entry_message(entry: &Entry<'_>, line: &mut Vec<u8>) -> Result<(), AllocError>
+    ensures { OnOk result (Adds line.old line.new (sarif_text entry.now)) }
+{
+    entry.note.told.code.put_text(line)?;
+    put(line, b", ")?;
+    put_item(entry.note.item, line)?;
+    put(line, b"\"}")
+}
+
+#[tactic(auto, unfolding(crate::specs::Forms::Sarif::sarif_place))]
+fn put_place(entry: &Entry<'_>, line: &mut Vec<u8>) -> Result<(), AllocError>
+    ensures { OnOk result (Adds line.old line.new (sarif_place entry.now)) }
+{
+    put_location(entry.name, line)?;
+    put_region(spot_at(entry.mark), entry.note.told.place, line)?;
+    put(line, b"}")?;
+    put_logical_location_of(path_at(entry.mark), line)?;
+    put(line, b"}]")
+}
+
+#[tactic(auto, unfolding(crate::specs::Forms::Sarif::sarif_properties))]
+fn put_properties(id: &[u8], entry: &Entry<'_>, line: &mut Vec<u8>) -> Result<(), AllocError>
+    ensures { OnOk result (Adds line.old line.new (sarif_properties id.now entry.now)) }
+{
+    put(line, b",\"properties\":{")?;
+    put_members(entry.note.item, entry.id, id, line)?;
+    put(line, b"}}")
+}
+
+/// Puts the result on what is not reported.
+pub fn put_more(name: &[u8], count: u64, line: &mut Vec<u8>) -> Result<(), AllocError>
+    ensures { OnOk result (Adds line.old line.new (sarif_more name.now count)) }
+{
+    put(line, b"{\"level\":\"note\",\"message\":{\"text\":\"")?;
+    put_and_more(count, line)?;
+    put(line, b"\"}")?;
+    put_location(name, line)?;
+    put(line, b"}}]}")
 }

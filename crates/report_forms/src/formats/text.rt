@@ -4,9 +4,12 @@ ghost use Rattle.gj_json.specs.Path.{steps_of};
 ghost use Rattle.geolint_report.specs.Finding.{fault_of, warnings_of, record_of, records_of};
 ghost use Rattle.geolint_report.specs.Line.{Adds};
 ghost use Rattle.report_forms.specs.Forms.Text.{number_line, path_line, path_line_of, broken, broken_or_refused, text_fault, text_warning, text_kind};
-ghost use Rattle.report_forms.specs.Forms.Text.{text_warnings, text_valid, text_rest, text_found, text_told};
+ghost use Rattle.report_forms.specs.Forms.Features.{spot_at};
+ghost use Rattle.report_forms.specs.Forms.Text.{text_warnings, text_valid, text_rest, text_found, text_told, text_entry, text_place, text_spot, text_more};
 
-use crate::formats::{put_name, put_path};
+use crate::every::{Entry, put_and_more, put_id_behind, put_item, put_path_at, put_word, spot_at};
+use crate::texts::{put_line_and_column, put_name, put_path};
+use geolint_report::every::cursor::Mark;
 use geolint_report::judge::Finding;
 use geolint_report::line::{put, put_all, put_number};
 use geolint_report::report::{Report, Told, warning};
@@ -159,5 +162,49 @@ fn put_warning(told: &Told, count: u32, line: &mut Vec<u8>) -> Result<(), AllocE
     put_number(line, told.place)?;
     put(line, b": ")?;
     told.code.put_text(line)?;
+    put(line, b"\n")
+}
+
+/// Puts the line of a feature or a record.
+pub fn put_entry(entry: &Entry<'_>, line: &mut Vec<u8>) -> Result<(), AllocError>
+    ensures { OnOk result (Adds line.old line.new (text_entry entry.now)) }
+{
+    put_item(entry.note.item, line)?;
+    put_id_behind(b" id ", entry.id, line)?;
+    put(line, b" ")?;
+    put_word(entry.note.told.code, line)?;
+    put(line, b" ")?;
+    entry.note.told.code.put_name(line)?;
+    put_place(entry.note.told.place, entry.mark, line)?;
+    entry.note.told.code.put_text(line)?;
+    put(line, b"\n")
+}
+
+#[tactic(auto, unfolding(crate::specs::Forms::Text::text_place))]
+fn put_place(place: u64, mark: Option<Mark>, line: &mut Vec<u8>) -> Result<(), AllocError>
+    ensures { OnOk result (Adds line.old line.new (text_place place mark)) }
+{
+    put(line, b" at ")?;
+    put_number(line, place)?;
+    put_spot_at(mark, line)?;
+    put_path_at(mark, line)?;
+    put(line, b": ")
+}
+
+fn put_spot_at(mark: Option<Mark>, line: &mut Vec<u8>) -> Result<(), AllocError>
+    ensures { OnOk result (Adds line.old line.new (text_spot (spot_at mark))) }
+{
+    match spot_at(mark) {
+        Some(spot) => put_line_and_column(b", line ", b", column ", spot, line),
+        None => Ok(()),
+    }
+}
+
+/// Puts the line on what is not reported.
+#[tactic(auto, unfolding(crate::specs::Forms::Text::text_more))]
+pub fn put_more(count: u64, line: &mut Vec<u8>) -> Result<(), AllocError>
+    ensures { OnOk result (Adds line.old line.new (text_more count)) }
+{
+    put_and_more(count, line)?;
     put(line, b"\n")
 }
