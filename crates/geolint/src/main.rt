@@ -28,7 +28,7 @@ use crate::sequence::run_sequence;
 use crate::sink::{FromWrite, Sink};
 use crate::source::FromRead;
 use crate::words::{Order, WordsFault, read_words};
-use own_build::own_build;
+use geolint_report::own_build::own_build;
 use std::env;
 use std::fs::{self, File};
 use std::io::{self, ErrorKind};

@@ -2,9 +2,9 @@
 use Rattle.std.specs.Prelude.{◌≡◌, ◌⊎◌, ℕ, ◌≤◌, true, false, List, [], ◌++◌, length, Option, None, IsSomeAnd, option_and_then}
 use Rattle.gj_json.specs.Limits.{Allowed}
 use Rattle.gj_json.specs.declared.fault.JsonFault.{JsonFault}
-use Rattle.gj_runs.specs.Joiner.{Joins, limits_of, refusal_of}
-use Rattle.gj_runs.specs.Runs.{StandsAfterFeature, IsSumOf}
-use Rattle.gj_runs.specs.declared.sum.FeatureSum.{FeatureSum}
+use Rattle.gj_join.specs.Joiner.{Joins, limits_of, refusal_of}
+use Rattle.gj_join.specs.Runs.{StandsAfterFeature, IsSumOf}
+use Rattle.gj_join.specs.declared.sum.FeatureSum.{FeatureSum}
 use Rattle.geolint_c.specs.declared.join.JoinHandle.{JoinHandle}
 use Rattle.geolint_c.specs.declared.report.Report.{Report}
 use Rattle.geolint_c.specs.declared.sum.Sum.{Sum}

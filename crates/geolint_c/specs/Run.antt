@@ -7,9 +7,9 @@ use Rattle.gj_json.specs.Tree.{Text}
 use Rattle.gj_rules.specs.FeatureFindings.{findings_by, least_found}
 use Rattle.gj_rules.specs.Linter.{Answers}
 use Rattle.gj_rules.specs.declared.linter.Progress.{Progress}
-use Rattle.gj_runs.specs.RunLinter.{StandsFor as RunStandsFor, limits_of}
-use Rattle.gj_runs.specs.Runs.{IsLongestSum, IsOver, stand_at}
-use Rattle.gj_runs.specs.declared.sum.FeatureSum.{FeatureSum}
+use Rattle.gj_join.specs.RunLinter.{StandsFor as RunStandsFor, limits_of}
+use Rattle.gj_join.specs.Runs.{IsLongestSum, IsOver, stand_at}
+use Rattle.gj_join.specs.declared.sum.FeatureSum.{FeatureSum}
 use Rattle.geolint_c.specs.declared.run.RunHandle.{RunHandle}
 use Rattle.geolint_c.specs.declared.sum.Sum.{Sum}
 use Rattle.geolint_c.specs.Handle.{status_of}

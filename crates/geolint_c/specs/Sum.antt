@@ -3,7 +3,7 @@ use Rattle.std.specs.Prelude.{◌≡◌, ℕ, min, List, [], ◌∷◌, ◌++◌
 use Rattle.gj_coords.specs.declared.kind.Kind.{Kind}
 use Rattle.gj_coords.specs.Warnings.{Warning, warning_at, greatest_count}
 use Rattle.gj_coords.specs.WarningsStand.{StandsFor}
-use Rattle.gj_runs.specs.declared.sum.FeatureSum.{FeatureSum}
+use Rattle.gj_join.specs.declared.sum.FeatureSum.{FeatureSum}
 use Rattle.geolint_c.specs.declared.report.Warned.{Warned}
 use Rattle.geolint_c.specs.declared.sum.Sum.{Sum}
 use Rattle.geolint_c.specs.Report.{all_warned, nothing_warned}

@@ -14,7 +14,7 @@ use crate::options::limits_of;
 use crate::report::{Report, no_report, report_of};
 use crate::status::{ENDED, NULL};
 use crate::sum::{Sum, sum_said};
-use gj_runs::Joiner;
+use gj_join::Joiner;
 use std::mem::size_of;
 
 /// A joiner until it has ended.

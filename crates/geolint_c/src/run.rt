@@ -4,7 +4,7 @@ ghost use Rattle.std.specs.Prelude.{◌≡◌, unwrap_or};
 ghost use Rattle.std.specs.Option.{SomeIff};
 ghost use denote.Memory.{lone};
 ghost use prog.Memory.{size};
-ghost use Rattle.gj_runs.specs.Seams.{seam};
+ghost use Rattle.gj_join.specs.Seams.{seam};
 ghost use Rattle.geolint_c.specs.contracts.run.RunHandle.{the_row};
 ghost use Rattle.geolint_c.specs.Options.{limits_meant};
 ghost use Rattle.geolint_c.specs.Run.{MayBegin, IsBegun, BegunStatus, IsFed, IsTold};
@@ -15,8 +15,8 @@ use crate::handle::{Memory, status_of};
 use crate::options::limits_of;
 use crate::status::{DONE, ENDED, LIMITS, NULL};
 use crate::sum::{Sum, no_sum, sum_of};
+use gj_join::{RunLinter, after_brace};
 use gj_json::Limits;
-use gj_runs::{RunLinter, after_brace};
 use std::mem::size_of;
 
 /// A linter of a run; None where it was not begun within the limits.

@@ -4,12 +4,12 @@ ghost use Rattle.gj_coords.specs.Warnings.{Warning, greatest_count};
 ghost use Rattle.gj_coords.specs.WarningsStand.{StandsFor};
 ghost use Rattle.geolint_c.specs.Report.{all_warned, nothing_warned};
 ghost use Rattle.geolint_c.specs.Sum.{SaysSum, no_sum, all_said};
-ghost use Rattle.gj_runs.specs.declared.sum.FeatureSum.{FeatureSum};
+ghost use Rattle.gj_join.specs.declared.sum.FeatureSum.{FeatureSum};
 
 use crate::report::{Warned, all_warned, nothing_warned};
 use crate::status::DONE;
 use gj_coords::{KINDS, Kind, Warnings};
-use gj_runs::{FeatureSum, warnings_at};
+use gj_join::{FeatureSum, warnings_at};
 
 /// What is found in whole features that follow one another, of which none breaks a rule: where they begin and end in the text, how many
 /// there are, and their warnings, as in a report. `ended` is 1 where a feature with a fault follows, so that no byte makes it longer.

@@ -9,11 +9,11 @@ use Rattle.geolint_report.specs.declared.every.listing.Asked.{Asked}
 use Rattle.geolint_report.specs.declared.every.listing.Notes.{Notes}
 use Rattle.part_lines.specs.declared.line.Listed.{Listed}
 use Rattle.part_lines.specs.declared.line.PartLine.{PartLine}
-use Rattle.collection_parts.specs.Sums.{IsTruePart}
-use Rattle.sequence_parts.specs.Checked.{IsPartOf, AreNotesOfPart}
-use Rattle.sequence_parts.specs.Ranges.{ArePart}
-use Rattle.sequence_parts.specs.declared.checked.CheckedPart.{CheckedPart}
-use Rattle.sequence_parts.specs.declared.ranges.Share.{Share}
+use Rattle.file_parts.specs.Sums.{IsTruePart}
+use Rattle.file_parts.specs.Checked.{IsPartOf, AreNotesOfPart}
+use Rattle.file_parts.specs.Ranges.{ArePart}
+use Rattle.file_parts.specs.declared.checked.CheckedPart.{CheckedPart}
+use Rattle.file_parts.specs.declared.ranges.Share.{Share}
 use Rattle.geolint_files.specs.AskedLine.{IsReadLine, IsReadLineBy, listed_of}
 
 listed-asked : (framing : Framing) (limits : Allowed) (text : List ℕ) (part : CheckedPart) (asked : Option Asked) (notes : Option Notes)

@@ -8,8 +8,8 @@ use Rattle.part_lines.specs.declared.line.FileState.{FileState}
 use Rattle.part_lines.specs.declared.line.Listed.{Listed}
 use Rattle.part_lines.specs.declared.line.PartLine.{PartLine}
 use Rattle.report_forms.specs.declared.options.Options.{Options}
-use Rattle.sequence_parts.specs.Ranges.{ArePart}
-use Rattle.sequence_parts.specs.declared.ranges.Share.{Share}
+use Rattle.file_parts.specs.Ranges.{ArePart}
+use Rattle.file_parts.specs.declared.ranges.Share.{Share}
 use Rattle.geolint_files.specs.JoinReport.{IsTrueLine}
 use Rattle.geolint_files.specs.Listed.{asked_in}
 

@@ -9,7 +9,7 @@ use Rattle.gj_rules.specs.Verdict.{IsVerdict}
 use Rattle.gj_rules.specs.declared.sequence.verdict.SeqVerdict.{SeqVerdict}
 use Rattle.gj_rules.specs.declared.verdict.Verdict.{Verdict}
 use Rattle.gj_rules.specs.declared.verdict.Verdict.TheVariants.{Valid, Broken, NotJson}
-use Rattle.collection_parts.specs.Sums.{IsTruePart}
+use Rattle.file_parts.specs.Sums.{IsTruePart}
 use Rattle.geolint_report.specs.declared.every.listing.Asked.{Asked}
 use Rattle.geolint_report.specs.declared.every.listing.Notes.{Notes}
 use Rattle.geolint_report.specs.declared.judge.Finding.{Finding}
@@ -17,7 +17,7 @@ use Rattle.part_lines.specs.Lines.{IsLineOf, IsListedLineOf, IsLike}
 use Rattle.part_lines.specs.declared.line.PartLine.{PartLine}
 use Rattle.part_lines.specs.declared.line.Settings.{Settings}
 use Rattle.report_forms.specs.declared.options.Options.{Options}
-use Rattle.sequence_parts.specs.Checked.{AreNotesIf}
+use Rattle.file_parts.specs.Checked.{AreNotesIf}
 use Rattle.geolint_files.specs.JoinedRun.{IsJoinedRun, Readings}
 use Rattle.geolint_files.specs.Listed.{asked_in}
 use Rattle.geolint_files.specs.declared.outcome.Outcome.{Outcome}

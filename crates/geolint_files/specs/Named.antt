@@ -2,8 +2,8 @@
 use Rattle.std.specs.Prelude.{◌≡◌, ◌<◌, ◌-◌, ◌^◌, ◌⊎◌, ℕ, Bool, true, false, List, [], ◌∷◌, ◌++◌, map, reverse, length, Vec, Option, Some, None}
 use Rattle.std.specs.Io.KnownBytes.{Appends}
 use Rattle.std.specs.declared.alloc.Global.{Global}
-use Rattle.name_lists.specs.Listed.{given, names_in}
-use Rattle.name_lists.specs.declared.listed.NameEnd.{NameEnd}
+use Rattle.geolint_report.specs.Listed.{given, names_in}
+use Rattle.geolint_report.specs.declared.name_lists.listed.NameEnd.{NameEnd}
 use Rattle.report_forms.specs.declared.formats.lines.Style.{Style}
 use Rattle.geolint_files.specs.Outcome.{status_of}
 use Rattle.geolint_files.specs.Run.{ToldFile, judged, not_read, listed, IsWholeReport, worst_of}

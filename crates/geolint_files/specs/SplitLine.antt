@@ -3,10 +3,10 @@ use Rattle.std.specs.Prelude.{ℕ, List, ◌++◌, codes, if◌then◌else◌}
 use Rattle.std.specs.Fmt.{decimal}
 use Rattle.gj_rules.specs.declared.verdict.Verdict.{Verdict}
 use Rattle.report_forms.specs.Names.{shown_name}
-use Rattle.split_files.specs.Parts.{ending_of}
-use Rattle.split_files.specs.declared.part_file.Part.{Part}
-use Rattle.split_files.specs.declared.source.Whole.{Whole}
-use Rattle.split_files.specs.declared.writing.Written.{Written}
+use Rattle.gj_split.specs.Parts.{ending_of}
+use Rattle.gj_split.specs.declared.files.part_file.Part.{Part}
+use Rattle.gj_split.specs.declared.files.source.Whole.{Whole}
+use Rattle.gj_split.specs.declared.files.writing.Written.{Written}
 
 unfoldable pub part_name : List ℕ → Part → List ℕ
 part_name prefix part = shown_name prefix ++ ending_of part

@@ -1,7 +1,7 @@
 //! The words by which a file is checked in parts.
 
 use clap::ArgMatches;
-use sequence_parts::Share;
+use file_parts::Share;
 
 /// What is asked for of parts.
 #[derive(Clone, Copy)]

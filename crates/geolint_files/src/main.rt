@@ -35,11 +35,11 @@ use crate::walk::Others;
 use crate::words::{Order, order_in};
 use clap::Error;
 use clap::error::ErrorKind;
+use file_parts::Share;
+use geolint_report::own_build::{lacks_stack, own_build};
 use geolint_report::texts::Code;
-use gj_manual::section;
-use own_build::{lacks_stack, own_build};
+use report_forms::manual::section;
 use report_forms::texts::put_name;
-use sequence_parts::Share;
 use std::io::{self, BufWriter, Write};
 use std::process::ExitCode;
 

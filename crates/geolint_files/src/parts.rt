@@ -8,8 +8,9 @@ use crate::walk::framing_by;
 use crate::words::{Order, Parts};
 use geolint_report::line::{put, put_number};
 use gj_rules::Verdict;
+use gj_split::Stop;
+use gj_split::files::{Order as SplitOrder, Part, Undone, Whole, Written, split_file};
 use report_forms::texts::put_name;
-use split_files::{Order as SplitOrder, Part, Stop, Undone, Whole, Written, split_file};
 use std::alloc::AllocError;
 use std::io::{self, ErrorKind, Write};
 

@@ -20,3 +20,5 @@ mod KeptRecords
 mod FurtherReadings
 mod CursorPlaces
 mod PlacedNotes
+mod GivenNames
+mod NamesLeft

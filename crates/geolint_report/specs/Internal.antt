@@ -3,3 +3,4 @@ pub mod SecondReading
 pub mod SoughtPlaces
 pub mod TextPaths
 pub mod FurtherReading
+pub mod Begun

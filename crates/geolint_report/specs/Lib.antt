@@ -18,3 +18,7 @@ pub mod Marks
 pub mod Cursors
 pub mod Spots
 pub mod Internal
+pub mod BuildPlaces
+pub mod Listed
+pub mod Adding
+pub mod Left

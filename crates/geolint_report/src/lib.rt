@@ -4,6 +4,8 @@
 //! again for the lines, columns and paths of the places of that, and [`Cursors`](every::cursor::Cursors) for those of its
 //! features. Where the source tells its bytes, what is found is the verdict of all of them (`specs/Judged.antt`), and each
 //! place that is found stands where the definition says (`specs/Sites.antt`), however the bytes come in pieces.
+//!
+//! Beside that it has what both programs need of their system: [`own_build`], and the names in a list ([`name_lists`]).
 #![tactic(auto)]
 
 pub mod every;
@@ -12,6 +14,8 @@ pub mod found;
 pub mod hints;
 pub mod judge;
 pub mod line;
+pub mod name_lists;
+pub mod own_build;
 pub mod progress;
 pub mod reading_loop;
 pub mod report;

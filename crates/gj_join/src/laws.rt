@@ -1,40 +1,21 @@
-//! What an input of records is by its parts: each contract is a law.
+//! What a text is by its runs of features: each contract is a law.
 
-ghost use Rattle.std.specs.Prelude.{◌≡◌, ◌++◌, ◌+◌, ℕ, List, length};
+ghost use Rattle.std.specs.Prelude.{◌≡◌, ◌↔◌, ◌++◌, ◌≤◌, ℕ, List, length};
+ghost use Rattle.gj_json.specs.declared.fault.JsonFault.{JsonFault};
 ghost use Rattle.gj_json.specs.Limits.{Allowed};
-ghost use Rattle.gj_join.specs.Parts.{ArePartsOf, limits_after};
-ghost use Rattle.gj_join.specs.Joined.{joined_findings, joined_judgement, joined_verdict};
-ghost use Rattle.gj_rules.specs.RecordFindings.{AreAllFindings, IsWholeVerdict};
-ghost use Rattle.gj_rules.specs.Sequence.{SequenceJudgement};
-ghost use Rattle.gj_rules.specs.SequenceJudgement.{IsSequenceJudgement};
-ghost use Rattle.gj_rules.specs.declared.records.framing.Framing.{Framing};
-ghost use Rattle.gj_rules.specs.declared.records.record.Record.{Record};
-ghost use Rattle.gj_rules.specs.declared.sequence.verdict.SeqVerdict.{SeqVerdict};
+ghost use Rattle.gj_json.specs.Refusal.{IsRefusal};
+ghost use Rattle.gj_json.specs.Text.{IsViableWithin};
+ghost use Rattle.gj_join.specs.Runs.{StandsAfterFeature, IsRun, spaces};
 
-/// What a text sequence is, given what two parts of it are (RFC 8142).
-pub fn joined_judgements()
-    ensures { (limits : Allowed) (first second : List ℕ) (one other : SequenceJudgement) → ArePartsOf Framing.Sequence limits first second
-        → IsSequenceJudgement limits first one → IsSequenceJudgement (limits_after limits (length first)) second other
-        → IsSequenceJudgement limits (first ++ second) (joined_judgement (length first) one other) }
-{}
-
-/// What newline-delimited texts are, given what two parts of them are.
-pub fn joined_lines()
-    ensures { (limits : Allowed) (first second : List ℕ) (one other : SeqVerdict) → ArePartsOf Framing.Lines limits first second
-        → IsWholeVerdict Framing.Lines limits first one → IsWholeVerdict Framing.Lines (limits_after limits (length first)) second other
-        → IsWholeVerdict Framing.Lines limits (first ++ second) (joined_verdict (length first) one other) }
-{}
-
-/// Three parts give the same, whichever two are joined first. The first has `end` bytes, and the second `more`.
-pub fn joined_in_any_grouping()
-    ensures { (end more : ℕ) (one two three : SequenceJudgement) →
-        joined_judgement (end + more) (joined_judgement end one two) three ≡ joined_judgement end one (joined_judgement more two three) }
-{}
-
-/// What is found in the records of an input, given what is found in those of two parts of it: the numbers of the second count on
-/// from the records of the first, and its places begin where the first ends.
-pub fn joined_findings()
-    ensures { (framing : Framing) (limits : Allowed) (first second : List ℕ) (found more : List Record) → ArePartsOf framing limits first second
-        → AreAllFindings framing limits first found → AreAllFindings framing (limits_after limits (length first)) second more
-        → AreAllFindings framing limits (first ++ second) (joined_findings (length first) found more) }
+/// Where a feature has ended, spaces may stand in the place of a run of features: with them the text can go on as with it, and what is
+/// refused with them is refused with it, for the same cause and at the same place. After the run a feature has ended, so that
+/// another may follow.
+pub fn spaces_for_features()
+    ensures viable { (levels : ℕ) (before run after : List ℕ) → StandsAfterFeature levels before → IsRun levels (length before) run
+        → IsViableWithin levels (before ++ (spaces (length run) ++ after)) ↔ IsViableWithin levels (before ++ (run ++ after)) }
+    ensures refused { (limits : Allowed) (before run after : List ℕ) (fault : JsonFault) → StandsAfterFeature limits.depth before
+        → IsRun limits.depth (length before) run → length (before ++ run) ≤ limits.bytes
+        → IsRefusal limits (before ++ (spaces (length run) ++ after)) fault → IsRefusal limits (before ++ (run ++ after)) fault }
+    ensures on { (levels : ℕ) (before run : List ℕ) → StandsAfterFeature levels before → IsRun levels (length before) run
+        → StandsAfterFeature levels (before ++ run) }
 {}

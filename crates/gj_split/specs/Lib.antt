@@ -4,3 +4,6 @@ pub mod Ranges
 pub mod Lines
 pub mod Holding
 pub mod Internal
+pub mod Parts
+pub mod Judged
+pub mod SplitSources

@@ -6,9 +6,11 @@
 //! tell their bytes, and the text is JSON, the first holds a valid text sequence with as many records as features
 //! without a fault, and both together hold each feature once, in order. [`split_records`] does so with each record of an
 //! input: the first holds a valid text sequence with as many records as the input has valid ones.
+//! [`files`] writes them to files.
 #![tactic(auto)]
 
 mod copy;
+pub mod files;
 pub mod laws;
 mod lines;
 mod ranges;

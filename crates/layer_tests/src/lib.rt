@@ -5,8 +5,6 @@
 #![tactic(auto)]
 
 #[cfg(test)]
-mod build;
-#[cfg(test)]
 mod checks;
 #[cfg(test)]
 mod coords;
@@ -16,8 +14,6 @@ mod expected;
 mod hints;
 #[cfg(test)]
 mod json;
-#[cfg(test)]
-mod names;
 #[cfg(test)]
 mod number;
 #[cfg(test)]

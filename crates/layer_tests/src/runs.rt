@@ -2,9 +2,9 @@
 
 use crate::checks::{equal, holds};
 use gj_coords::Kind;
+use gj_join::{Joiner, RunLinter, after_brace, warnings_at};
 use gj_json::{Limits, MOST_LEVELS};
 use gj_rules::{Linter, Verdict};
-use gj_runs::{Joiner, RunLinter, after_brace, warnings_at};
 
 /// Bytes after a feature: how many features the run has, where it ends in them, how many of its features have a `crs`, whether a
 /// feature with a fault has ended, and what the bytes are.

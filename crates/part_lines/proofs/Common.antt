@@ -13,6 +13,6 @@ pub use Rattle.gj_json.specs.declared.fault.Cause.TheVariants.{Syntax}
 pub use Rattle.gj_rules.specs.declared.records.framing.Framing.{Framing}
 pub use Rattle.part_lines.specs.LineObject.{AreNotes, AreWarningsOf}
 pub use Rattle.part_lines.specs.declared.line.PartLine.{PartLine}
-pub use Rattle.sequence_parts.specs.declared.checked.CheckedPart.{CheckedPart}
+pub use Rattle.file_parts.specs.declared.checked.CheckedPart.{CheckedPart}
 pub use Rattle.serde_json.specs.Data.{Data}
 pub use Rattle.serde_json.specs.View.{view}

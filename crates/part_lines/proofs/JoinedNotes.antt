@@ -22,10 +22,10 @@ use Rattle.geolint_report.specs.declared.every.listing.Asked.{Asked}
 use Rattle.geolint_report.specs.declared.every.listing.Item.{Item}
 use Rattle.geolint_report.specs.declared.every.tally.Tally.{Tally}
 use Rattle.geolint_report.specs.declared.report.Told.{Told}
-use Rattle.sequence_parts.proofs.NotesOfWholes.{goes-on}
-use Rattle.sequence_parts.specs.Checked.{IsPartOf, AreNotesOfPart}
-use Rattle.sequence_parts.specs.Cuts.{bytes_between}
-use Rattle.sequence_parts.specs.JoinedNotes.{moved_note, joined_notes}
+use Rattle.file_parts.proofs.NotesOfWholes.{goes-on}
+use Rattle.file_parts.specs.Checked.{IsPartOf, AreNotesOfPart}
+use Rattle.file_parts.specs.Cuts.{bytes_between}
+use Rattle.file_parts.specs.JoinedNotes.{moved_note, joined_notes}
 use Rattle.part_lines.specs.Internal.NotesSoFar.{ListsWhatIsAsked, numbered_among, records_noted, AreNotesTo}
 use Rattle.part_lines.specs.declared.line.Listed.{Listed}
 use Rattle.part_lines.specs.declared.notes.SoFar.{SoFar}

@@ -9,8 +9,8 @@ use Rattle.std.proofs.lemmas.Bool.{cases_lt}
 use Rattle.std.proofs.lemmas.List.{length-map, get_or-map}
 use Rattle.std.proofs.lemmas.Option.{get_or_from_slice_get, slice_get_past}
 use Rattle.gj_json.specs.Limits.{Allowed}
-use Rattle.sequence_parts.specs.Checked.{AreAllParts}
-use Rattle.sequence_parts.specs.Ranges.{ArePart}
+use Rattle.file_parts.specs.Checked.{AreAllParts}
+use Rattle.file_parts.specs.Ranges.{ArePart}
 use Rattle.part_lines.specs.Internal.Places.{ArePlaced}
 use Rattle.part_lines.specs.Lines.{AreAllLines, AreAllNumbers, ArePartsTo, IsPartIn, HasBytesOf, part_number}
 

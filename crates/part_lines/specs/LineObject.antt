@@ -13,8 +13,8 @@ use Rattle.geolint_report.specs.Texts.{code_name}
 use Rattle.geolint_report.specs.declared.every.listing.Item.{Item}
 use Rattle.geolint_report.specs.declared.every.listing.Note.{Note}
 use Rattle.geolint_report.specs.declared.texts.Code.{Code}
-use Rattle.sequence_parts.specs.declared.checked.CheckedPart.{CheckedPart}
-use Rattle.sequence_parts.specs.declared.ranges.Share.{Share}
+use Rattle.file_parts.specs.declared.checked.CheckedPart.{CheckedPart}
+use Rattle.file_parts.specs.declared.ranges.Share.{Share}
 use Rattle.serde_json.specs.Data.{Data, Items}
 use Rattle.serde_json.specs.Find.{get, as_number, as_u64, as_str, as_bool, as_array}
 use Rattle.serde_json.specs.View.{items_of}

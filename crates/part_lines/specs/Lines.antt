@@ -5,9 +5,9 @@ use Rattle.std.specs.String.{string_bytes}
 use Rattle.gj_json.specs.Limits.{Allowed}
 use Rattle.gj_rules.specs.declared.records.framing.Framing.{Framing}
 use Rattle.gj_rules.specs.declared.records.framing.Framing.TheVariants.{Sequence, Lines}
-use Rattle.sequence_parts.specs.Checked.{IsPartOf, AreNotesOfPart}
-use Rattle.sequence_parts.specs.Ranges.{ArePart}
-use Rattle.sequence_parts.specs.declared.checked.CheckedPart.{CheckedPart}
+use Rattle.file_parts.specs.Checked.{IsPartOf, AreNotesOfPart}
+use Rattle.file_parts.specs.Ranges.{ArePart}
+use Rattle.file_parts.specs.declared.checked.CheckedPart.{CheckedPart}
 use Rattle.part_lines.specs.declared.joining.Refusal.{Refusal}
 use Rattle.part_lines.specs.declared.joining.Refusal.TheVariants.{Memory, TooMany}
 use Rattle.part_lines.specs.declared.line.Listed.{Listed}

@@ -5,14 +5,14 @@ ghost use Rattle.std.specs.List.{All};
 ghost use Rattle.gj_json.specs.Limits.{Allowed};
 ghost use Rattle.gj_join.specs.Joined.{IsVerdictOf};
 ghost use Rattle.gj_rules.specs.declared.records.framing.Framing.{Framing};
-ghost use Rattle.sequence_parts.specs.Checked.{HasAtMost};
+ghost use Rattle.file_parts.specs.Checked.{HasAtMost};
 ghost use Rattle.part_lines.specs.declared.line.PartLine.{PartLine};
 ghost use Rattle.part_lines.specs.Internal.Places.{ArePlaced};
 ghost use Rattle.part_lines.specs.Lines.{AreAllLines, AreAllNumbers, ArePartsTo, IsLack, IsLike, IsLineOf, part_number};
 
 use crate::line::PartLine;
 use gj_rules::SeqVerdict;
-use sequence_parts::{CheckedPart, Misfit, join_parts};
+use file_parts::{CheckedPart, Misfit, join_parts};
 use std::alloc::{AllocError, Global};
 
 /// Why the lines are not those of all parts of one file.

@@ -7,7 +7,7 @@ use geolint_report::every::listing::{Asked, Notes};
 use gj_json::Limits;
 use gj_rules::Framing;
 use report_forms::options::Strictness;
-use sequence_parts::{CheckedPart, Share};
+use file_parts::{CheckedPart, Share};
 
 /// A file as the system showed it when a part of it was checked.
 #[derive(Drop, PartialEq)]

@@ -5,7 +5,7 @@ ghost use Rattle.std.specs.List.{All};
 ghost use Rattle.gj_json.specs.Limits.{Allowed};
 ghost use Rattle.gj_rules.specs.declared.records.framing.Framing.{Framing};
 ghost use Rattle.geolint_report.specs.Every.{AreNotesOfRecords};
-ghost use Rattle.sequence_parts.specs.JoinedNotes.{moved_item, moved_note};
+ghost use Rattle.file_parts.specs.JoinedNotes.{moved_item, moved_note};
 ghost use Rattle.part_lines.specs.Lines.{IsListedLineOf};
 ghost use Rattle.part_lines.specs.Internal.NotesSoFar.{ListsWhatIsAsked, numbered_among, records_noted};
 
@@ -14,7 +14,7 @@ use crate::line::{Listed, PartLine};
 use geolint_report::every::listing::{Asked, Item, Note, Notes};
 use geolint_report::every::tally::Tally;
 use geolint_report::report::Told;
-use sequence_parts::CheckedPart;
+use file_parts::CheckedPart;
 use std::alloc::{AllocError, Global};
 
 /// The notes that are asked for on the records of the file, given the lines of all its parts in any order.
@@ -75,7 +75,7 @@ impl SoFar {
     ghost use Rattle.gj_json.specs.Limits.{Allowed};
     ghost use Rattle.gj_rules.specs.declared.records.framing.Framing.{Framing};
     ghost use Rattle.geolint_report.specs.declared.every.listing.Asked.{Asked};
-    ghost use Rattle.sequence_parts.specs.Checked.{IsPartOf, AreNotesOfPart};
+    ghost use Rattle.file_parts.specs.Checked.{IsPartOf, AreNotesOfPart};
     ghost use Rattle.part_lines.specs.Internal.NotesSoFar.{AreNotesTo, ListsWhatIsAsked};
 
     /// Of no part.

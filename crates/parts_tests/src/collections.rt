@@ -1,12 +1,12 @@
 //! A FeatureCollection checked in parts.
 
 use crate::sequences::{Bytes, holds};
-use collection_parts::{check_features, join_features};
+use file_parts::collections::{check_features, join_features};
+use file_parts::{CheckedPart, Share};
 use geolint_report::progress::Meter;
 use gj_coords::Kind;
 use gj_json::Limits;
 use gj_rules::{SeqVerdict, Verdict};
-use sequence_parts::{CheckedPart, Share};
 use std::io;
 
 /// A feature in the middle, and one at the end, has a position out of range.

@@ -2,6 +2,7 @@
 
 ghost use Rattle.std.specs.Prelude.{◌≤◌, None, length};
 
+use file_parts::{CheckedPart, ListedPart, Misfit, Share, check_part, join_parts};
 use geolint_report::every::listing::{Asked, Item, Note, Notes, notes_for};
 use geolint_report::every::reading::judge_every;
 use geolint_report::every::tally::Tally;
@@ -17,7 +18,6 @@ use part_lines::{
     FileState, Listed, PartLine, Refusal, Settings, join_lines, join_notes, put_line, read_line,
 };
 use report_forms::options::{Kinds, Strictness};
-use sequence_parts::{CheckedPart, ListedPart, Misfit, Share, check_part, join_parts};
 use std::alloc::Global;
 use std::io;
 use std::process::Abort;

@@ -7,3 +7,4 @@ pub mod Summary
 pub mod Items
 pub mod Forms
 pub mod Internal
+pub mod Manual

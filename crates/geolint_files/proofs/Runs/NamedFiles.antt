@@ -6,10 +6,10 @@ use Rattle.std.specs.Prelude.{Ok, ⊤}
 use Rattle.std.proofs.lemmas.List.{map-append, reverse-append, reverse-reverse}
 use Rattle.gj_json.specs.Limits.{Allowed}
 use Rattle.geolint_report.specs.declared.every.listing.Asked.{Asked}
-use Rattle.name_lists.specs.Left.{NextIn, NextOf}
-use Rattle.name_lists.specs.Listed.{given, names_in}
-use Rattle.name_lists.specs.declared.listed.Listed.{Listed}
-use Rattle.name_lists.specs.declared.listed.NameEnd.{NameEnd}
+use Rattle.geolint_report.specs.Left.{NextIn, NextOf}
+use Rattle.geolint_report.specs.Listed.{given, names_in}
+use Rattle.geolint_report.specs.declared.name_lists.listed.Listed.{Listed}
+use Rattle.geolint_report.specs.declared.name_lists.listed.NameEnd.{NameEnd}
 use Rattle.geolint_files.specs.Listed.{IsOnceBy, IsTwiceBy}
 use Rattle.geolint_files.specs.Named.{AreOf, none_named, file_named, folder_named, not_taken, name_in, given_of, GoesOn, AreOfList}
 use Rattle.geolint_files.specs.Run.{ToldFile, judged, not_read, listed}

@@ -1,7 +1,7 @@
 //! Sequences cut into parts: each row cut in two at each place where it may be, and in three.
 
 use crate::checks::holds_at;
-use gj_join::join;
+use gj_join::sequences::join;
 use gj_json::{Limits, MOST_LEVELS};
 use gj_rules::{SeqVerdict, Sequence};
 use std::process::Abort;

@@ -14,7 +14,7 @@ use Rattle.geolint_report.specs.Finding.{record_of}
 use Rattle.geolint_report.specs.Line.{truth}
 use Rattle.geolint_report.specs.Report.{spot_of, path_of}
 use Rattle.geolint_report.specs.Texts.{code_name, code_text}
-use Rattle.gj_manual.specs.Manual.{section_of as manual_of}
+use Rattle.report_forms.specs.Manual.{section_of as manual_of}
 use Rattle.report_forms.specs.declared.every.Entry.{Entry}
 use Rattle.report_forms.specs.declared.formats.issues.Issue.{Issue}
 use Rattle.report_forms.specs.Forms.Features.{and_more, is_nothing, item_text, path_at, spot_at}

@@ -17,6 +17,7 @@ use crate::every::{Entry, note_fails, path_at, put_and_more, put_item, spot_at};
 use crate::formats::hints::{hint_on, put_and_hint};
 use crate::formats::issues::{Issue, put_break_unless};
 use crate::formats::json::put_members;
+use crate::manual::section;
 use crate::options::Options;
 use crate::texts::{digit_in, level, put_and_record, put_and_times, put_path, put_string};
 use geolint_report::line::{put, put_all, put_number, put_truth};
@@ -24,7 +25,6 @@ use geolint_report::report::Report;
 use geolint_report::sites::Spot;
 use geolint_report::texts::{ALL, Code};
 use gj_json::Path;
-use gj_manual::section;
 use gj_places::json_string;
 use std::alloc::{AllocError, Global};
 

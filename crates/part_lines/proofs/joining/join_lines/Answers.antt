@@ -1,7 +1,7 @@
 use Rattle.std.proofs.Common.{arith, ◌≡◌, ◌<◌, ◌*◌, ◌^◌, ◌∙◌, ap, ℕ, List, length, subst, sym}
 use Rattle.std.specs.List.{All}
-use Rattle.sequence_parts.specs.Checked.{IsPartOf, AreAllParts, HasAtMost}
-use Rattle.sequence_parts.specs.declared.checked.CheckedPart.{CheckedPart}
+use Rattle.file_parts.specs.Checked.{IsPartOf, AreAllParts, HasAtMost}
+use Rattle.file_parts.specs.declared.checked.CheckedPart.{CheckedPart}
 use Rattle.part_lines.proofs.LinesOfParts.{all_parts, parts_hold, first_size}
 use Rattle.part_lines.proofs.joining.join_lines.Goals as goal
 

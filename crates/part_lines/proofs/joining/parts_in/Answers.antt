@@ -3,7 +3,7 @@ use Rattle.std.proofs.lemmas.List.{length-map}
 use Rattle.part_lines.proofs.LinesOfParts.{is_there, next_part}
 use Rattle.part_lines.specs.Internal.Places.{ArePlaced}
 use Rattle.part_lines.specs.Lines.{ArePartsTo, part_number}
-use Rattle.sequence_parts.specs.declared.checked.CheckedPart.{CheckedPart}
+use Rattle.file_parts.specs.declared.checked.CheckedPart.{CheckedPart}
 use Rattle.part_lines.proofs.joining.parts_in.Goals as goal
 
 pub returns-in_default-clause-complete : goal.returns-in_default-clause-complete

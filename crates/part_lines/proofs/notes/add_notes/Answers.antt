@@ -2,7 +2,7 @@ use Rattle.part_lines.proofs.Common.{arith, ◌≡◌, ◌+◌, ◌∙◌, ◌++
 use Rattle.std.proofs.Common.{◌-◌}
 use Rattle.std.proofs.lemmas.List.{take-map, take_all}
 use Rattle.std.proofs.Math.Seq.{take-append-add}
-use Rattle.sequence_parts.specs.JoinedNotes.{moved_note}
+use Rattle.file_parts.specs.JoinedNotes.{moved_note}
 use Rattle.part_lines.proofs.notes.add_notes.Goals as goal
 
 pub returns-clause-notes : goal.returns-clause-notes

@@ -1,5 +1,5 @@
 use Rattle.std.proofs.Common.{◌≡◌, ◌++◌, map, take}
-use Rattle.sequence_parts.specs.JoinedNotes.{moved_note}
+use Rattle.file_parts.specs.JoinedNotes.{moved_note}
 use Rattle.part_lines.proofs.notes.add_notes.Given as goal
 
 abbrev pub invariant-loop-note : goal.invariant-loop-note

@@ -2,9 +2,9 @@
 use Rattle.std.proofs.Common.{◌≡◌, false, true, inl, inr, Some, refl, sym, ap, subst, ◌∙◌, arith}
 use Rattle.gj_json.specs.Limits.{Allowed}
 use Rattle.gj_rules.specs.FeatureFindings.{warnings_found}
-use Rattle.gj_runs.specs.Joiner.{limits_of}
-use Rattle.gj_runs.specs.Runs.{IsSumOf, StandsAfterFeature}
-use Rattle.gj_runs.specs.declared.sum.FeatureSum.{FeatureSum}
+use Rattle.gj_join.specs.Joiner.{limits_of}
+use Rattle.gj_join.specs.Runs.{IsSumOf, StandsAfterFeature}
+use Rattle.gj_join.specs.declared.sum.FeatureSum.{FeatureSum}
 use Rattle.geolint_c.specs.declared.join.JoinHandle.{JoinHandle}
 use Rattle.geolint_c.proofs.join.JoinHandle.pass_over.Goals as goal
 

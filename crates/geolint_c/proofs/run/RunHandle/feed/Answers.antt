@@ -2,7 +2,7 @@
 use Rattle.std.proofs.Common.{◌≡◌, ◌++◌, Option, Some, None, IsSomeAnd, sym, subst, ◌∙◌}
 use Rattle.gj_json.specs.Limits.{Allowed}
 use Rattle.gj_rules.specs.Linter.{Answers}
-use Rattle.gj_runs.specs.Runs.{stand_at}
+use Rattle.gj_join.specs.Runs.{stand_at}
 use Rattle.geolint_c.proofs.run.RunHandle.feed.Goals as goal
 
 pub returns-in-Some : goal.returns-in-Some

@@ -3,7 +3,7 @@ use Rattle.std.proofs.Common.{◌≡◌, ◌↔◌, ◌+◌, ◌≤◌, ◌++◌
 use Rattle.gj_json.specs.Limits.{Allowed}
 use Rattle.gj_json.specs.Text.{IsTextWithin}
 use Rattle.gj_rules.specs.FeatureFindings.{findings_by, least_found}
-use Rattle.gj_runs.specs.Runs.{IsLongestSum, IsOver, stand_at}
+use Rattle.gj_join.specs.Runs.{IsLongestSum, IsOver, stand_at}
 use Rattle.geolint_c.proofs.run.RunHandle.sum.Goals as goal
 
 abbrev one_if : Bool → ℕ

@@ -1,5 +1,5 @@
 use Rattle.geolint_files.proofs.Common.{◌≡◌, List, ℕ, TellsFiles}
-use Rattle.name_lists.specs.Left.{left_of}
+use Rattle.geolint_report.specs.Left.{left_of}
 use Rattle.geolint_files.specs.Named.{AreOf, given_of}
 use Rattle.geolint_files.specs.Run.{ToldFile}
 use Rattle.geolint_files.proofs.Runs.NamedFiles.{Left}

@@ -1,5 +1,5 @@
 use Rattle.part_lines.proofs.Common.{arith, ◌+◌, ◌∙◌, ◌++◌, List, refl, ap, map, take, Note}
-use Rattle.sequence_parts.specs.JoinedNotes.{moved_note}
+use Rattle.file_parts.specs.JoinedNotes.{moved_note}
 use Rattle.part_lines.specs.Internal.NotesSoFar.{records_noted}
 use Rattle.part_lines.proofs.JoinedNotes.{next-notes}
 use Rattle.part_lines.proofs.notes.SoFar.add.Goals as goal

@@ -1,6 +1,0 @@
-mod ReadBytes
-mod TrueSums
-mod SeamsRead
-mod LikelyPlaces
-mod FoundParts
-mod PlacesInTexts

@@ -1,4 +1,0 @@
-pub mod Sums
-pub mod ReadRuns
-pub mod Likely
-pub mod Internal

@@ -1,5 +1,0 @@
-use Rattle.gj_join.proofs.JoinedWholes.{lines-joined}
-use Rattle.gj_join.proofs.laws.joined_lines.Goals as goal
-
-pub returns : goal.returns
-returns c = lines-joined

@@ -1,6 +1,0 @@
-use Rattle.std.proofs.Common.{◌≡◌, ◌≤◌, length, drop}
-use Rattle.gj_runs.specs.Seams.{after_byte}
-use Rattle.gj_runs.proofs.seam.after_byte.Given as goal
-
-abbrev pub invariant-loop-index : goal.invariant-loop-index
-invariant-loop-index l = (l.index ≤ length l.bytes) × (after_byte l.byte l.bytes ≡ after_byte l.byte (drop l.index l.bytes))

@@ -1,2 +1,0 @@
-mod GivenNames
-mod NamesLeft

@@ -1,2 +1,0 @@
--- What the proofs of this crate need.
-pub mod Begun

@@ -1,4 +1,0 @@
-pub mod Listed
-pub mod Adding
-pub mod Left
-pub mod Internal

@@ -1,5 +1,0 @@
-pub mod Cuts
-pub mod Ranges
-pub mod Checked
-pub mod JoinedNotes
-pub mod Internal
