@@ -30,7 +30,7 @@ const MOST_TOLD: u64 = 1000;
 /// The options whose words may be wrong, as the line on such a word names them.
 const FOR_KINDS: &str = "'--allow <KINDS>' or '--deny <KINDS>'";
 
-const FOR_CODE: &str = "'--explain <CODE>': the codes are G1 to G21, W1 to W9 and J1 to J4";
+const FOR_CODE: &str = "'--explain <CODE>': a code is one of a report, as G15, W5 or J1";
 
 const FOR_ENDING: &str = "'--ending <ENDING>'";
 
