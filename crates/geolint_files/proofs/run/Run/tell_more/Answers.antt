@@ -12,7 +12,13 @@ returns g c =
     let contents = g.W.Write.contents in
     let (told, is_line, added) = c.in_ok-put_more.ensures in
     on_ok c.show.result (TellsLines-shown contents _ old new c.show.new.self (TellsLines-of contents _ old new (record {
-      same = c.write.ensures.same;
+      same = record {
+        options = c.write.ensures.same.options;
+        style = c.write.ensures.same.style;
+        outcome = c.write.ensures.same.outcome;
+        summary = c.write.ensures.same.summary;
+        tally = c.write.ensures.same.tally;
+      };
       told = told;
       out = λ none. subst (Appends (contents old.out) (contents new.out)) (added ∙ ap (λ (line : List ℕ). line ++ told) none) c.in_ok-write.ensures.out;
       line_is = c.in_ok-write.ensures.line;
