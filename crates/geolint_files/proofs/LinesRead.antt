@@ -9,6 +9,7 @@ use Rattle.geolint_report.specs.declared.every.listing.Asked.{Asked}
 use Rattle.geolint_report.specs.declared.every.listing.Notes.{Notes}
 use Rattle.part_lines.specs.declared.line.Listed.{Listed}
 use Rattle.part_lines.specs.declared.line.PartLine.{PartLine}
+use Rattle.file_parts.specs.Likely.{HasRun}
 use Rattle.file_parts.specs.Sums.{IsTruePart}
 use Rattle.file_parts.specs.Checked.{IsPartOf, AreNotesOfPart}
 use Rattle.file_parts.specs.Ranges.{ArePart}
@@ -61,9 +62,10 @@ line-read (Some text) framing options asked share part notes line is_asked is_pa
 }
 
 pub one-text-read : (known : Option (List ℕ)) (options : Options) (share : Share) (line : PartLine) → line.settings.framing ≡ None → line.listed ≡ None
-    → IfSome known (λ text. IsTruePart options.limits text line.checked) → IfSome known (λ text. IsReadLineBy None options share text line)
-one-text-read None options share line framed listed is = tt
-one-text-read (Some text) options share line framed listed is = (framed, listed, is)
+    → IfSome known (λ text. IsTruePart options.limits text line.checked) → IfSome known (λ text. HasRun options.limits text share line.file.size line.checked)
+    → IfSome known (λ text. IsReadLineBy None options share text line)
+one-text-read None options share line framed listed is has = tt
+one-text-read (Some text) options share line framed listed is has = (framed, listed, is, has)
 
 pub of-length : (known : Option (List ℕ)) (size : ℕ) (Is : List ℕ → Type 0) → IfSome known Is → IfSome known (λ text. length text ≡ size → Is text)
 of-length None size Is is = tt

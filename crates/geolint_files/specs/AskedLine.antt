@@ -1,6 +1,7 @@
 -- The line of a part as it was asked for.
 use Rattle.std.specs.Prelude.{◌≡◌, ℕ, List, Option, Some, None, option_map}
 use Rattle.gj_rules.specs.declared.records.framing.Framing.{Framing}
+use Rattle.file_parts.specs.Likely.{HasRun}
 use Rattle.geolint_report.specs.declared.every.listing.Asked.{Asked}
 use Rattle.geolint_report.specs.declared.every.listing.Notes.{Notes}
 use Rattle.part_lines.specs.Lines.{IsListedLineOf}
@@ -32,7 +33,8 @@ pub record IsReadLine (framing : Framing) (options : Options) (asked : Share) (t
   pub says : IsListedLineOf framing options.limits text line
   pub listed : option_map (λ (listed : Listed). listed.asked) line.listed ≡ asked_in options
 
--- and where it is one text: what is found of its features
+-- and where it is one text: what is found of its features, from a likely place in its range on
 abbrev pub IsReadLineBy : Option Framing → Options → Share → List ℕ → PartLine → Type 0
 IsReadLineBy (Some framing) options asked text line = IsReadLine framing options asked text line
 IsReadLineBy None options asked text line = (line.settings.framing ≡ None) × (line.listed ≡ None) × IsTrueLine options.limits line text
+    × HasRun options.limits text asked line.file.size line.checked

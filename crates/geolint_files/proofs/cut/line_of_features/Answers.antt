@@ -15,4 +15,4 @@ pub returns-clause-read : goal.returns-clause-read
 returns-clause-read g c =
     one-text-read (g.S.Source.text c.args.source) c.args.chosen.now c.args.share
     (record { file = c.args.file; settings = c.settings_of.result; share = c.args.share; checked = c.in_ok-checked.checked; listed = None }) (ap (λ (s : Settings). s.framing) c.settings_of.ensures) refl
-    c.in_ok-checked.ensures.part
+    c.in_ok-checked.ensures.part c.in_ok-checked.ensures.run
