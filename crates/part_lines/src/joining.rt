@@ -11,8 +11,8 @@ ghost use Rattle.part_lines.specs.Internal.Places.{ArePlaced};
 ghost use Rattle.part_lines.specs.Lines.{AreAllLines, AreAllNumbers, ArePartsTo, IsLack, IsLike, IsLineOf, part_number};
 
 use crate::line::PartLine;
-use gj_rules::SeqVerdict;
 use file_parts::{CheckedPart, Misfit, join_parts};
+use gj_rules::SeqVerdict;
 use std::alloc::{AllocError, Global};
 
 /// Why the lines are not those of all parts of one file.

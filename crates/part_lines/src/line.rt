@@ -3,11 +3,11 @@
 ghost use Rattle.std.specs.Prelude.{◌≡◌};
 ghost use Rattle.part_lines.specs.Lines.{base_of};
 
+use file_parts::{CheckedPart, Share};
 use geolint_report::every::listing::{Asked, Notes};
 use gj_json::Limits;
 use gj_rules::Framing;
 use report_forms::options::Strictness;
-use file_parts::{CheckedPart, Share};
 
 /// A file as the system showed it when a part of it was checked.
 #[derive(Drop, PartialEq)]

@@ -11,10 +11,10 @@ ghost use Rattle.part_lines.specs.Internal.NotesSoFar.{ListsWhatIsAsked, numbere
 
 use crate::joining::{Refusal, order_of};
 use crate::line::{Listed, PartLine};
+use file_parts::CheckedPart;
 use geolint_report::every::listing::{Asked, Item, Note, Notes};
 use geolint_report::every::tally::Tally;
 use geolint_report::report::Told;
-use file_parts::CheckedPart;
 use std::alloc::{AllocError, Global};
 
 /// The notes that are asked for on the records of the file, given the lines of all its parts in any order.
