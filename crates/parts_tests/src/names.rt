@@ -1,5 +1,5 @@
 //! The names in a list of files.
-use crate::checks::equal;
+use crate::sequences::holds;
 use geolint_report::name_lists::{LONGEST_NAME, Listed, NameEnd, Names};
 use std::io;
 
@@ -45,7 +45,7 @@ static LISTS: [(&[u8], NameEnd, &[u8], &str); 10] = [
 fn gives_each_name_of_a_list(rt: HostRuntime) -> io::Result<()> {
     for (list, name_end, expected, case) in LISTS.iter() {
         let found = names_in(&rt, list, *name_end)?;
-        equal(&rt, found.as_slice(), *expected, case);
+        holds(&rt, found.as_slice() == *expected, case);
     }
     Ok(())
 }
@@ -58,15 +58,11 @@ fn keeps_the_first_bytes_of_a_long_name(rt: HostRuntime) -> io::Result<()> {
     let mut names = Names::new(list.as_slice(), NameEnd::Lf);
     let mut name = Vec::new(rt.alloc());
     let long = names.next_into(&mut name)?;
-    equal(
-        &rt,
-        (long, name.len()),
-        (Listed::Name, LONGEST_NAME),
-        "a long name",
-    );
+    holds(&rt, long == Listed::Name, "a long name");
+    holds(&rt, name.len() == LONGEST_NAME, "a long name");
     let short = names.next_into(&mut name)?;
-    equal(&rt, short, Listed::Name, "a short name");
-    equal(&rt, name.as_slice(), b"b".as_slice(), "a short name");
-    equal(&rt, names.next_into(&mut name)?, Listed::End, "the end");
+    holds(&rt, short == Listed::Name, "a short name");
+    holds(&rt, name.as_slice() == b"b".as_slice(), "a short name");
+    holds(&rt, names.next_into(&mut name)? == Listed::End, "the end");
     Ok(())
 }
